@@ -1,0 +1,9 @@
+-- The mathematics of the mailboxes: what a reader must believe.
+pub mod Table
+pub mod Event
+pub mod History
+pub mod Schedule
+pub mod ZeroTime
+pub mod Published
+pub mod Instant
+pub mod Demand

@@ -1,0 +1,83 @@
+-- The published protocol (001, section 5): what each accepted event does to positions, pointers and mailboxes, for any choice of a free position.
+-- Assumes nothing.
+use mathlib.Core.Path.{_≡_}
+use mathlib.Core.Logic.{_≢_}
+use mathlib.Core.Bool.{Bool, true, false, cond, _&&_}
+use mathlib.Core.List.{List, [], _∷_}
+use Prim.Native.Nat.{ℕ, _+_, _≤_, _<_}
+use lib.Dec.{eqb, ltb}
+use Rattle.protocol.specs.Event.{Event, arrival, start, read, finish, has}
+use Rattle.protocol.specs.Table.{Table, N, behind}
+use Rattle.protocol.specs.Schedule.{Policy, Possible}
+
+-- of each task the newest and the previous position, of each link the pointer (0: absent), at each position of each task a value
+pub record Boxes (Val : Type 0) : Type 0 where
+  pub newest : ℕ → ℕ
+  pub previous : ℕ → ℕ
+  pub pointer : ℕ → ℕ
+  pub cell : ℕ → ℕ → Val
+
+module _ {Val : Type 0} (T : Table Val) where
+  -- newest and previous at 1, every position holding the task's default, every pointer absent
+  pub record Fresh (s : Boxes Val) : Type 0 where
+    pub newest : (t : ℕ) → s .newest t ≡ 1
+    pub previous : (t : ℕ) → s .previous t ≡ 1
+    pub pointer : (l : ℕ) → s .pointer l ≡ 0
+    pub cell : (t p : ℕ) → s .cell t p ≡ T .default t
+
+  -- position p is free for task t: one of its N + 2, not the one that becomes its previous, and no pointer of its links to readers behind
+  pub record Free (s : Boxes Val) (t p : ℕ) : Type 0 where
+    pub low : 1 ≤ p
+    pub high : p ≤ N T t + 2
+    pub apart : p ≢ s .newest t
+    pub unused : (l : ℕ) → l < T .links → T .writer l ≡ t → behind T l ≡ true → p ≢ s .pointer l
+
+  -- and it is the lowest of the free ones
+  pub record Lowest (s : Boxes Val) (t p : ℕ) : Type 0 where
+    pub free : Free s t p
+    pub least : (q : ℕ) → Free s t q → p ≤ q
+
+  -- which positions an arriving task may take
+  abbrev pub Choice : Type 1
+  Choice = Boxes Val → ℕ → ℕ → Type 0
+
+  -- link l's reader is in the set m
+  abbrev pub comes : ℕ → ℕ → Bool
+  comes m l = ltb l (T .links) && has m (T .reader l)
+
+  -- arrival of the set m: first, for every task in it, previous becomes newest and newest a position of the choice;
+  -- only then, for every link whose reader is in it, the pointer becomes the writer's newest if direct, previous if delayed
+  pub record Arrived (choice : Choice) (m : ℕ) (s s′ : Boxes Val) : Type 0 where
+    pub previous : (t : ℕ) → s′ .previous t ≡ cond (has m t) (s .newest t) (s .previous t)
+    pub chosen : (t : ℕ) → has m t ≡ true → choice s t (s′ .newest t)
+    pub kept : (t : ℕ) → has m t ≡ false → s′ .newest t ≡ s .newest t
+    pub pointer : (l : ℕ) → s′ .pointer l ≡ cond (comes m l) (cond (T .delayed l) (s′ .previous (T .writer l)) (s′ .newest (T .writer l))) (s .pointer l)
+    pub cell : (t p : ℕ) → s′ .cell t p ≡ s .cell t p
+
+  -- link l is one by which task t reads from a writer ahead of it
+  abbrev pub leaves : ℕ → ℕ → Bool
+  leaves t l = ltb l (T .links) && (eqb (T .reader l) t && T .ahead (T .writer l) t)
+
+  -- finish of task t with the value v: it goes to the newest position; pointers by which t reads from writers ahead become absent
+  pub record Finished (t : ℕ) (v : Val) (s s′ : Boxes Val) : Type 0 where
+    pub newest : (u : ℕ) → s′ .newest u ≡ s .newest u
+    pub previous : (u : ℕ) → s′ .previous u ≡ s .previous u
+    pub pointer : (l : ℕ) → s′ .pointer l ≡ cond (leaves t l) 0 (s .pointer l)
+    pub cell : (u p : ℕ) → s′ .cell u p ≡ cond (eqb u t && eqb p (s .newest t)) v (s .cell u p)
+
+  -- read by link l: the number at its pointer in its writer's positions
+  abbrev pub number : Boxes Val → ℕ → Val
+  number s l = s .cell (T .writer l) (s .pointer l)
+
+  module _ (may : Policy Val) (choice : Choice) where
+    -- what an accepted event makes of the boxes; a start and a read leave them
+    unfoldable pub Step : Event Val → Boxes Val → Boxes Val → Type 0
+    Step (arrival m) s s′ = Arrived choice m s s′
+    Step (start t) s s′ = s′ ≡ s
+    Step (read l) s s′ = s′ ≡ s
+    Step (finish t v) s s′ = Finished t v s s′
+
+    -- the boxes that a history can lead to, from fresh ones, each event possible in its turn
+    pub data Run : Boxes Val → List (Event Val) → Type 0 where
+      fresh : {s : Boxes Val} → Fresh s → Run s []
+      next : {s s′ : Boxes Val} {h : List (Event Val)} (e : Event Val) → Run s h → Possible T may h e → Step e s s′ → Run s′ (e ∷ h)

@@ -1,0 +1,43 @@
+-- A station's tasks and links, as the protocol sees them. Tasks and links are numbered from 0.
+-- Assumes nothing.
+use mathlib.Core.Path.{_≡_}
+use mathlib.Core.Logic.{_≢_}
+use mathlib.Core.Bool.{Bool, true, false, _&&_}
+use Prim.Native.Nat.{ℕ, _<_}
+use lib.Dec.{eqb}
+use Rattle.lists.specs.Lists.{count}
+
+-- `ahead u t`: task u is more urgent than task t. The order is a parameter: under fixed priorities the earlier task is ahead
+pub record Table (Val : Type 0) : Type 0 where
+  pub tasks : ℕ
+  pub links : ℕ
+  pub default : ℕ → Val
+  pub writer : ℕ → ℕ
+  pub reader : ℕ → ℕ
+  pub delayed : ℕ → Bool
+  pub ahead : ℕ → ℕ → Bool
+
+-- link l is one of task t's links to readers behind; W and R are the links' writers and readers
+abbrev pub toBehind : (ℕ → ℕ → Bool) → (ℕ → ℕ) → (ℕ → ℕ) → ℕ → ℕ → Bool
+toBehind ahead W R t l = eqb (W l) t && ahead t (R l)
+
+-- how many of the first n links are
+abbrev pub behinds : (ℕ → ℕ → Bool) → (ℕ → ℕ) → (ℕ → ℕ) → ℕ → ℕ → ℕ
+behinds ahead W R t n = count (toBehind ahead W R t) n
+
+module _ {Val : Type 0} (T : Table Val) where
+  -- link l goes to a reader behind its writer
+  abbrev pub behind : ℕ → Bool
+  behind l = T .ahead (T .writer l) (T .reader l)
+
+  -- N: how many links task t has to readers behind
+  abbrev pub N : ℕ → ℕ
+  N t = behinds (T .ahead) (T .writer) (T .reader) t (T .links)
+
+  -- the table rules that demand 3 rests on: links join tasks of the table (4), and a direct one goes to a reader behind (7).
+  -- A link from a task to itself is neither behind nor ahead, hence delayed
+  pub record Lawful : Type 0 where
+    pub writer : (l : ℕ) → l < T .links → T .writer l < T .tasks
+    pub reader : (l : ℕ) → l < T .links → T .reader l < T .tasks
+    pub direct : (l : ℕ) → l < T .links → T .delayed l ≡ false → behind l ≡ true
+    pub other : (l : ℕ) → l < T .links → behind l ≡ false → T .reader l ≢ T .writer l → T .ahead (T .reader l) (T .writer l) ≡ true

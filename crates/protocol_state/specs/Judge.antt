@@ -1,0 +1,43 @@
+-- Refusals 12 to 16 of a sound state, tried in rising order; 0 is none. T and L count tasks and links, ph are the phases, R the links' readers.
+-- Assumes nothing.
+use mathlib.Core.Bool.{Bool, cond, not, _&&_, _||_}
+use Prim.Native.Nat.{ℕ, _^_}
+use lib.Dec.{eqb, ltb, leb}
+use Rattle.lists.specs.Lists.{some, every}
+use Rattle.protocol.specs.Event.{Event, arrival, start, read, finish, has}
+use Rattle.protocol_state.specs.Saved.{Saved, at}
+use Rattle.protocol_state.specs.Decision.{decided}
+
+-- a decision is a phase, and no refusal
+abbrev pub allows : ℕ → Bool
+allows d = ltb d 12
+
+-- task t may arrive with the set s: it is not in it, or its phase allows it
+abbrev pub mayArrive : ℕ → (ℕ → ℕ) → ℕ → Bool
+mayArrive s ph t = not (has s t) || allows (decided 0 (ph t))
+
+unfoldable pub judgedArrival : ℕ → ℕ → (ℕ → ℕ) → ℕ
+judgedArrival s T ph = cond (eqb s 0 || leb (2 ^ T) s) 12 (cond (every (mayArrive s ph) T) 0 13)
+
+module _ (ahead : ℕ → ℕ → Bool) where
+  -- a task ahead of t is active
+  abbrev pub preempted : ℕ → ℕ → (ℕ → ℕ) → Bool
+  preempted t T ph = some (λ u. ahead u t && not (eqb (ph u) 0)) T
+
+  -- an event of kind k by task t
+  unfoldable pub judgedTask : ℕ → ℕ → ℕ → (ℕ → ℕ) → ℕ
+  judgedTask k t T ph =
+      cond (leb T t) 12 (cond (allows (decided k (ph t))) (cond (preempted t T ph) 16 0) (decided k (ph t)))
+
+  -- a read by link l: its reader is the task that reads
+  unfoldable pub judgedRead : ℕ → ℕ → ℕ → (ℕ → ℕ) → (ℕ → ℕ) → ℕ
+  judgedRead l T L R ph = cond (leb L l) 12 (judgedTask 2 (R l) T ph)
+
+  abbrev pub judgedEvent : Event ℕ → ℕ → ℕ → (ℕ → ℕ) → (ℕ → ℕ) → ℕ
+  judgedEvent (arrival s) T L R ph = judgedArrival s T ph
+  judgedEvent (start t) T L R ph = judgedTask 1 t T ph
+  judgedEvent (read l) T L R ph = judgedRead l T L R ph
+  judgedEvent (finish t v) T L R ph = judgedTask 3 t T ph
+
+  abbrev pub judgedOn : Saved → Event ℕ → ℕ
+  judgedOn q e = judgedEvent e (q .tasks) (q .links) (at (q .reader)) (at (q .phase))

@@ -1,0 +1,10 @@
+-- The protocol on a saved state, with the lowest free position: what the code is held to.
+pub mod Saved
+pub mod Rules
+pub mod Free
+pub mod Decision
+pub mod Judge
+pub mod Next
+pub mod Sound
+pub mod Fresh
+pub mod Give

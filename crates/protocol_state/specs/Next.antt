@@ -1,0 +1,101 @@
+-- The state after an accepted event, and the number read.
+-- Assumes nothing.
+use mathlib.Core.Bool.{Bool, cond, _&&_}
+use mathlib.Core.List.{List}
+use Prim.Native.Nat.{ℕ}
+use lib.Dec.{eqb}
+use lib.ListN.{set}
+use Rattle.lists.specs.Lists.{upto}
+use Rattle.protocol.specs.Event.{Event, arrival, start, read, finish, has}
+use Rattle.protocol_state.specs.Saved.{Saved, at, cellOf, delayedKind}
+use Rattle.protocol_state.specs.Free.{lowestFree}
+use Rattle.protocol_state.specs.Decision.{decided}
+
+-- the state with these parts, and the others as they are
+abbrev pub withParts : Saved → List ℕ → List ℕ → List ℕ → List ℕ → List ℕ → Saved
+withParts q ph n p C x = record {
+  tasks = q .tasks;
+  links = q .links;
+  defaults = q .defaults;
+  phase = ph;
+  newest = n;
+  previous = p;
+  cells = C;
+  writer = q .writer;
+  reader = q .reader;
+  kind = q .kind;
+  pointer = x;
+}
+
+-- arrival of the set s, the writers' part: task t's previous y becomes its newest
+abbrev pub previousAt : ℕ → (ℕ → ℕ) → ℕ → ℕ → ℕ
+previousAt s newest t y = cond (has s t) (newest t) y
+
+-- the readers' part: the pointer x of a link from w to r of kind k
+abbrev pub aimed : ℕ → ℕ → ℕ → ℕ → (ℕ → ℕ) → (ℕ → ℕ) → ℕ → ℕ
+aimed s w r k newest previous x = cond (has s r) (cond (delayedKind k) (previous w) (newest w)) x
+
+abbrev pub pointerAt : ℕ → (ℕ → ℕ) → (ℕ → ℕ) → (ℕ → ℕ) → (ℕ → ℕ) → (ℕ → ℕ) → ℕ → ℕ → ℕ
+pointerAt s W R K newest previous l x = aimed s (W l) (R l) (K l) newest previous x
+
+-- then all in the set are waiting
+abbrev pub phaseAt : ℕ → ℕ → ℕ → ℕ
+phaseAt s t x = cond (has s t) (decided 0 x) x
+
+-- the phases after an event of kind k by task t
+abbrev pub phasesAfter : ℕ → ℕ → List ℕ → List ℕ
+phasesAfter k t ph = set ph t (decided k (at ph t))
+
+-- the number that link l reads: the one at its pointer in its writer's positions
+abbrev pub numberOf : ℕ → (ℕ → ℕ) → (ℕ → ℕ) → (ℕ → ℕ) → ℕ
+numberOf l W P C = C (cellOf (W l) (P l))
+
+module _ (ahead : ℕ → ℕ → Bool) where
+  -- the writers' part: task t's newest x becomes the lowest free position; n counts the links
+  abbrev pub newestAt : ℕ → (ℕ → ℕ) → (ℕ → ℕ) → (ℕ → ℕ) → ℕ → ℕ → ℕ → ℕ
+  newestAt s W R P n t x = cond (has s t) (lowestFree ahead W R P n t x) x
+
+  -- as t finishes: the pointer x of a link from w to r becomes absent, if t reads by it from a writer ahead of it
+  abbrev pub freed : ℕ → ℕ → ℕ → ℕ → ℕ
+  freed t w r x = cond (eqb r t && ahead w t) 0 x
+
+  abbrev pub freedAt : ℕ → (ℕ → ℕ) → (ℕ → ℕ) → ℕ → ℕ → ℕ
+  freedAt t W R l x = freed t (W l) (R l) x
+
+  unfoldable pub newestAfter : ℕ → Saved → List ℕ
+  newestAfter s q = upto (newestAt s (at (q .writer)) (at (q .reader)) (at (q .pointer)) (q .links)) (q .tasks) (q .newest)
+
+  unfoldable pub previousAfter : ℕ → Saved → List ℕ
+  previousAfter s q = upto (previousAt s (at (q .newest))) (q .tasks) (q .previous)
+
+  -- only after the writers' part
+  unfoldable pub pointerAfter : ℕ → Saved → List ℕ
+  pointerAfter s q =
+      upto (pointerAt s (at (q .writer)) (at (q .reader)) (at (q .kind)) (at (newestAfter s q)) (at (previousAfter s q))) (q .links) (q .pointer)
+
+  unfoldable pub phaseAfter : ℕ → Saved → List ℕ
+  phaseAfter s q = upto (phaseAt s) (q .tasks) (q .phase)
+
+  abbrev pub arrived : ℕ → Saved → Saved
+  arrived s q = withParts q (phaseAfter s q) (newestAfter s q) (previousAfter s q) (q .cells) (pointerAfter s q)
+
+  abbrev pub started : ℕ → Saved → Saved
+  started t q = withParts q (phasesAfter 1 t (q .phase)) (q .newest) (q .previous) (q .cells) (q .pointer)
+
+  abbrev pub finished : ℕ → ℕ → Saved → Saved
+  finished t v q =
+      withParts q (phasesAfter 3 t (q .phase)) (q .newest) (q .previous) (set (q .cells) (cellOf t (at (q .newest) t)) v)
+      (upto (freedAt t (at (q .writer)) (at (q .reader))) (q .links) (q .pointer))
+
+  abbrev pub next : Saved → Event ℕ → Saved
+  next q (arrival s) = arrived s q
+  next q (start t) = started t q
+  next q (read l) = q
+  next q (finish t v) = finished t v q
+
+-- the value of an accepted event: the number of a read, else 0
+abbrev pub valueOf : Saved → Event ℕ → ℕ
+valueOf q (arrival s) = 0
+valueOf q (start t) = 0
+valueOf q (read l) = numberOf l (at (q .writer)) (at (q .pointer)) (at (q .cells))
+valueOf q (finish t v) = 0

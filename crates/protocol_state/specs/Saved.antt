@@ -1,0 +1,84 @@
+-- A saved state as lists of numbers, and what it says as a table and as the boxes of the published protocol.
+-- Assumes nothing.
+use mathlib.Core.Path.{_≡_}
+use mathlib.Core.Bool.{Bool, true, false, cond, _&&_}
+use mathlib.Core.List.{List}
+use Prim.Native.Nat.{ℕ, _+_, _-_, _*_}
+use lib.Dec.{eqb, leb}
+use lib.ListN.{getD, length}
+use Rattle.protocol.specs.Table.{Table}
+use Rattle.protocol.specs.Published.{Boxes}
+
+-- how many tasks and links there is room for
+pub record Size : Type 0 where
+  pub tasks : ℕ
+  pub links : ℕ
+
+abbrev pub base : Size
+base = record { tasks = 16; links = 32 }
+
+-- N is at most 8, so a task has at most 10 positions
+abbrev pub positions : ℕ
+positions = 10
+
+-- what stands at place i, and 0 past the end
+abbrev pub at : List ℕ → ℕ → ℕ
+at xs i = getD xs i 0
+
+-- where position p of task t stands among the cells
+abbrev pub cellOf : ℕ → ℕ → ℕ
+cellOf t p = t * positions + (p - 1)
+
+-- a phase is 0 idle, 1 waiting or 2 running; a pointer of 0 is absent; a kind is 0 direct or 1 delayed
+pub record Saved : Type 0 where
+  pub tasks : ℕ
+  pub links : ℕ
+  pub defaults : List ℕ
+  pub phase : List ℕ
+  pub newest : List ℕ
+  pub previous : List ℕ
+  pub cells : List ℕ
+  pub writer : List ℕ
+  pub reader : List ℕ
+  pub kind : List ℕ
+  pub pointer : List ℕ
+
+-- the lists have room for just so many
+pub record Shape (size : Size) (q : Saved) : Type 0 where
+  pub defaults : length (q .defaults) ≡ size .tasks
+  pub phase : length (q .phase) ≡ size .tasks
+  pub newest : length (q .newest) ≡ size .tasks
+  pub previous : length (q .previous) ≡ size .tasks
+  pub cells : length (q .cells) ≡ size .tasks * positions
+  pub writer : length (q .writer) ≡ size .links
+  pub reader : length (q .reader) ≡ size .links
+  pub kind : length (q .kind) ≡ size .links
+  pub pointer : length (q .pointer) ≡ size .links
+
+abbrev pub delayedKind : ℕ → Bool
+delayedKind k = eqb k 1
+
+-- its table, under the order `ahead`
+abbrev pub table : (ℕ → ℕ → Bool) → Saved → Table ℕ
+table ahead q = record {
+  tasks = q .tasks;
+  links = q .links;
+  default = at (q .defaults);
+  writer = at (q .writer);
+  reader = at (q .reader);
+  delayed = λ l. delayedKind (at (q .kind) l);
+  ahead = ahead;
+}
+
+-- p is one of the positions that a task can have at all
+abbrev pub isPosition : ℕ → Bool
+isPosition p = leb 1 p && leb p positions
+
+-- its boxes; what is no position holds the default
+abbrev pub boxes : Saved → Boxes ℕ
+boxes q = record {
+  newest = at (q .newest);
+  previous = at (q .previous);
+  pointer = at (q .pointer);
+  cell = λ t p. cond (isPosition p) (at (q .cells) (cellOf t p)) (at (q .defaults) t);
+}

@@ -1,0 +1,57 @@
+-- A sound state: what refusal 19 tests.
+-- Assumes nothing.
+use mathlib.Core.Path.{_≡_}
+use mathlib.Core.Bool.{Bool, true, false, cond, not, _&&_, _||_}
+use Prim.Native.Nat.{ℕ, _+_, _≤_, _<_}
+use lib.Dec.{eqb, ltb, leb}
+use Rattle.lists.specs.Lists.{every}
+use Rattle.protocol.specs.Table.{behinds}
+use Rattle.protocol_state.specs.Saved.{Size, Saved, at}
+use Rattle.protocol_state.specs.Rules.{judgedTable}
+
+-- y is one of N + 2 positions
+abbrev pub within : ℕ → ℕ → Bool
+within N y = leb 1 y && leb y (N + 2)
+
+-- a task with this phase, newest and previous, and N links to readers behind
+abbrev pub taskIs : ℕ → ℕ → ℕ → ℕ → Bool
+taskIs ph y z N = ltb ph 3 && (within N y && within N z)
+
+module _ (ahead : ℕ → ℕ → Bool) where
+  abbrev pub taskOk : ℕ → (ℕ → ℕ) → (ℕ → ℕ) → (ℕ → ℕ) → (ℕ → ℕ) → (ℕ → ℕ) → ℕ → Bool
+  taskOk L W R ph n p t = taskIs (ph t) (n t) (p t) (behinds ahead W R t L)
+
+  -- the pointer y of a link from w to r, a reader with this phase; N: its writer's links to readers behind
+  abbrev pub pointerIs : ℕ → ℕ → ℕ → ℕ → ℕ → Bool
+  pointerIs w r y ph N = leb y (N + 2) && cond (eqb ph 0) (not (ahead w r) || eqb y 0) (leb 1 y)
+
+  abbrev pub pointerOk : ℕ → (ℕ → ℕ) → (ℕ → ℕ) → (ℕ → ℕ) → (ℕ → ℕ) → ℕ → Bool
+  pointerOk L W R ph x l = pointerIs (W l) (R l) (x l) (ph (R l)) (behinds ahead W R (W l) L)
+
+  -- the test
+  unfoldable pub soundParts : Size → ℕ → ℕ → (ℕ → ℕ) → (ℕ → ℕ) → (ℕ → ℕ) → (ℕ → ℕ) → (ℕ → ℕ) → (ℕ → ℕ) → (ℕ → ℕ) → Bool
+  soundParts size T L W R K ph n p x =
+      eqb (judgedTable ahead T W R K size L) 0 && (every (taskOk L W R ph n p) T && every (pointerOk L W R ph x) L)
+
+  abbrev pub isSound : Size → Saved → Bool
+  isSound size q =
+      soundParts size (q .tasks) (q .links) (at (q .writer)) (at (q .reader)) (at (q .kind)) (at (q .phase)) (at (q .newest)) (at (q .previous)) (at (q .pointer))
+
+  -- N of a task
+  abbrev pub behindsOf : Saved → ℕ → ℕ
+  behindsOf q t = behinds ahead (at (q .writer)) (at (q .reader)) t (q .links)
+
+  -- y is one of its positions
+  abbrev pub Position : Saved → ℕ → ℕ → Type 0
+  Position q t y = (1 ≤ y) × (y ≤ behindsOf q t + 2)
+
+  -- document 01's sentence: the table keeps rules 2 to 9, newest and previous lie in 1 to N + 2, each present pointer does so for its writer,
+  -- no pointer of an active reader is absent, and every pointer from a writer ahead of an idle reader is absent
+  pub record Sound (size : Size) (q : Saved) : Type 0 where
+    pub rules : judgedTable ahead (q .tasks) (at (q .writer)) (at (q .reader)) (at (q .kind)) size (q .links) ≡ 0
+    pub phase : (t : ℕ) → t < q .tasks → at (q .phase) t < 3
+    pub newest : (t : ℕ) → t < q .tasks → Position q t (at (q .newest) t)
+    pub previous : (t : ℕ) → t < q .tasks → Position q t (at (q .previous) t)
+    pub pointer : (l : ℕ) → l < q .links → at (q .pointer) l ≤ behindsOf q (at (q .writer) l) + 2
+    pub present : (l : ℕ) → l < q .links → (at (q .phase) (at (q .reader) l) ≡ 0 → ⊥) → 1 ≤ at (q .pointer) l
+    pub absent : (l : ℕ) → l < q .links → ahead (at (q .writer) l) (at (q .reader) l) ≡ true → at (q .phase) (at (q .reader) l) ≡ 0 → at (q .pointer) l ≡ 0
