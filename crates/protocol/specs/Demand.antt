@@ -22,6 +22,13 @@ pub record Answers (Val : Type 0) : Type 0 where
   pub fresh : Table Val → Boxes Val
   pub reply : Table Val → List (Event Val) → Event Val → Reply Val
 
+-- the event is no read
+unfoldable pub ReadsNothing : {Val : Type 0} → Event Val → Type 0
+ReadsNothing (arrival m) = Unit {0}
+ReadsNothing (start t) = Unit {0}
+ReadsNothing (read l) = ⊥
+ReadsNothing (finish t v) = Unit {0}
+
 module _ {Val : Type 0} (A : Answers Val) where
   -- the boxes after a history
   unfoldable pub boxesAfter : Table Val → List (Event Val) → Boxes Val
@@ -38,12 +45,14 @@ module _ {Val : Type 0} (A : Answers Val) where
 
   -- `policy`: who may run, by the table and the history
   module _ (policy : Table Val → Policy Val) where
-    -- demand 1: each refusal has its number, and a refused event changes nothing
-    pub record Demand1 : Type 0 where
+    -- demand 1: each refusal has its number, a refused event changes nothing, and only an accepted read gives another value than `zero`
+    pub record Demand1 (zero : Val) : Type 0 where
       pub number : (T : Table Val) → Lawful T → (h : List (Event Val)) → AllPossible T (policy T) h → (e : Event Val)
           → A .reply T h e .refusal ≡ judged T (policy T) h e
       pub unchanged : (T : Table Val) → Lawful T → (h : List (Event Val)) → AllPossible T (policy T) h → (e : Event Val)
-          → A .reply T h e .refusal ≢ 0 → A .reply T h e .boxes ≡ boxesAfter T h
+          → A .reply T h e .refusal ≢ 0 → (A .reply T h e .boxes ≡ boxesAfter T h) × (A .reply T h e .value ≡ zero)
+      pub silent : (T : Table Val) → Lawful T → (h : List (Event Val)) → AllPossible T (policy T) h → (e : Event Val)
+          → ReadsNothing e → A .reply T h e .value ≡ zero
 
     -- demand 2: accepted exactly when it could happen, and then every pointer, mailbox and number read is the published protocol's, the lowest free position taken
     pub record Demand2 : Type 0 where

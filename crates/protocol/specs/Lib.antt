@@ -5,5 +5,7 @@ pub mod History
 pub mod Schedule
 pub mod ZeroTime
 pub mod Published
+pub mod Free
+pub mod Lowest
 pub mod Instant
 pub mod Demand

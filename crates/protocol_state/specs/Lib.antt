@@ -1,7 +1,6 @@
 -- The protocol on a saved state, with the lowest free position: what the code is held to.
 pub mod Saved
 pub mod Rules
-pub mod Free
 pub mod Decision
 pub mod Judge
 pub mod Next

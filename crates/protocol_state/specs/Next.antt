@@ -8,7 +8,7 @@ use lib.ListN.{set}
 use Rattle.lists.specs.Lists.{upto}
 use Rattle.protocol.specs.Event.{Event, arrival, start, read, finish, has}
 use Rattle.protocol_state.specs.Saved.{Saved, at, cellOf, delayedKind}
-use Rattle.protocol_state.specs.Free.{lowestFree}
+use Rattle.protocol.specs.Free.{lowestFree}
 use Rattle.protocol_state.specs.Decision.{decided}
 
 -- the state with these parts, and the others as they are

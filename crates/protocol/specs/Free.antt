@@ -1,10 +1,10 @@
--- The lowest free position of a writer. W, R and P are the links' writers, readers and pointers.
+-- Which positions of a writer are free, and the lowest of them. W, R and P are the links' writers, readers and pointers.
 -- Assumes nothing.
 use mathlib.Core.Bool.{Bool, _&&_, _||_}
 use Prim.Native.Nat.{ℕ}
 use lib.Dec.{eqb}
 use Rattle.lists.specs.Lists.{some, first}
 use Rattle.protocol.specs.Table.{toBehind}
 
 module _ (ahead : ℕ → ℕ → Bool) (W R P : ℕ → ℕ) where
   -- link l is one of task t's to readers behind, and its pointer is p
@@ -15,6 +15,10 @@ module _ (ahead : ℕ → ℕ → Bool) (W R P : ℕ → ℕ) where
   abbrev pub taken : ℕ → ℕ → ℕ → ℕ → Bool
   taken n t x p = eqb x p || some (holds t p) n
 
-  -- the lowest of the positions 1 to 10 that is free
+  -- the lowest free one of the positions 1 to m + 1
+  abbrev pub lowestOf : ℕ → ℕ → ℕ → ℕ → ℕ
+  lowestOf m n t x = first (taken n t x) m 1
+
+  -- the lowest free one of the ten positions that a task can have
   abbrev pub lowestFree : ℕ → ℕ → ℕ → ℕ
-  lowestFree n t x = first (taken n t x) 9 1
+  lowestFree n t x = lowestOf 9 n t x

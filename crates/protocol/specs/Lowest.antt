@@ -1,0 +1,64 @@
+-- The protocol with the lowest free position, as a function: one of the answer functions that the demands allow.
+-- Assumes nothing.
+use mathlib.Core.Bool.{Bool, cond, _&&_}
+use mathlib.Core.List.{List, [], _∷_}
+use Prim.Native.Nat.{ℕ, _+_}
+use lib.Dec.{eqb}
+use Rattle.protocol.specs.Event.{Event, arrival, start, read, finish, has}
+use Rattle.protocol.specs.Table.{Table, N}
+use Rattle.protocol.specs.Schedule.{Policy, judged}
+use Rattle.protocol.specs.Published.{Boxes, comes, leaves, number}
+use Rattle.protocol.specs.Free.{lowestOf}
+use Rattle.protocol.specs.Demand.{Reply, Answers}
+
+module _ {Val : Type 0} (T : Table Val) where
+  -- the lowest free position of task t
+  abbrev pub lowest : Boxes Val → ℕ → ℕ
+  lowest s t = lowestOf (T .ahead) (T .writer) (T .reader) (s .pointer) (N T t + 1) (T .links) t (s .newest t)
+
+  abbrev pub freshBoxes : Boxes Val
+  freshBoxes = record { newest = λ t. 1; previous = λ t. 1; pointer = λ l. 0; cell = λ t p. T .default t }
+
+  -- the writers' part of an arrival
+  abbrev pub newestThen : ℕ → Boxes Val → ℕ → ℕ
+  newestThen m s t = cond (has m t) (lowest s t) (s .newest t)
+
+  abbrev pub previousThen : ℕ → Boxes Val → ℕ → ℕ
+  previousThen m s t = cond (has m t) (s .newest t) (s .previous t)
+
+  -- what an accepted event makes of the boxes
+  abbrev pub nextBoxes : Event Val → Boxes Val → Boxes Val
+  nextBoxes (arrival m) s = record {
+    newest = newestThen m s;
+    previous = previousThen m s;
+    pointer = λ l. cond (comes T m l) (cond (T .delayed l) (previousThen m s (T .writer l)) (newestThen m s (T .writer l))) (s .pointer l);
+    cell = s .cell;
+  }
+  nextBoxes (start t) s = s
+  nextBoxes (read l) s = s
+  nextBoxes (finish t v) s = record {
+    newest = s .newest;
+    previous = s .previous;
+    pointer = λ l. cond (leaves T t l) 0 (s .pointer l);
+    cell = λ u p. cond (eqb u t && eqb p (s .newest t)) v (s .cell u p);
+  }
+
+  unfoldable pub boxesOf : List (Event Val) → Boxes Val
+  boxesOf [] = freshBoxes
+  boxesOf (e ∷ h) = nextBoxes e (boxesOf h)
+
+  -- the number of a read, else zero
+  abbrev pub valueThen : Val → Boxes Val → Event Val → Val
+  valueThen zero s (arrival m) = zero
+  valueThen zero s (start t) = zero
+  valueThen zero s (read l) = number T s l
+  valueThen zero s (finish t v) = zero
+
+-- the whole answer function
+unfoldable pub lowestAnswers : {Val : Type 0} → (Table Val → Policy Val) → Val → Answers Val
+lowestAnswers policy zero = record {
+  fresh = freshBoxes;
+  reply = λ T h e. cond (eqb (judged T (policy T) h e) 0)
+      (record { refusal = 0; value = valueThen T zero (boxesOf T h) e; boxes = nextBoxes T e (boxesOf T h) })
+      (record { refusal = judged T (policy T) h e; value = zero; boxes = boxesOf T h });
+}
