@@ -1,0 +1,153 @@
+-- Demand 2, protocol: a free position always exists, the lowest lies in 1 to N + 2, and the answer function that takes it meets demands 1 and 2.
+-- Assumes nothing.
+use mathlib.Core.Path.{_≡_, refl, sym, ap, _∙_}
+use mathlib.Core.Logic.{_≢_}
+use mathlib.Core.Bool.{Bool, true, false, cond, _&&_, _||_, true≢false}
+use mathlib.Core.List.{List, [], _∷_}
+use Prim.Native.Nat.{ℕ, _+_, _≤_, _<_}
+use native.Mathlib.Omega.{arith}
+use borrow.Author.Tests.{eqb-true, eqb-false, eq-eqb, ne-eqb, leb-true, leb-false}
+use lib.Dec.{eqb, leb}
+use Rattle.lists.specs.Lists.{some, first}
+use Rattle.lists.proofs.Bools.{or-left, or-right, and-left, and-right}
+use Rattle.lists.proofs.Lists.{some-not, some-of-none}
+use Rattle.lists.proofs.Search.{lowest-in-range, lowest-is-free, first-least}
+use Rattle.protocol.specs.Event.{Event, arrival, start, read, finish, has}
+use Rattle.protocol.specs.Table.{Table, Lawful, toBehind, behind, N}
+use Rattle.protocol.specs.Schedule.{Policy, Possible, AllPossible, judged}
+use Rattle.protocol.specs.Published.{Boxes, Fresh, Free, Lowest, Arrived, Finished, Step, Run}
+use Rattle.protocol.specs.Published as published
+use Rattle.protocol.specs.Free.{holds, taken, lowestOf}
+use Rattle.protocol.specs.Lowest.{lowest, freshBoxes, nextBoxes, boxesOf, valueThen, lowestAnswers}
+use Rattle.protocol.specs.Demand.{Reply, Answers, ReadsNothing, boxesAfter, Demand1, Demand2}
+use Rattle.protocol.proofs.Schedule.{judged-possible, possible-judged}
+
+module _ {Val : Type 0} (T : Table Val) (s : Boxes Val) (t : ℕ) where
+  -- p is taken: the test that the search makes
+  abbrev pub gone : ℕ → Bool
+  gone p = taken (T .ahead) (T .writer) (T .reader) (s .pointer) (T .links) t (s .newest t) p
+
+  -- link l's pointer holds p, and l is one of t's links to readers behind
+  held : (p l : ℕ) → T .writer l ≡ t → behind T l ≡ true → p ≡ s .pointer l → holds (T .ahead) (T .writer) (T .reader) (s .pointer) t p l ≡ true
+  held p l w b e =
+      let ours : T .ahead (T .writer l) (T .reader l) ≡ true = b in
+      rw (eq-eqb (T .writer l) t w, rw w at ours) (eq-eqb (s .pointer l) p (sym e))
+
+  -- what the test lets through, within 1 to N + 2, is free
+  pub not-gone-free : (p : ℕ) → 1 ≤ p → p ≤ N T t + 2 → gone p ≡ false → Free T s t p
+  not-gone-free p low high g = record {
+    low = low;
+    high = high;
+    apart = λ e. eqb-false (s .newest t) p (or-left (eqb (s .newest t) p) _ g) (sym e);
+    unused = λ l k w b e. true≢false (sym (held p l w b e) ∙ some-not (holds (T .ahead) (T .writer) (T .reader) (s .pointer) t p) (T .links) l (or-right (eqb (s .newest t) p) _ g) k);
+  }
+
+  -- and what is free it lets through
+  pub free-not-gone : (p : ℕ) → Free T s t p → gone p ≡ false
+  free-not-gone p F = rw (ne-eqb (s .newest t) p (λ e. F .apart (sym e))) (some-of-none _ (T .links) (λ l k. clear l k (holds (T .ahead) (T .writer) (T .reader) (s .pointer) t p l) refl))
+    where
+      clear : (l : ℕ) → l < T .links → (b : Bool) → holds (T .ahead) (T .writer) (T .reader) (s .pointer) t p l ≡ b → b ≡ false
+      clear l k false e = refl
+      clear l k true e =
+          let mine : toBehind (T .ahead) (T .writer) (T .reader) t l ≡ true = and-left _ (eqb (s .pointer l) p) e in
+          let w : T .writer l ≡ t = eqb-true _ _ (and-left (eqb (T .writer l) t) _ mine) in
+          let b : T .ahead (T .writer l) (T .reader l) ≡ true = rw w (and-right (eqb (T .writer l) t) _ mine) in
+          absurd (F .unused l k w b (sym (eqb-true _ _ (and-right (toBehind (T .ahead) (T .writer) (T .reader) t l) _ e))))
+
+  -- for any bound that looks at N + 2 positions or more, the search ends at the lowest free one
+  pub search-lowest : (m : ℕ) → N T t < m → Lowest T s t (first gone m 1)
+  search-lowest m few = record {
+    free = not-gone-free (first gone m 1) (range .0) (range .1) (lowest-is-free (toBehind (T .ahead) (T .writer) (T .reader) t) (s .pointer) m (T .links) (s .newest t) few);
+    least = λ q F. below q F (leb (first gone m 1) q) refl;
+  }
+    where
+      range : (1 ≤ first gone m 1) × (first gone m 1 ≤ N T t + 2)
+      range = lowest-in-range (toBehind (T .ahead) (T .writer) (T .reader) t) (s .pointer) m (T .links) (s .newest t) few
+
+      below : (q : ℕ) → Free T s t q → (b : Bool) → leb (first gone m 1) q ≡ b → first gone m 1 ≤ q
+      below q F true e = leb-true _ _ e
+      below q F false e = absurd (true≢false (sym (first-least gone m 1 q (F .low) (leb-false _ _ e)) ∙ free-not-gone q F))
+
+  -- a free position always exists, and the lowest lies in 1 to N + 2
+  pub lowest-exists : Lowest T s t (lowest T s t)
+  lowest-exists = search-lowest (N T t + 1) (omega arith)
+
+module _ {Val : Type 0} (T : Table Val) (may : Policy Val) where
+  -- the function does what the published protocol allows, with the lowest free position
+  pub next-step : (e : Event Val) (s : Boxes Val) → Step T may (Lowest T) e s (nextBoxes T e s)
+  unfolding Step
+  next-step (arrival m) s = record { previous = λ t. refl; chosen = λ t i. rw i (lowest-exists T s t); kept = λ t i. rw i; pointer = λ l. refl; cell = λ t p. refl }
+  next-step (start t) s = refl
+  next-step (read l) s = refl
+  next-step (finish t v) s = record { newest = λ u. refl; previous = λ u. refl; pointer = λ l. refl; cell = λ u p. refl }
+
+  pub fresh-fresh : Fresh T (freshBoxes T)
+  fresh-fresh = record { newest = λ t. refl; previous = λ t. refl; pointer = λ l. refl; cell = λ t p. refl }
+
+  -- so every possible history leads to one of its runs
+  pub lowest-run : (h : List (Event Val)) → AllPossible T may h → Run T may (Lowest T) (boxesOf T h) h
+  unfolding AllPossible boxesOf
+  lowest-run [] A = published.fresh fresh-fresh
+  lowest-run (e ∷ h) A = published.next e (lowest-run h (A .1)) (A .0) (next-step e (boxesOf T h))
+
+-- the two ways of an answer
+module _ {Val : Type 0} (policy : Table Val → Policy Val) (zero : Val) (T : Table Val) (h : List (Event Val)) (e : Event Val) where
+  abbrev pub answer : Reply Val
+  answer = lowestAnswers policy zero .reply T h e
+
+  pub answer-yes : Possible T (policy T) h e → answer ≡ record { refusal = 0; value = valueThen T zero (boxesOf T h) e; boxes = nextBoxes T e (boxesOf T h) }
+  unfolding lowestAnswers
+  answer-yes p = rw (possible-judged T (policy T) h e p)
+
+  pub answer-no : judged T (policy T) h e ≢ 0 → answer ≡ record { refusal = judged T (policy T) h e; value = zero; boxes = boxesOf T h }
+  unfolding lowestAnswers
+  answer-no n = let z : eqb (judged T (policy T) h e) 0 ≡ false = ne-eqb _ 0 n in rw z
+
+  pub answer-refusal : answer .refusal ≡ judged T (policy T) h e
+  unfolding lowestAnswers
+  answer-refusal = go (eqb (judged T (policy T) h e) 0) refl
+    where
+      go : (b : Bool) → eqb (judged T (policy T) h e) 0 ≡ b
+          → cond {A = Reply Val} b (record { refusal = 0; value = valueThen T zero (boxesOf T h) e; boxes = nextBoxes T e (boxesOf T h) }) (record { refusal = judged T (policy T) h e; value = zero; boxes = boxesOf T h }) .refusal ≡ judged T (policy T) h e
+      go true i = sym (eqb-true _ 0 i)
+      go false i = refl
+
+-- the boxes after a possible history are those of the protocol
+pub boxes-after : {Val : Type 0} (policy : Table Val → Policy Val) (zero : Val) (T : Table Val) (h : List (Event Val)) → AllPossible T (policy T) h → boxesAfter (lowestAnswers policy zero) T h ≡ boxesOf T h
+unfolding boxesAfter boxesOf AllPossible lowestAnswers
+boxes-after policy zero T [] A = refl
+boxes-after policy zero T (e ∷ h) A = ap (λ (r : Reply _). r .boxes) (answer-yes policy zero T h e (A .0))
+
+-- the demands are met by one answer function at least
+module _ {Val : Type 0} (policy : Table Val → Policy Val) (zero : Val) where
+  silent-value : (T : Table Val) (s : Boxes Val) (e : Event Val) → ReadsNothing e → valueThen T zero s e ≡ zero
+  unfolding ReadsNothing
+  silent-value T s (arrival m) q = refl
+  silent-value T s (start t) q = refl
+  silent-value T s (read l) q = absurd q
+  silent-value T s (finish t v) q = refl
+
+  pub lowest-meets-1 : Demand1 (lowestAnswers policy zero) policy zero
+  lowest-meets-1 = record {
+    number = λ T L h A e. answer-refusal policy zero T h e;
+    unchanged = λ T L h A e n. same T h A e (answer-no policy zero T h e (λ z. n (answer-refusal policy zero T h e ∙ z)));
+    silent = λ T L h A e q. quiet T h e q (eqb (judged T (policy T) h e) 0) refl;
+  }
+    where
+      same : (T : Table Val) (h : List (Event Val)) → AllPossible T (policy T) h → (e : Event Val) → answer policy zero T h e ≡ record { refusal = judged T (policy T) h e; value = zero; boxes = boxesOf T h }
+          → (answer policy zero T h e .boxes ≡ boxesAfter (lowestAnswers policy zero) T h) × (answer policy zero T h e .value ≡ zero)
+      same T h A e i = rw (i, boxes-after policy zero T h A) (refl, refl)
+
+      quiet : (T : Table Val) (h : List (Event Val)) (e : Event Val) → ReadsNothing e → (b : Bool) → eqb (judged T (policy T) h e) 0 ≡ b → answer policy zero T h e .value ≡ zero
+      quiet T h e q true i = rw (answer-yes policy zero T h e (judged-possible T (policy T) h e (eqb-true _ 0 i))) (silent-value T (boxesOf T h) e q)
+      quiet T h e q false i = rw (answer-no policy zero T h e (eqb-false _ 0 i))
+
+  pub lowest-meets-2 : Demand2 (lowestAnswers policy zero) policy
+  unfolding lowestAnswers
+  lowest-meets-2 = record {
+    fresh = λ T L. fresh-fresh T (policy T);
+    only = λ T L h A e i. judged-possible T (policy T) h e (sym (answer-refusal policy zero T h e) ∙ i);
+    all = λ T L h A e p. answer-refusal policy zero T h e ∙ possible-judged T (policy T) h e p;
+    step = λ T L h A e p. rw (answer-yes policy zero T h e p, boxes-after policy zero T h A) (next-step T (policy T) e (boxesOf T h));
+    number = λ T L h A l p. rw (answer-yes policy zero T h (read l) p, boxes-after policy zero T h A);
+  }
