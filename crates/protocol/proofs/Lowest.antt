@@ -72,9 +72,9 @@ module _ {Val : Type 0} (T : Table Val) (s : Boxes Val) (t : ℕ) where
   pub lowest-exists : Lowest T s t (lowest T s t)
   lowest-exists = search-lowest (N T t + 1) (omega arith)
 
-module _ {Val : Type 0} (T : Table Val) (may : Policy Val) where
+module _ {Val : Type 0} (T : Table Val) where
   -- the function does what the published protocol allows, with the lowest free position
-  pub next-step : (e : Event Val) (s : Boxes Val) → Step T may (Lowest T) e s (nextBoxes T e s)
+  pub next-step : (e : Event Val) (s : Boxes Val) → Step T (Lowest T) e s (nextBoxes T e s)
   unfolding Step
   next-step (arrival m) s = record { previous = λ t. refl; chosen = λ t i. rw i (lowest-exists T s t); kept = λ t i. rw i; pointer = λ l. refl; cell = λ t p. refl }
   next-step (start t) s = refl
@@ -85,10 +85,10 @@ module _ {Val : Type 0} (T : Table Val) (may : Policy Val) where
   fresh-fresh = record { newest = λ t. refl; previous = λ t. refl; pointer = λ l. refl; cell = λ t p. refl }
 
   -- so every possible history leads to one of its runs
-  pub lowest-run : (h : List (Event Val)) → AllPossible T may h → Run T may (Lowest T) (boxesOf T h) h
+  pub lowest-run : (may : Policy Val) (h : List (Event Val)) → AllPossible T may h → Run T may (Lowest T) (boxesOf T h) h
   unfolding AllPossible boxesOf
-  lowest-run [] A = published.fresh fresh-fresh
-  lowest-run (e ∷ h) A = published.next e (lowest-run h (A .1)) (A .0) (next-step e (boxesOf T h))
+  lowest-run may [] A = published.fresh fresh-fresh
+  lowest-run may (e ∷ h) A = published.next e (lowest-run may h (A .1)) (A .0) (next-step e (boxesOf T h))
 
 -- the two ways of an answer
 module _ {Val : Type 0} (policy : Table Val → Policy Val) (zero : Val) (T : Table Val) (h : List (Event Val)) (e : Event Val) where
@@ -145,9 +145,9 @@ module _ {Val : Type 0} (policy : Table Val → Policy Val) (zero : Val) where
   pub lowest-meets-2 : Demand2 (lowestAnswers policy zero) policy
   unfolding lowestAnswers
   lowest-meets-2 = record {
-    fresh = λ T L. fresh-fresh T (policy T);
+    fresh = λ T L. fresh-fresh T;
     only = λ T L h A e i. judged-possible T (policy T) h e (sym (answer-refusal policy zero T h e) ∙ i);
     all = λ T L h A e p. answer-refusal policy zero T h e ∙ possible-judged T (policy T) h e p;
-    step = λ T L h A e p. rw (answer-yes policy zero T h e p, boxes-after policy zero T h A) (next-step T (policy T) e (boxesOf T h));
+    step = λ T L h A e p. rw (answer-yes policy zero T h e p, boxes-after policy zero T h A) (next-step T e (boxesOf T h));
     number = λ T L h A l p. rw (answer-yes policy zero T h (read l) p, boxes-after policy zero T h A);
   }

@@ -62,7 +62,7 @@ module _ {Val : Type 0} (A : Answers Val) where
       pub all : (T : Table Val) → Lawful T → (h : List (Event Val)) → AllPossible T (policy T) h → (e : Event Val)
           → Possible T (policy T) h e → A .reply T h e .refusal ≡ 0
       pub step : (T : Table Val) → Lawful T → (h : List (Event Val)) → AllPossible T (policy T) h → (e : Event Val)
-          → Possible T (policy T) h e → Step T (policy T) (Lowest T) e (boxesAfter T h) (A .reply T h e .boxes)
+          → Possible T (policy T) h e → Step T (Lowest T) e (boxesAfter T h) (A .reply T h e .boxes)
       pub number : (T : Table Val) → Lawful T → (h : List (Event Val)) → AllPossible T (policy T) h → (l : ℕ)
           → Possible T (policy T) h (read l) → A .reply T h (read l) .value ≡ published.number T (boxesAfter T h) l
 

@@ -69,15 +69,14 @@ module _ {Val : Type 0} (T : Table Val) where
   abbrev pub number : Boxes Val → ℕ → Val
   number s l = s .cell (T .writer l) (s .pointer l)
 
-  module _ (may : Policy Val) (choice : Choice) where
-    -- what an accepted event makes of the boxes; a start and a read leave them
-    unfoldable pub Step : Event Val → Boxes Val → Boxes Val → Type 0
-    Step (arrival m) s s′ = Arrived choice m s s′
-    Step (start t) s s′ = s′ ≡ s
-    Step (read l) s s′ = s′ ≡ s
-    Step (finish t v) s s′ = Finished t v s s′
+  -- what an accepted event makes of the boxes; a start and a read leave them
+  unfoldable pub Step : Choice → Event Val → Boxes Val → Boxes Val → Type 0
+  Step choice (arrival m) s s′ = Arrived choice m s s′
+  Step choice (start t) s s′ = s′ ≡ s
+  Step choice (read l) s s′ = s′ ≡ s
+  Step choice (finish t v) s s′ = Finished t v s s′
 
-    -- the boxes that a history can lead to, from fresh ones, each event possible in its turn
-    pub data Run : Boxes Val → List (Event Val) → Type 0 where
-      fresh : {s : Boxes Val} → Fresh s → Run s []
-      next : {s s′ : Boxes Val} {h : List (Event Val)} (e : Event Val) → Run s h → Possible T may h e → Step e s s′ → Run s′ (e ∷ h)
+  -- the boxes that a history can lead to, from fresh ones, each event possible in its turn
+  pub data Run (may : Policy Val) (choice : Choice) : Boxes Val → List (Event Val) → Type 0 where
+    fresh : {s : Boxes Val} → Fresh s → Run may choice s []
+    next : {s s′ : Boxes Val} {h : List (Event Val)} (e : Event Val) → Run may choice s h → Possible T may h e → Step choice e s s′ → Run may choice s′ (e ∷ h)

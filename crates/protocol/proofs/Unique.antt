@@ -1,0 +1,98 @@
+-- Two answers allowed for one input are equal: answer functions that meet demands 1 and 2 agree on every refusal, position, pointer, mailbox and number.
+-- Assumes nothing.
+use mathlib.Core.Path.{_≡_, refl, sym, ap, _∙_}
+use mathlib.Core.Logic.{_≢_}
+use mathlib.Core.Bool.{Bool, true, false, cond, _&&_}
+use mathlib.Core.List.{List, [], _∷_}
+use Prim.Native.Nat.{ℕ, _≤_}
+use native.Mathlib.Nat.{le-antisymm}
+use lib.Dec.{eqb, ltb}
+use Rattle.protocol.specs.Event.{Event, arrival, start, read, finish, has}
+use Rattle.protocol.specs.Table.{Table, Lawful}
+use Rattle.protocol.specs.Schedule.{Policy, Possible, AllPossible}
+use Rattle.protocol.specs.Published.{Boxes, Fresh, Free, Lowest, Arrived, Finished, Step, comes, leaves}
+use Rattle.protocol.specs.Demand.{Answers, ReadsNothing, boxesAfter, Demand1, Demand2}
+
+-- boxes that nobody can tell apart
+pub record Same {Val : Type 0} (s r : Boxes Val) : Type 0 where
+  pub newest : (t : ℕ) → s .newest t ≡ r .newest t
+  pub previous : (t : ℕ) → s .previous t ≡ r .previous t
+  pub pointer : (l : ℕ) → s .pointer l ≡ r .pointer l
+  pub cell : (t p : ℕ) → s .cell t p ≡ r .cell t p
+
+module _ {Val : Type 0} (T : Table Val) where
+  fresh-same : {s r : Boxes Val} → Fresh T s → Fresh T r → Same s r
+  fresh-same F G = record {
+    newest = λ t. F .newest t ∙ sym (G .newest t);
+    previous = λ t. F .previous t ∙ sym (G .previous t);
+    pointer = λ l. F .pointer l ∙ sym (G .pointer l);
+    cell = λ t p. F .cell t p ∙ sym (G .cell t p);
+  }
+
+  module _ {s r : Boxes Val} (S : Same s r) where
+    free-same : {t p : ℕ} → Free T s t p → Free T r t p
+    free-same {t} F = record { low = F .low; high = F .high; apart = λ e. F .apart (e ∙ sym (S .newest t)); unused = λ l k w b e. F .unused l k w b (e ∙ sym (S .pointer l)) }
+
+    free-back : {t p : ℕ} → Free T r t p → Free T s t p
+    free-back {t} F = record { low = F .low; high = F .high; apart = λ e. F .apart (e ∙ S .newest t); unused = λ l k w b e. F .unused l k w b (e ∙ S .pointer l) }
+
+    -- there is one lowest free position
+    lowest-same : {t p q : ℕ} → Lowest T s t p → Lowest T r t q → p ≡ q
+    lowest-same P Q = le-antisymm (P .least _ (free-back (Q .free))) (Q .least _ (free-same (P .free)))
+
+    module _ {s′ r′ : Boxes Val} where
+      arrived-same : {m : ℕ} → Arrived T (Lowest T) m s s′ → Arrived T (Lowest T) m r r′ → Same s′ r′
+      arrived-same {m} A B = record {
+        newest = newest;
+        previous = previous;
+        pointer = λ l. A .pointer l ∙ rw (newest (T .writer l), previous (T .writer l), S .pointer l) (sym (B .pointer l));
+        cell = λ t p. A .cell t p ∙ S .cell t p ∙ sym (B .cell t p);
+      }
+        where
+          newest : (t : ℕ) → s′ .newest t ≡ r′ .newest t
+          newest t = go (has m t) refl
+            where
+              go : (b : Bool) → has m t ≡ b → s′ .newest t ≡ r′ .newest t
+              go true e = lowest-same (A .chosen t e) (B .chosen t e)
+              go false e = A .kept t e ∙ S .newest t ∙ sym (B .kept t e)
+
+          previous : (t : ℕ) → s′ .previous t ≡ r′ .previous t
+          previous t = A .previous t ∙ rw (S .newest t, S .previous t) (sym (B .previous t))
+
+      finished-same : {t : ℕ} {v : Val} → Finished T t v s s′ → Finished T t v r r′ → Same s′ r′
+      finished-same {t} F G = record {
+        newest = λ u. F .newest u ∙ S .newest u ∙ sym (G .newest u);
+        previous = λ u. F .previous u ∙ S .previous u ∙ sym (G .previous u);
+        pointer = λ l. F .pointer l ∙ rw (S .pointer l) (sym (G .pointer l));
+        cell = λ u p. F .cell u p ∙ rw (S .newest t, S .cell u p) (sym (G .cell u p));
+      }
+
+      step-same : (e : Event Val) → Step T (Lowest T) e s s′ → Step T (Lowest T) e r r′ → Same s′ r′
+      unfolding Step
+      step-same (arrival m) A B = arrived-same A B
+      step-same (start t) A B = rw (A, B) S
+      step-same (read l) A B = rw (A, B) S
+      step-same (finish t v) A B = finished-same A B
+
+module _ {Val : Type 0} (policy : Table Val → Policy Val) (A B : Answers Val) (DA : Demand2 A policy) (DB : Demand2 B policy) (T : Table Val) (L : Lawful T) where
+  -- the same boxes after every history
+  pub same-boxes : (h : List (Event Val)) → AllPossible T (policy T) h → Same (boxesAfter A T h) (boxesAfter B T h)
+  unfolding boxesAfter AllPossible
+  same-boxes [] P = fresh-same T (DA .fresh T L) (DB .fresh T L)
+  same-boxes (e ∷ h) P = step-same T (same-boxes h (P .1)) e (DA .step T L h (P .1) e (P .0)) (DB .step T L h (P .1) e (P .0))
+
+  -- the same number at every read
+  pub same-number : (h : List (Event Val)) → AllPossible T (policy T) h → (l : ℕ) → Possible T (policy T) h (read l) → A .reply T h (read l) .value ≡ B .reply T h (read l) .value
+  same-number h P l p =
+      let S = same-boxes h P in
+      DA .number T L h P l p ∙ S .cell (T .writer l) (boxesAfter A T h .pointer l) ∙ ap (boxesAfter B T h .cell (T .writer l)) (S .pointer l) ∙ sym (DB .number T L h P l p)
+
+  -- the same refusal to every event
+  pub same-refusal : {zero : Val} → Demand1 A policy zero → Demand1 B policy zero → (h : List (Event Val)) → AllPossible T (policy T) h → (e : Event Val)
+      → A .reply T h e .refusal ≡ B .reply T h e .refusal
+  same-refusal EA EB h P e = EA .number T L h P e ∙ sym (EB .number T L h P e)
+
+  -- and the same value where nothing is read, or all is refused
+  pub same-silence : {zero : Val} → Demand1 A policy zero → Demand1 B policy zero → (h : List (Event Val)) → AllPossible T (policy T) h → (e : Event Val)
+      → ReadsNothing e → A .reply T h e .value ≡ B .reply T h e .value
+  same-silence EA EB h P e q = EA .silent T L h P e q ∙ sym (EB .silent T L h P e q)
