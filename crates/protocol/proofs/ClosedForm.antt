@@ -1,0 +1,52 @@
+-- The reads of the run where tasks take no time, once more, by counts of arrivals alone: no output is asked for, so none can be missing.
+-- Proofs go through it; no statement that a reader must believe rests on it.
+-- Assumes nothing.
+use mathlib.Core.Path.{_≡_}
+use mathlib.Core.Bool.{true, cond}
+use mathlib.Core.List.{List, [], _∷_}
+use Prim.Native.Nat.{ℕ, zero, suc, _<_}
+use lib.Dec.{eqb}
+use Rattle.protocol.specs.Event.{has}
+use Rattle.protocol.specs.Table.{Table}
+use Rattle.protocol.specs.History.{tick}
+use Rattle.protocol.specs.ZeroTime.{runOf}
+use Rattle.protocol.specs.Instant.{Given, there, Entry}
+
+-- how often task t arrived, by the arrival sets
+unfoldable pub seen : List ℕ → ℕ → ℕ
+seen [] t = 0
+seen (m ∷ ms) t = tick (has m t) (seen ms t)
+
+-- the sets hold tasks of the table only
+unfoldable pub Known : ℕ → List ℕ → Type 0
+Known n [] = Unit {0}
+Known n (m ∷ ms) = ((t : ℕ) → has m t ≡ true → t < n) × Known n ms
+
+module _ {Val : Type 0} (T : Table Val) (out : ℕ → ℕ → Val) where
+  -- output number k of task w, where number 0 is the default
+  unfoldable pub result : ℕ → ℕ → Val
+  result w zero = T .default w
+  result w (suc k) = out w (suc k)
+
+  -- what link l gives after the arrivals ms
+  abbrev pub told : List ℕ → ℕ → Given Val
+  told ms l = there (result (T .writer l) (runOf (T .delayed l) (seen ms (T .writer l))))
+
+  -- task t's read by link l after the arrivals ms
+  abbrev pub entry : List ℕ → ℕ → ℕ → Entry Val
+  entry ms t l = record { task = t; job = seen ms t; link = l; given = told ms l }
+
+  -- task t reads those of the first n links that are its own
+  unfoldable pub closed-reads : List ℕ → ℕ → ℕ → List (Entry Val) → List (Entry Val)
+  closed-reads ms t zero es = es
+  closed-reads ms t (suc l) es = cond (eqb (T .reader l) t) (entry ms t l ∷ closed-reads ms t l es) (closed-reads ms t l es)
+
+  -- of the tasks listed, those of the set m read, one after the other
+  unfoldable pub closed-work : List ℕ → ℕ → List ℕ → List (Entry Val) → List (Entry Val)
+  closed-work ms m [] es = es
+  closed-work ms m (t ∷ ts) es = closed-work ms m ts (cond (has m t) (closed-reads ms t (T .links) es) es)
+
+  -- all reads, the last one first
+  unfoldable pub closed : List ℕ → List ℕ → List (Entry Val)
+  closed order [] = []
+  closed order (m ∷ ms) = closed-work (m ∷ ms) m order (closed order ms)

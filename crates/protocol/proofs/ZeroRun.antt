@@ -1,0 +1,201 @@
+-- The closed form and the run: each number of the closed form is what the same run of the reader reads by the same link where tasks take no time,
+-- and no run there asks for an output that is not there yet.
+-- Assumes nothing.
+use mathlib.Core.Path.{_≡_, refl, ap, sym, _∙_}
+use mathlib.Core.Bool.{Bool, true, false, cond}
+use mathlib.Core.List.{List, [], _∷_}
+use Prim.Native.Nat.{ℕ, zero, suc, pred, _≤_, _<_}
+use native.Mathlib.Omega.{arith}
+use native.Mathlib.Decide.{decLe}
+use borrow.Author.Tests.{ltb-true, lt-ltb, ne-eqb}
+use lib.Dec.{eqb}
+use Rattle.protocol.specs.Event.{Event, arrival, start, read, finish, has}
+use Rattle.protocol.specs.Table.{Table, Lawful}
+use Rattle.protocol.specs.History.{tick, arrivals, starts, finishes, upTo, output}
+use Rattle.protocol.specs.Schedule.{Policy, Fair, Possible, AllPossible}
+use Rattle.protocol.specs.ZeroTime.{runOf, wanted, ideal, ideals}
+use Rattle.protocol.specs.Instant.{Given, there, missing, Order, sets, zeroRun, find, looked, AllThere, theres}
+use Rattle.protocol.proofs.Counts.{arrivals-out, upTo-in, upTo-out, arrivals-upTo, stamp-seen}
+use Rattle.protocol.proofs.Schedule.{has-below, counted}
+use Rattle.protocol.proofs.ClosedForm.{seen, Known, result, closed}
+use Rattle.protocol.proofs.Instant.{carried-closed, always-there, find-new, find-old}
+
+-- two lists of numbers are the same where what they give is the same
+pub theres-same : {Val : Type 0} (xs ys : List Val) → theres xs ≡ theres ys → xs ≡ ys
+unfolding theres
+theres-same {Val} xs ys e = sym (back xs) ∙ ap values e ∙ back ys
+  where
+    values : List (Given Val) → List Val
+    values [] = []
+    values (there v ∷ rest) = v ∷ values rest
+    values (missing ∷ rest) = values rest
+
+    back : (vs : List Val) → values (theres vs) ≡ vs
+    back [] = refl
+    back (v ∷ vs) = ap (λ us. v ∷ us) (back vs)
+
+either-way : {A : Type 0} (b : Bool) (x : A) → cond b x x ≡ x
+either-way true x = refl
+either-way false x = refl
+
+tick-le : (b : Bool) (n : ℕ) → n ≤ tick b n
+tick-le true n = let q : n ≤ suc n = omega arith in q
+tick-le false n = let q : n ≤ n = omega arith in q
+
+-- a history and one that goes on from it
+pub data Goes {Val : Type 0} : List (Event Val) → List (Event Val) → Type 0 where
+  same : {h : List (Event Val)} → Goes h h
+  more : {h H : List (Event Val)} (e : Event Val) → Goes h H → Goes h (e ∷ H)
+
+module _ {Val : Type 0} where
+  onward : {h H : List (Event Val)} (e : Event Val) → Goes (e ∷ h) H → Goes h H
+  onward e same = more e same
+  onward e (more f g) = more f (onward e g)
+
+  -- a history's arrivals are those of its sets
+  arrivals-seen : (h : List (Event Val)) (t : ℕ) → arrivals h t ≡ seen (sets h) t
+  unfolding arrivals sets seen
+  arrivals-seen [] t = refl
+  arrivals-seen (arrival m ∷ h) t = ap (tick (has m t)) (arrivals-seen h t)
+  arrivals-seen (start u ∷ h) t = arrivals-seen h t
+  arrivals-seen (read l ∷ h) t = arrivals-seen h t
+  arrivals-seen (finish u v ∷ h) t = arrivals-seen h t
+
+  -- counts never fall
+  arrivals-one : (e : Event Val) (h : List (Event Val)) (t : ℕ) → arrivals h t ≤ arrivals (e ∷ h) t
+  unfolding arrivals
+  arrivals-one (arrival m) h t = tick-le (has m t) (arrivals h t)
+  arrivals-one (start u) h t = omega arith
+  arrivals-one (read k) h t = omega arith
+  arrivals-one (finish u v) h t = omega arith
+
+  arrivals-more : {h H : List (Event Val)} (t : ℕ) → Goes h H → arrivals h t ≤ arrivals H t
+  arrivals-more t same = omega arith
+  arrivals-more t (more {H = H} e g) = omega (arith, arrivals-more t g, arrivals-one e H t)
+
+  finishes-one : (e : Event Val) (h : List (Event Val)) (w : ℕ) → finishes h w ≤ finishes (e ∷ h) w
+  unfolding finishes
+  finishes-one (arrival m) h w = omega arith
+  finishes-one (start u) h w = omega arith
+  finishes-one (read l) h w = omega arith
+  finishes-one (finish u v) h w = tick-le (eqb u w) (finishes h w)
+
+  finishes-more : {h H : List (Event Val)} (w : ℕ) → Goes h H → finishes h w ≤ finishes H w
+  finishes-more w same = omega arith
+  finishes-more w (more {H = H} e g) = omega (arith, finishes-more w g, finishes-one e H w)
+
+  -- what was finished stays
+  output-one : (e : Event Val) (d : Val) (h : List (Event Val)) (w k : ℕ) → k ≤ finishes h w → output d (e ∷ h) w k ≡ output d h w k
+  unfolding output
+  output-one (arrival m) d h w k q = refl
+  output-one (start u) d h w k q = refl
+  output-one (read l) d h w k q = refl
+  output-one (finish u v) d h w k q = rw (ne-eqb k (suc (finishes h w)) (λ e. omega arith)) (either-way (eqb u w) (output d h w k))
+
+  output-more : {h H : List (Event Val)} (d : Val) (w k : ℕ) → k ≤ finishes h w → Goes h H → output d H w k ≡ output d h w k
+  output-more d w k q same = refl
+  output-more d w k q (more {H = H} e g) = output-one e d H w k (omega (arith, finishes-more w g)) ∙ output-more d w k q g
+
+  -- number 0 is the default
+  output-zero : (d : Val) (h : List (Event Val)) (w : ℕ) → output d h w 0 ≡ d
+  unfolding output
+  output-zero d [] w = refl
+  output-zero d (e ∷ h) w = output-one e d h w 0 (omega arith) ∙ output-zero d h w
+
+module _ {Val : Type 0} (T : Table Val) where
+  -- the outputs of a history
+  abbrev outputs : List (Event Val) → ℕ → ℕ → Val
+  outputs H w k = output (T .default w) H w k
+
+  result-output : (H : List (Event Val)) (w k : ℕ) → result T (outputs H) w k ≡ output (T .default w) H w k
+  unfolding result
+  result-output H w zero = sym (output-zero (T .default w) H w)
+  result-output H w (suc k) = refl
+
+  -- a possible history's sets hold tasks of the table only
+  sets-known : (may : Policy Val) (h : List (Event Val)) → AllPossible T may h → Known (T .tasks) (sets h)
+  unfolding sets Known AllPossible Possible
+  sets-known may [] P = tt
+  sets-known may (arrival m ∷ h) P = ((λ t e. has-below m (T .tasks) t (P .0 .1) e), sets-known may h (P .1))
+  sets-known may (start u ∷ h) P = sets-known may h (P .1)
+  sets-known may (read l ∷ h) P = sets-known may h (P .1)
+  sets-known may (finish u v ∷ h) P = sets-known may h (P .1)
+
+  module _ (out : ℕ → ℕ → Val) (order : List ℕ) where
+    -- later events leave what was read
+    find-one : (e : Event Val) (h : List (Event Val)) (l j : ℕ) → j ≤ arrivals h (T .reader l)
+        → find l j (closed T out order (sets (e ∷ h))) ≡ find l j (closed T out order (sets h))
+    unfolding sets
+    find-one (arrival m) h l j q = find-old T out order m (sets h) l j (omega (arith, arrivals-seen h (T .reader l)))
+    find-one (start u) h l j q = refl
+    find-one (read k) h l j q = refl
+    find-one (finish u v) h l j q = refl
+
+    find-more : {h H : List (Event Val)} (l : ℕ) → Goes h H
+        → find l (arrivals h (T .reader l)) (closed T out order (sets H)) ≡ find l (arrivals h (T .reader l)) (closed T out order (sets h))
+    find-more l same = refl
+    find-more {h} l (more {H = H} e g) = find-one e H l (arrivals h (T .reader l)) (arrivals-more (T .reader l) g) ∙ find-more l g
+
+    -- what the reader's last run reads by link l, for any outputs
+    abbrev Last : List (Event Val) → ℕ → Type 0
+    Last h l = find l (arrivals h (T .reader l)) (closed T out order (sets h)) ≡ there (result T out (T .writer l) (wanted T h l))
+
+    last-read : Order T order → (h : List (Event Val)) (l : ℕ) → Known (T .tasks) (sets h) → l < T .links → 0 < arrivals h (T .reader l) → Last h l
+    unfolding sets arrivals upTo Known
+    last-read O [] l K q a = absurd (omega arith)
+    last-read O (arrival m ∷ h) l K q a = go (has m (T .reader l)) refl (last-read O h l (K .1) q)
+      where
+        go : (b : Bool) → has m (T .reader l) ≡ b → (0 < arrivals h (T .reader l) → Last h l) → Last (arrival m ∷ h) l
+        go true e i =
+            rw (upTo-in h m (T .reader l) e, arrivals-seen (arrival m ∷ h) (T .reader l), arrivals-seen (arrival m ∷ h) (T .writer l))
+            (find-new T out order m (sets h) l q e (O .all (T .reader l) (K .0 (T .reader l) e)))
+        go false e i =
+            rw (upTo-out h m (T .reader l) e, arrivals-out h m (T .reader l) e)
+            (find-old T out order m (sets h) l (arrivals h (T .reader l)) (omega (arith, arrivals-seen h (T .reader l))) ∙ i (omega (arith, arrivals-out h m (T .reader l) e)))
+    last-read O (start u ∷ h) l K q a = last-read O h l K q a
+    last-read O (read k ∷ h) l K q a = last-read O h l K q a
+    last-read O (finish u v ∷ h) l K q a = last-read O h l K q a
+
+module _ {Val : Type 0} (T : Table Val) (may : Policy Val) (L : Lawful T) (F : Fair T may) (order : List ℕ) (O : Order T order) where
+  -- what a link is to read is finished, when the reader may run
+  pub finished-then : (h : List (Event Val)) (l : ℕ) → AllPossible T may h → l < T .links → may h (T .reader l) ≡ true → wanted T h l ≤ finishes h (T .writer l)
+  finished-then h l P q turn = go (T .delayed l) refl (decLe seenThen (finishes h (T .writer l))) (arrivals-upTo h (T .reader l) (T .writer l)) (counted T may h P (T .writer l) .2)
+    where
+      seenThen : ℕ
+      seenThen = arrivals (upTo h (T .reader l)) (T .writer l)
+
+      go : (b : Bool) → T .delayed l ≡ b → Dec (seenThen ≤ finishes h (T .writer l)) → seenThen ≤ arrivals h (T .writer l) → arrivals h (T .writer l) ≤ suc (finishes h (T .writer l))
+          → runOf b seenThen ≤ finishes h (T .writer l)
+      go true d x i j = let p : pred seenThen ≤ finishes h (T .writer l) = omega arith in p
+      go false d (yes x) i j = x
+      go false d (no x) i j =
+          absurd (F h (T .reader l) turn (T .writer l) (L .writer l q) (L .direct l q d) (lt-ltb (finishes h (T .writer l)) (arrivals h (T .writer l)) (omega arith))
+          (stamp-seen h (T .reader l) (T .writer l) (omega arith)))
+
+  -- a read reads `ideal`, in the run of all that happened by any later time
+  read-ideal : {H : List (Event Val)} (h : List (Event Val)) (l : ℕ) → AllPossible T may (read l ∷ h) → Goes h H → AllPossible T may H
+      → find l (arrivals h (T .reader l)) (zeroRun T order H) ≡ there (ideal T h l)
+  unfolding AllPossible Possible
+  read-ideal {H} h l P g Q =
+      let (q, runs, turn) = P .0 in
+      let arrived : 0 < arrivals h (T .reader l) = omega (arith, ltb-true (finishes h (T .reader l)) (starts h (T .reader l)) runs, counted T may h (P .1) (T .reader l)) in
+      rw (carried-closed T (outputs T H) L order O (sets H) (sets-known T may H Q) .log)
+      (find-more T (outputs T H) order l g ∙ last-read T (outputs T H) order O h l (sets-known T may h (P .1)) q arrived
+      ∙ ap there (result-output T H (T .writer l) (wanted T h l)
+      ∙ output-more (T .default (T .writer l)) (T .writer l) (wanted T h l) (finished-then h l (P .1) q turn) g))
+
+  ideals-part : {H : List (Event Val)} (h : List (Event Val)) → AllPossible T may h → Goes h H → AllPossible T may H → theres (ideals T h) ≡ looked T (zeroRun T order H) h
+  unfolding ideals theres looked AllPossible
+  ideals-part [] P g Q = refl
+  ideals-part (arrival m ∷ h) P g Q = ideals-part h (P .1) (onward (arrival m) g) Q
+  ideals-part (start t ∷ h) P g Q = ideals-part h (P .1) (onward (start t) g) Q
+  ideals-part (read l ∷ h) P g Q = rw (read-ideal h l P (onward (read l) g) Q, ideals-part h (P .1) (onward (read l) g) Q)
+  ideals-part (finish t v ∷ h) P g Q = ideals-part h (P .1) (onward (finish t v) g) Q
+
+  -- the closed form gives what is read in the run where tasks take no time
+  pub ideals-read : (h : List (Event Val)) → AllPossible T may h → theres (ideals T h) ≡ looked T (zeroRun T order h) h
+  ideals-read h P = ideals-part h P same P
+
+  -- and no run there asks for an output that is not there yet
+  pub never-missing : (h : List (Event Val)) → AllPossible T may h → AllThere (zeroRun T order h)
+  never-missing h P = always-there T (outputs T h) L order O (sets h) (sets-known T may h P)
