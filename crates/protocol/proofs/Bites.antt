@@ -5,7 +5,6 @@ use mathlib.Core.Logic.{_≢_}
 use mathlib.Core.Bool.{Bool, true, false, _&&_, true≢false}
 use mathlib.Core.List.{List, [], _∷_}
 use Prim.Native.Nat.{ℕ, _<_}
-use native.Mathlib.Omega.{arith}
 use borrow.Author.Tests.{eqb-true}
 use lib.Dec.{eqb, ltb, lit<}
 use Rattle.lists.specs.Lists.{some}
@@ -13,7 +12,7 @@ use Rattle.lists.proofs.Bools.{and-left, and-right}
 use Rattle.protocol.specs.Event.{Event, arrival, start, read, finish, has}
 use Rattle.protocol.specs.Table.{Table, Lawful}
 use Rattle.protocol.specs.History.{arrivals, starts, finishes, upTo, output}
-use Rattle.protocol.specs.Schedule.{Policy, urgent, Possible, AllPossible, judged}
+use Rattle.protocol.specs.Schedule.{urgent, Possible, AllPossible, judged}
 use Rattle.protocol.specs.ZeroTime.{ideals}
 use Rattle.protocol.specs.Published.{Boxes, Step}
 use Rattle.protocol.specs.Instant.{upward}

@@ -1,15 +1,14 @@
 -- What one event does to the counts of a history.
 -- Assumes nothing.
-use mathlib.Core.Path.{_≡_, refl, ap, sym, _∙_}
+use mathlib.Core.Path.{_≡_, refl}
 use mathlib.Core.Logic.{_≢_}
 use mathlib.Core.Bool.{Bool, true, false, cond}
 use mathlib.Core.List.{List, [], _∷_}
-use Prim.Native.Nat.{ℕ, zero, suc, pred, _≤_, _<_}
+use Prim.Native.Nat.{ℕ, suc, _≤_}
 use native.Mathlib.Omega.{arith}
 use borrow.Author.Tests.{eq-eqb, ne-eqb}
-use lib.Dec.{eqb}
 use Rattle.protocol.specs.Event.{Event, arrival, start, read, finish, has}
-use Rattle.protocol.specs.History.{tick, arrivals, starts, finishes, clock, upTo, output, stamp}
+use Rattle.protocol.specs.History.{arrivals, starts, finishes, clock, upTo, output, stamp}
 
 module _ {Val : Type 0} (h : List (Event Val)) where
   pub arrivals-in : (m t : ℕ) → has m t ≡ true → arrivals (arrival m ∷ h) t ≡ suc (arrivals h t)

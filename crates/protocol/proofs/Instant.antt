@@ -13,7 +13,7 @@ use Rattle.protocol.specs.Event.{has}
 use Rattle.protocol.specs.Table.{Table, Lawful}
 use Rattle.protocol.specs.History.{tick}
 use Rattle.protocol.specs.ZeroTime.{runOf}
-use Rattle.protocol.specs.Instant.{Given, there, missing, Entry, Moment, ask, readLinks, whole, work, come, carried, mem, Sorted, Order, find, AllThere}
+use Rattle.protocol.specs.Instant.{there, missing, Entry, Moment, ask, readLinks, whole, work, come, carried, mem, Sorted, Order, find, AllThere}
 use Rattle.protocol.proofs.ClosedForm.{seen, Known, result, told, entry, closed-reads, closed-work, closed}
 
 and-no : (a : Bool) → a && false ≡ false

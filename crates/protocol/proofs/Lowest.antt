@@ -2,24 +2,24 @@
 -- Assumes nothing.
 use mathlib.Core.Path.{_≡_, refl, sym, ap, _∙_}
 use mathlib.Core.Logic.{_≢_}
-use mathlib.Core.Bool.{Bool, true, false, cond, _&&_, _||_, true≢false}
+use mathlib.Core.Bool.{Bool, true, false, cond, true≢false}
 use mathlib.Core.List.{List, [], _∷_}
 use Prim.Native.Nat.{ℕ, _+_, _≤_, _<_}
 use native.Mathlib.Omega.{arith}
 use borrow.Author.Tests.{eqb-true, eqb-false, eq-eqb, ne-eqb, leb-true, leb-false}
 use lib.Dec.{eqb, leb}
-use Rattle.lists.specs.Lists.{some, first}
+use Rattle.lists.specs.Lists.{first}
 use Rattle.lists.proofs.Bools.{or-left, or-right, and-left, and-right}
 use Rattle.lists.proofs.Lists.{some-not, some-of-none}
 use Rattle.lists.proofs.Search.{lowest-in-range, lowest-is-free, first-least}
-use Rattle.protocol.specs.Event.{Event, arrival, start, read, finish, has}
-use Rattle.protocol.specs.Table.{Table, Lawful, toBehind, behind, N}
+use Rattle.protocol.specs.Event.{Event, arrival, start, read, finish}
+use Rattle.protocol.specs.Table.{Table, toBehind, behind, N}
 use Rattle.protocol.specs.Schedule.{Policy, Possible, AllPossible, judged}
-use Rattle.protocol.specs.Published.{Boxes, Fresh, Free, Lowest, Arrived, Finished, Step, Run}
+use Rattle.protocol.specs.Published.{Boxes, Fresh, Free, Lowest, Step, Run}
 use Rattle.protocol.specs.Published as published
-use Rattle.protocol.specs.Free.{holds, taken, lowestOf}
+use Rattle.protocol.specs.Free.{holds, taken}
 use Rattle.protocol.specs.Lowest.{lowest, freshBoxes, nextBoxes, boxesOf, valueThen, lowestAnswers}
-use Rattle.protocol.specs.Demand.{Reply, Answers, ReadsNothing, boxesAfter, Demand1, Demand2}
+use Rattle.protocol.specs.Demand.{Reply, ReadsNothing, boxesAfter, Demand1, Demand2}
 use Rattle.protocol.proofs.Schedule.{judged-possible, possible-judged}
 
 module _ {Val : Type 0} (T : Table Val) (s : Boxes Val) (t : ℕ) where

@@ -1,14 +1,14 @@
 -- Demand 2, schedule: an event is judged 0 exactly when the history says that it could happen; and what a possible history looks like.
 -- Assumes nothing.
 use mathlib.Core.Path.{_≡_, refl, sym, _∙_}
-use mathlib.Core.Bool.{Bool, true, false, cond, not, _&&_, _||_, true≢false}
+use mathlib.Core.Bool.{Bool, true, false, cond, _&&_, _||_, true≢false}
 use mathlib.Core.List.{List, [], _∷_}
-use Prim.Native.Nat.{ℕ, suc, _/_, _%_, _^_, _≤_, _<_}
+use Prim.Native.Nat.{ℕ, suc, _^_, _≤_, _<_}
 use native.Mathlib.Omega.{arith}
 use native.Mathlib.Nat.{div-eq-of-lt, pow-le-pow-right, lt-of-lt-of-le}
 use native.Mathlib.Decide.{ℕ-discrete, decLe}
-use borrow.Author.Tests.{ltb-true, ltb-false, le-ltb, eq-eqb, eqb-false, ne-eqb, leb-false, lt-leb, not-true}
-use lib.Dec.{eqb, ltb, leb, lit<}
+use borrow.Author.Tests.{ltb-true, ltb-false, eqb-false, ne-eqb, leb-false, lt-leb, not-true}
+use lib.Dec.{eqb, leb, lit<}
 use Rattle.lists.specs.Lists.{some}
 use Rattle.lists.proofs.Bools.{or-left, or-right, and-not, and-if}
 use Rattle.lists.proofs.Lists.{some-not, some-of-none}
@@ -17,7 +17,7 @@ use Rattle.protocol.specs.Table.{Table}
 use Rattle.protocol.specs.History.{tick, arrivals, starts, finishes, active, waiting, running}
 use Rattle.protocol.specs.Schedule.{Policy, Fair, urgent, Possible, AllPossible, judged}
 use Rattle.protocol.specs.Published.{Boxes, Choice, Run, fresh, next}
-use Rattle.protocol.proofs.Counts.{arrivals-in, arrivals-out, starts-same, starts-other, finishes-same, finishes-other}
+use Rattle.protocol.proofs.Counts.{starts-same, starts-other, finishes-same, finishes-other}
 
 -- a set below 2 ^ n holds only tasks below n
 pub has-below : (m n t : ℕ) → m < 2 ^ n → has m t ≡ true → t < n

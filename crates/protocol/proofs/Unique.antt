@@ -1,16 +1,14 @@
 -- Two answers allowed for one input are equal: answer functions that meet demands 1 and 2 agree on every refusal, position, pointer, mailbox and number.
 -- Assumes nothing.
 use mathlib.Core.Path.{_≡_, refl, sym, ap, _∙_}
-use mathlib.Core.Logic.{_≢_}
-use mathlib.Core.Bool.{Bool, true, false, cond, _&&_}
+use mathlib.Core.Bool.{Bool, true, false}
 use mathlib.Core.List.{List, [], _∷_}
-use Prim.Native.Nat.{ℕ, _≤_}
+use Prim.Native.Nat.{ℕ}
 use native.Mathlib.Nat.{le-antisymm}
-use lib.Dec.{eqb, ltb}
 use Rattle.protocol.specs.Event.{Event, arrival, start, read, finish, has}
 use Rattle.protocol.specs.Table.{Table, Lawful}
 use Rattle.protocol.specs.Schedule.{Policy, Possible, AllPossible}
-use Rattle.protocol.specs.Published.{Boxes, Fresh, Free, Lowest, Arrived, Finished, Step, comes, leaves}
+use Rattle.protocol.specs.Published.{Boxes, Fresh, Free, Lowest, Arrived, Finished, Step}
 use Rattle.protocol.specs.Demand.{Answers, ReadsNothing, boxesAfter, Demand1, Demand2}
 
 -- boxes that nobody can tell apart

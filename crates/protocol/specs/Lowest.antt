@@ -1,6 +1,6 @@
 -- The protocol with the lowest free position, as a function: one of the answer functions that the demands allow.
 -- Assumes nothing.
-use mathlib.Core.Bool.{Bool, cond, _&&_}
+use mathlib.Core.Bool.{cond, _&&_}
 use mathlib.Core.List.{List, [], _∷_}
 use Prim.Native.Nat.{ℕ, _+_}
 use lib.Dec.{eqb}
@@ -9,7 +9,7 @@ use Rattle.protocol.specs.Table.{Table, N}
 use Rattle.protocol.specs.Schedule.{Policy, judged}
 use Rattle.protocol.specs.Published.{Boxes, comes, leaves, number}
 use Rattle.protocol.specs.Free.{lowestOf}
-use Rattle.protocol.specs.Demand.{Reply, Answers}
+use Rattle.protocol.specs.Demand.{Answers}
 
 module _ {Val : Type 0} (T : Table Val) where
   -- the lowest free position of task t
