@@ -16,18 +16,22 @@ use Rattle.protocol.specs.ZeroTime.{runOf}
 use Rattle.protocol.specs.Instant.{there, missing, Entry, Moment, ask, readLinks, whole, work, come, carried, mem, Sorted, Order, find, AllThere}
 use Rattle.protocol.proofs.ClosedForm.{seen, Known, result, told, entry, closed-reads, closed-work, closed}
 
+-- anything and no is no
 and-no : (a : Bool) → a && false ≡ false
 and-no true = refl
 and-no false = refl
 
+-- the first of a list is in it
 mem-here : (t : ℕ) (ts : List ℕ) → mem t (t ∷ ts) ≡ true
 unfolding mem
 mem-here t ts = rw (eq-eqb t t refl)
 
+-- any other is in it if it is in the rest
 mem-other : (u t : ℕ) (ts : List ℕ) → u ≢ t → mem u (t ∷ ts) ≡ mem u ts
 unfolding mem
 mem-other u t ts n = rw (ne-eqb u t n)
 
+-- one less than after a tick is no more than before it
 pred-tick : (b : Bool) (n : ℕ) → pred (tick b n) ≤ n
 pred-tick true n = let q : n ≤ n = omega arith in q
 pred-tick false n = let q : pred n ≤ n = omega arith in q
@@ -37,6 +41,7 @@ abbrev Mid : {Val : Type 0} → ℕ → List ℕ → Moment Val → Type 0
 Mid m ts s = (u : ℕ) → s .arrived u ≡ tick (has m u && mem u ts) (s .runs u)
 
 module _ {Val : Type 0} (s : Moment Val) (m t : ℕ) (ts : List ℕ) (M : Mid m (t ∷ ts) s) where
+  -- the next task is not in the set: it is passed over
   mid-skip : has m t ≡ false → Mid m ts s
   mid-skip e u = go (ℕ-discrete u t)
     where
@@ -44,9 +49,11 @@ module _ {Val : Type 0} (s : Moment Val) (m t : ℕ) (ts : List ℕ) (M : Mid m 
       go (yes x) = rw (x, e) (rw e at (M t))
       go (no x) = rw (mem-other u t ts x) at (M u)
 
+  -- it is in the set: it has run once less than it arrived
   mid-next : has m t ≡ true → s .arrived t ≡ suc (s .runs t)
   mid-next e = rw (e, mem-here t ts) at (M t)
 
+  -- and once it has run, it is done
   mid-whole : (T : Table Val) (out : ℕ → ℕ → Val) → has m t ≡ true → mem t ts ≡ false → Mid m ts (whole T out t s)
   unfolding whole
   mid-whole T out e f u = go (ℕ-discrete u t)
@@ -64,15 +71,18 @@ module _ {Val : Type 0} (T : Table Val) (out : ℕ → ℕ → Val) where
   abbrev Ready : Moment Val → ℕ → Type 0
   Ready s l = runOf (T .delayed l) (s .arrived (T .writer l)) ≤ s .runs (T .writer l)
 
+  -- what a link asks for is there
   ask-there : (s : Moment Val) (l : ℕ) → Made s → Ready s l → ask T out s l ≡ there (result T out (T .writer l) (runOf (T .delayed l) (s .arrived (T .writer l))))
   unfolding ask
   ask-there s l D q = D (T .writer l) (runOf (T .delayed l) (s .arrived (T .writer l))) ∙ rw (le-leb (runOf (T .delayed l) (s .arrived (T .writer l))) (s .runs (T .writer l)) q)
 
+  -- at the beginning there are the defaults
   made-fresh : (w k : ℕ) → cond (eqb k 0) (there (T .default w)) missing ≡ cond (leb k 0) (there (result T out w k)) missing
   unfolding result
   made-fresh w zero = refl
   made-fresh w (suc k) = rw (ne-eqb (suc k) 0 (λ e. omega arith), lt-leb (suc k) 0 (omega arith))
 
+  -- a task that runs adds its output
   made-whole : (s : Moment Val) (t : ℕ) → Made s → Made (whole T out t s)
   unfolding whole result
   made-whole s t D w k = go (ℕ-discrete t w)
@@ -160,9 +170,11 @@ module _ {Val : Type 0} (T : Table Val) (out : ℕ → ℕ → Val) where
             go true e = rw (O .all u (K .0 u e), D .arrived u, D .runs u)
             go false e = rw (D .arrived u, D .runs u)
 
+  -- an output is not nothing
   there-there : (v : Val) → there v ≡ missing → ⊥
   there-there v e = let z : _≡_ {A = ℕ} 0 1 = cc in omega arith
 
+  -- the closed form has outputs only: the reads of a task
   there-reads : (ms : List ℕ) (t : ℕ) (es : List (Entry Val)) → AllThere es → (n : ℕ) → AllThere (closed-reads T out ms t n es)
   unfolding closed-reads AllThere
   there-reads ms t es G zero = G
@@ -172,6 +184,7 @@ module _ {Val : Type 0} (T : Table Val) (out : ℕ → ℕ → Val) where
       go true i = (there-there _, i)
       go false i = i
 
+  -- of a set
   there-work : (ms : List ℕ) (m : ℕ) (ts : List ℕ) (es : List (Entry Val)) → AllThere es → AllThere (closed-work T out ms m ts es)
   unfolding closed-work
   there-work ms m [] es G = G
@@ -181,6 +194,7 @@ module _ {Val : Type 0} (T : Table Val) (out : ℕ → ℕ → Val) where
       go true = there-reads ms t es G (T .links)
       go false = G
 
+  -- of all sets
   there-closed : (order ms : List ℕ) → AllThere (closed T out order ms)
   unfolding closed AllThere
   there-closed order [] = tt

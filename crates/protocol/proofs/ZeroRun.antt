@@ -34,10 +34,12 @@ theres-same {Val} xs ys e = sym (back xs) ∙ ap values e ∙ back ys
     back [] = refl
     back (v ∷ vs) = ap (λ us. v ∷ us) (back vs)
 
+-- both ways the same
 either-way : {A : Type 0} (b : Bool) (x : A) → cond b x x ≡ x
 either-way true x = refl
 either-way false x = refl
 
+-- a tick never takes away
 tick-le : (b : Bool) (n : ℕ) → n ≤ tick b n
 tick-le true n = let q : n ≤ suc n = omega arith in q
 tick-le false n = let q : n ≤ n = omega arith in q
@@ -48,6 +50,7 @@ pub data Goes {Val : Type 0} : List (Event Val) → List (Event Val) → Type 0 
   more : {h H : List (Event Val)} (e : Event Val) → Goes h H → Goes h (e ∷ H)
 
 module _ {Val : Type 0} where
+  -- what goes on from an event goes on from before it
   onward : {h H : List (Event Val)} (e : Event Val) → Goes (e ∷ h) H → Goes h H
   onward e same = more e same
   onward e (more f g) = more f (onward e g)
@@ -61,7 +64,7 @@ module _ {Val : Type 0} where
   arrivals-seen (read l ∷ h) t = arrivals-seen h t
   arrivals-seen (finish u v ∷ h) t = arrivals-seen h t
 
-  -- counts never fall
+  -- arrivals never fall
   arrivals-one : (e : Event Val) (h : List (Event Val)) (t : ℕ) → arrivals h t ≤ arrivals (e ∷ h) t
   unfolding arrivals
   arrivals-one (arrival m) h t = tick-le (has m t) (arrivals h t)
@@ -69,10 +72,12 @@ module _ {Val : Type 0} where
   arrivals-one (read k) h t = omega arith
   arrivals-one (finish u v) h t = omega arith
 
+  -- over many events
   arrivals-more : {h H : List (Event Val)} (t : ℕ) → Goes h H → arrivals h t ≤ arrivals H t
   arrivals-more t same = omega arith
   arrivals-more t (more {H = H} e g) = omega (arith, arrivals-more t g, arrivals-one e H t)
 
+  -- finishes never fall
   finishes-one : (e : Event Val) (h : List (Event Val)) (w : ℕ) → finishes h w ≤ finishes (e ∷ h) w
   unfolding finishes
   finishes-one (arrival m) h w = omega arith
@@ -80,6 +85,7 @@ module _ {Val : Type 0} where
   finishes-one (read l) h w = omega arith
   finishes-one (finish u v) h w = tick-le (eqb u w) (finishes h w)
 
+  -- over many events
   finishes-more : {h H : List (Event Val)} (w : ℕ) → Goes h H → finishes h w ≤ finishes H w
   finishes-more w same = omega arith
   finishes-more w (more {H = H} e g) = omega (arith, finishes-more w g, finishes-one e H w)
@@ -92,6 +98,7 @@ module _ {Val : Type 0} where
   output-one (read l) d h w k q = refl
   output-one (finish u v) d h w k q = rw (ne-eqb k (suc (finishes h w)) (λ e. omega arith)) (either-way (eqb u w) (output d h w k))
 
+  -- over many events
   output-more : {h H : List (Event Val)} (d : Val) (w k : ℕ) → k ≤ finishes h w → Goes h H → output d H w k ≡ output d h w k
   output-more d w k q same = refl
   output-more d w k q (more {H = H} e g) = output-one e d H w k (omega (arith, finishes-more w g)) ∙ output-more d w k q g
@@ -107,6 +114,7 @@ module _ {Val : Type 0} (T : Table Val) where
   abbrev outputs : List (Event Val) → ℕ → ℕ → Val
   outputs H w k = output (T .default w) H w k
 
+  -- the closed form's outputs are the history's
   result-output : (H : List (Event Val)) (w k : ℕ) → result T (outputs H) w k ≡ output (T .default w) H w k
   unfolding result
   result-output H w zero = sym (output-zero (T .default w) H w)
@@ -131,6 +139,7 @@ module _ {Val : Type 0} (T : Table Val) where
     find-one (read k) h l j q = refl
     find-one (finish u v) h l j q = refl
 
+    -- over many events
     find-more : {h H : List (Event Val)} (l : ℕ) → Goes h H
         → find l (arrivals h (T .reader l)) (closed T out order (sets H)) ≡ find l (arrivals h (T .reader l)) (closed T out order (sets h))
     find-more l same = refl
@@ -140,6 +149,7 @@ module _ {Val : Type 0} (T : Table Val) where
     abbrev Last : List (Event Val) → ℕ → Type 0
     Last h l = find l (arrivals h (T .reader l)) (closed T out order (sets h)) ≡ there (result T out (T .writer l) (wanted T h l))
 
+    -- it is the output wanted
     last-read : Order T order → (h : List (Event Val)) (l : ℕ) → Known (T .tasks) (sets h) → l < T .links → 0 < arrivals h (T .reader l) → Last h l
     unfolding sets arrivals upTo Known
     last-read O [] l K q a = absurd (omega arith)
@@ -184,12 +194,13 @@ module _ {Val : Type 0} (T : Table Val) (may : Policy Val) (L : Lawful T) (F : F
       ∙ ap there (result-output T H (T .writer l) (wanted T h l)
       ∙ output-more (T .default (T .writer l)) (T .writer l) (wanted T h l) (finished-then h l (P .1) q turn) g))
 
+  -- the reads of a part of the history, in the run of all of it
   ideals-part : {H : List (Event Val)} (h : List (Event Val)) → AllPossible T may h → Goes h H → AllPossible T may H → theres (ideals T h) ≡ looked T (zeroRun T order H) h
   unfolding ideals theres looked AllPossible
   ideals-part [] P g Q = refl
   ideals-part (arrival m ∷ h) P g Q = ideals-part h (P .1) (onward (arrival m) g) Q
   ideals-part (start t ∷ h) P g Q = ideals-part h (P .1) (onward (start t) g) Q
-  ideals-part (read l ∷ h) P g Q = rw (read-ideal h l P (onward (read l) g) Q, ideals-part h (P .1) (onward (read l) g) Q)
+  ideals-part (read l ∷ h) P g Q = cc (read-ideal h l P (onward (read l) g) Q, ideals-part h (P .1) (onward (read l) g) Q)
   ideals-part (finish t v ∷ h) P g Q = ideals-part h (P .1) (onward (finish t v) g) Q
 
   -- the closed form gives what is read in the run where tasks take no time
