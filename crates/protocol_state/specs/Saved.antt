@@ -74,11 +74,11 @@ table ahead q = record {
 abbrev pub isPosition : ℕ → Bool
 isPosition p = leb 1 p && leb p positions
 
--- its boxes; what is no position holds the default
+-- its boxes; past the lists all is as in fresh boxes, and what is no position holds the default
 abbrev pub boxes : Saved → Boxes ℕ
 boxes q = record {
-  newest = at (q .newest);
-  previous = at (q .previous);
+  newest = λ t. getD (q .newest) t 1;
+  previous = λ t. getD (q .previous) t 1;
   pointer = at (q .pointer);
   cell = λ t p. cond (isPosition p) (at (q .cells) (cellOf t p)) (at (q .defaults) t);
 }

@@ -1,0 +1,123 @@
+-- Whatever events are given, one after the other, to the fresh state of a table: the state stays sound, its boxes are a run of the published
+-- protocol over the accepted events, and each refusal and each number is what the table and the history say.
+-- Assumes nothing.
+use mathlib.Core.Path.{_≡_, refl, sym, ap, subst, _∙_}
+use mathlib.Core.Logic.{_≢_, inl, inr}
+use mathlib.Core.Bool.{Bool, true, false}
+use mathlib.Core.List.{List, [], _∷_}
+use Prim.Native.Nat.{ℕ}
+use borrow.Author.Tests.{ne-eqb}
+use lib.Dec.{eqb}
+use Rattle.protocol.specs.Event.{Event, arrival, start, read, finish}
+use Rattle.protocol.specs.Table.{Table}
+use Rattle.protocol.specs.Schedule.{urgent, Possible, judged}
+use Rattle.protocol.specs.Published.{Lowest, Step, Run, number}
+use Rattle.protocol.specs.Published as published
+use Rattle.protocol.proofs.Schedule.{judged-possible}
+use Rattle.protocol.proofs.Theorem.{numbers}
+use Rattle.protocol_state.specs.Saved.{Size, Saved, Shape, at, table, boxes}
+use Rattle.protocol_state.specs.Rules.{judgedTable}
+use Rattle.protocol_state.specs.Judge.{judgedOn}
+use Rattle.protocol_state.specs.Next.{next, valueOf}
+use Rattle.protocol_state.specs.Sound.{isSound, Sound}
+use Rattle.protocol_state.specs.Fresh.{freshOf}
+use Rattle.protocol_state.specs.Give.{Reply, reply, note, Outcome, begin, give, after, replay}
+use Rattle.protocol_state.proofs.Sound.{says-sound}
+use Rattle.protocol_state.proofs.Keeps.{table-same, next-shape, next-sound}
+use Rattle.protocol_state.proofs.Give.{Ways, give-ways, give-refusal, done}
+use Rattle.protocol_state.proofs.Steps.{step, number-read}
+use Rattle.protocol_state.proofs.Phases.{Agrees, agrees-next, judged-by-history}
+use Rattle.protocol_state.proofs.Freshes as freshes
+
+-- what holds of an outcome that the state q₀ came to
+pub record Reached (ahead : ℕ → ℕ → Bool) (size : Size) (q₀ : Saved) (o : Outcome) : Type 0 where
+  pub shape : Shape size (o .state)
+  pub sound : Sound ahead size (o .state)
+  pub same : table ahead (o .state) ≡ table ahead q₀
+  pub agrees : Agrees (o .history) (o .state)
+  pub run : Run (table ahead q₀) (urgent (table ahead q₀)) (Lowest (table ahead q₀)) (boxes (o .state)) (o .history)
+  pub read : o .numbers ≡ numbers (table ahead q₀) (urgent (table ahead q₀)) run
+
+module _ {ahead : ℕ → ℕ → Bool} {size : Size} {q₀ : Saved} {o : Outcome} (r : Reached ahead size q₀ o) where
+  -- the state passes the test, so 19 never comes up
+  pub reached-sound : isSound ahead size (o .state) ≡ true
+  reached-sound = says-sound ahead size (o .state) (r .sound)
+
+  judged-history : (e : Event ℕ) → judgedOn ahead (o .state) e ≡ judged (table ahead q₀) (urgent (table ahead q₀)) (o .history) e
+  judged-history e =
+      judged-by-history (o .state) (r .sound) (o .history) (r .agrees) e ∙ ap (λ (T : Table ℕ). judged T (urgent T) (o .history) e) (r .same)
+
+  -- the refusal of the next event is what the table and the history say
+  pub reached-refusal : (e : Event ℕ) → give ahead size (o .state) e .refusal ≡ judged (table ahead q₀) (urgent (table ahead q₀)) (o .history) e
+  reached-refusal e = give-refusal ahead size (o .state) e reached-sound ∙ judged-history e
+
+  value-read : (l : ℕ) → judgedOn ahead (o .state) (read l) ≡ 0 → valueOf (o .state) (read l) ≡ number (table ahead q₀) (boxes (o .state)) l
+  value-read l ok = number-read (o .state) (r .shape) (r .sound) l ok ∙ ap (λ (T : Table ℕ). number T (boxes (o .state)) l) (r .same)
+
+  -- the value of a read that is not refused is the number of the published protocol
+  pub reached-number : (l : ℕ) → give ahead size (o .state) (read l) .refusal ≡ 0 → give ahead size (o .state) (read l) .value ≡ number (table ahead q₀) (boxes (o .state)) l
+  reached-number l z =
+      let ok : judgedOn ahead (o .state) (read l) ≡ 0 = sym (give-refusal ahead size (o .state) (read l) reached-sound) ∙ z in
+      ap (λ (a : Reply). a .value) (done (judgedOn ahead (o .state) (read l)) (o .state) (next ahead (o .state) (read l)) (valueOf (o .state) (read l)) reached-sound ok)
+      ∙ value-read l ok
+
+  -- the numbers of a run that is one event longer
+  noted : (e : Event ℕ) → judgedOn ahead (o .state) e ≡ 0 → (p : Possible (table ahead q₀) (urgent (table ahead q₀)) (o .history) e)
+      (t : Step (table ahead q₀) (Lowest (table ahead q₀)) e (boxes (o .state)) (boxes (next ahead (o .state) e)))
+      → note e (valueOf (o .state) e) (o .numbers) ≡ numbers (table ahead q₀) (urgent (table ahead q₀)) (published.next e (r .run) p t)
+  unfolding numbers
+  noted (arrival m) ok p t = r .read
+  noted (start u) ok p t = r .read
+  noted (read l) ok p t = rw (value-read l ok, r .read)
+  noted (finish u v) ok p t = r .read
+
+after-done : (ahead : ℕ → ℕ → Bool) (size : Size) (o : Outcome) (e : Event ℕ) (q : Saved) (v : ℕ) → give ahead size (o .state) e ≡ reply q 0 v
+    → after ahead size o e ≡ record { state = q; history = e ∷ o .history; numbers = note e v (o .numbers) }
+unfolding after
+after-done ahead size o e q v i = rw i
+
+after-refused : (ahead : ℕ → ℕ → Bool) (size : Size) (o : Outcome) (e : Event ℕ) → give ahead size (o .state) e .refusal ≢ 0 → after ahead size o e ≡ o
+unfolding after
+after-refused ahead size o e n =
+    let z : eqb (give ahead size (o .state) e .refusal) 0 ≡ false = ne-eqb _ 0 n in
+    rw z
+
+-- one event more
+pub reached-after : {ahead : ℕ → ℕ → Bool} {size : Size} {q₀ : Saved} {o : Outcome} → Reached ahead size q₀ o → (e : Event ℕ) → Reached ahead size q₀ (after ahead size o e)
+reached-after {ahead} {size} {q₀} {o} r e = go (give-ways ahead size (o .state) e) where
+  go : Ways (isSound ahead size (o .state)) (judgedOn ahead (o .state) e) (o .state) (next ahead (o .state) e) (valueOf (o .state) e) (give ahead size (o .state) e)
+      → Reached ahead size q₀ (after ahead size o e)
+  go (inr w) = rw (after-refused ahead size o e (w .1)) r
+  go (inl w) =
+      let p : Possible (table ahead q₀) (urgent (table ahead q₀)) (o .history) e =
+      judged-possible (table ahead q₀) (urgent (table ahead q₀)) (o .history) e (sym (judged-history r e) ∙ w .1) in
+      let t : Step (table ahead q₀) (Lowest (table ahead q₀)) e (boxes (o .state)) (boxes (next ahead (o .state) e)) =
+      subst (λ (T : Table ℕ). Step T (Lowest T) e (boxes (o .state)) (boxes (next ahead (o .state) e))) (r .same) (step (o .state) (r .shape) (r .sound) e (w .1)) in
+      rw (after-done ahead size o e (next ahead (o .state) e) (valueOf (o .state) e) (w .2))
+      (record {
+        shape = next-shape ahead (r .shape) e;
+        sound = next-sound (r .shape) (r .sound) e (w .1);
+        same = table-same ahead (o .state) e ∙ r .same;
+        agrees = agrees-next (r .shape) (r .sound) (o .history) (r .agrees) e (w .1);
+        run = published.next e (r .run) p t;
+        read = noted r e (w .1) p t;
+      })
+
+-- any number of events more
+pub reached-replay : {ahead : ℕ → ℕ → Bool} {size : Size} {q₀ : Saved} (es : List (Event ℕ)) {o : Outcome} → Reached ahead size q₀ o → Reached ahead size q₀ (replay ahead size o es)
+unfolding replay
+reached-replay [] r = r
+reached-replay (e ∷ es) r = reached-replay es (reached-after r e)
+
+-- whatever events are given to the fresh state of a table that earns no refusal
+pub reached : (ahead : ℕ → ℕ → Bool) (size : Size) (T L : ℕ) (D W R K : List ℕ) → judgedTable ahead T (at W) (at R) (at K) size L ≡ 0 → (es : List (Event ℕ))
+    → Reached ahead size (freshOf size T L D W R K) (replay ahead size (begin (freshOf size T L D W R K)) es)
+unfolding numbers
+reached ahead size T L D W R K ok es = reached-replay es (record {
+  shape = freshes.fresh-shape size T L D W R K;
+  sound = freshes.fresh-sound size T L D W R K ahead ok;
+  same = refl;
+  agrees = freshes.fresh-agrees size T L D W R K;
+  run = published.fresh (freshes.fresh-boxes size T L D W R K ahead);
+  read = refl;
+})

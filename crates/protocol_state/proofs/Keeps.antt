@@ -1,0 +1,251 @@
+-- Each allowed event keeps a sound state sound, of its shape, and of its table.
+-- Assumes nothing.
+use mathlib.Core.Path.{_≡_, refl, sym, _∙_}
+use mathlib.Core.Bool.{Bool, true, false, cond, _&&_}
+use Prim.Native.Nat.{ℕ, _+_, _^_, _≤_, _<_}
+use native.Mathlib.Omega.{arith}
+use native.Mathlib.Decide.{ℕ-discrete}
+use borrow.Author.Tests.{eq-eqb, ne-eqb, lt-ltb}
+use lib.Dec.{eqb}
+use lib.ListN.{set, length-set}
+use lib.Seq.{getD-set-same, getD-set-other}
+use Rattle.lists.proofs.Lists.{length-upto}
+use Rattle.protocol.specs.Event.{Event, arrival, start, read, finish, has}
+use Rattle.protocol.specs.Published.{leaves}
+use Rattle.protocol.proofs.Schedule.{has-below}
+use Rattle.protocol_state.specs.Saved.{Size, Saved, Shape, at, delayedKind, table}
+use Rattle.protocol_state.specs.Rules.{Obeys}
+use Rattle.protocol_state.specs.Decision.{decided}
+use Rattle.protocol_state.specs.Judge.{judgedArrival, judgedTask, judgedOn}
+use Rattle.protocol_state.specs.Next.{previousAt, pointerAt, phaseAt, newestAt, freedAt, newestAfter, previousAfter, pointerAfter, phaseAfter, arrived, started, finished, next}
+use Rattle.protocol_state.specs.Sound.{behindsOf, Position, Sound}
+use Rattle.protocol_state.proofs.Decision.{arrives-idle, starts-waiting, finishes-running}
+use Rattle.protocol_state.proofs.Places.{changed, arrival-allowed, task-allowed}
+use Rattle.protocol_state.proofs.Rules as rules
+use Rattle.protocol_state.proofs.Free.{lowestAt, lowest-position}
+use Rattle.protocol_state.proofs.Arrivals.{newest-at, previous-at, phase-at, aim, pointer-at}
+
+-- no event changes the table
+pub table-same : (ahead : ℕ → ℕ → Bool) (q : Saved) (e : Event ℕ) → table ahead (next ahead q e) ≡ table ahead q
+table-same ahead q (arrival s) = refl
+table-same ahead q (start t) = refl
+table-same ahead q (read l) = refl
+table-same ahead q (finish t v) = refl
+
+-- nor the lengths of the lists
+pub next-shape : (ahead : ℕ → ℕ → Bool) {size : Size} {q : Saved} → Shape size q → (e : Event ℕ) → Shape size (next ahead q e)
+unfolding newestAfter previousAfter pointerAfter phaseAfter
+next-shape ahead {size} {q} S (arrival s) = record {
+  defaults = S .defaults;
+  phase = length-upto (phaseAt s) (q .tasks) (q .phase) ∙ S .phase;
+  newest = length-upto (newestAt ahead s (at (q .writer)) (at (q .reader)) (at (q .pointer)) (q .links)) (q .tasks) (q .newest) ∙ S .newest;
+  previous = length-upto (previousAt s (at (q .newest))) (q .tasks) (q .previous) ∙ S .previous;
+  cells = S .cells;
+  writer = S .writer;
+  reader = S .reader;
+  kind = S .kind;
+  pointer = length-upto (pointerAt s (at (q .writer)) (at (q .reader)) (at (q .kind)) (at (newestAfter ahead s q)) (at (previousAfter ahead s q))) (q .links) (q .pointer) ∙ S .pointer;
+}
+next-shape ahead {size} {q} S (start t) = record {
+  defaults = S .defaults;
+  phase = rw length-set (S .phase);
+  newest = S .newest;
+  previous = S .previous;
+  cells = S .cells;
+  writer = S .writer;
+  reader = S .reader;
+  kind = S .kind;
+  pointer = S .pointer;
+}
+next-shape ahead S (read l) = S
+next-shape ahead {size} {q} S (finish t v) = record {
+  defaults = S .defaults;
+  phase = rw length-set (S .phase);
+  newest = S .newest;
+  previous = S .previous;
+  cells = rw length-set (S .cells);
+  writer = S .writer;
+  reader = S .reader;
+  kind = S .kind;
+  pointer = length-upto (freedAt ahead t (at (q .writer)) (at (q .reader))) (q .links) (q .pointer) ∙ S .pointer;
+}
+
+module _ {ahead : ℕ → ℕ → Bool} {size : Size} (q : Saved) (G : Sound ahead size q) where
+  -- each link of a sound state obeys the rules
+  pub obeys : (l : ℕ) → l < q .links → Obeys ahead (q .tasks) (at (q .writer)) (at (q .reader)) (at (q .kind)) l
+  obeys = rules.obeyed ahead (q .tasks) (at (q .writer)) (at (q .reader)) (at (q .kind)) size (q .links) (G .rules)
+
+  -- its counts fit
+  pub counts : (1 ≤ q .tasks) × (q .tasks ≤ size .tasks) × (q .links ≤ size .links)
+  counts = rules.counts ahead (q .tasks) (at (q .writer)) (at (q .reader)) (at (q .kind)) size (q .links) (G .rules)
+
+  -- and no task has more than 8 links to readers behind
+  pub few : (t : ℕ) → behindsOf ahead q t ≤ 8
+  few = rules.few ahead (q .tasks) (at (q .writer)) (at (q .reader)) (at (q .kind)) size (q .links) (G .rules)
+
+  module _ (S : Shape size q) where
+    -- ---- an arrival
+    module _ (s : ℕ) (ok : judgedArrival s (q .tasks) (at (q .phase)) ≡ 0) where
+      -- the set is one of the table's tasks
+      pub small : s < 2 ^ (q .tasks)
+      small = arrival-allowed s (q .tasks) (at (q .phase)) ok .0
+
+      -- who arrives was idle, and waits now
+      pub were-idle : (t : ℕ) → has s t ≡ true → (at (q .phase) t ≡ 0) × (at (phaseAfter ahead s q) t ≡ 1)
+      were-idle t e =
+          let k : t < q .tasks = has-below s (q .tasks) t small e in
+          let i = arrives-idle (at (q .phase) t) (G .phase t k) (arrival-allowed s (q .tasks) (at (q .phase)) ok .1 t k e) in
+          (i .0, phase-at ahead q S s small (counts .1) t ∙ rw e (i .1))
+
+      -- the others are in the phase that they were in
+      pub phase-kept : (t : ℕ) → has s t ≡ false → at (phaseAfter ahead s q) t ≡ at (q .phase) t
+      phase-kept t e = phase-at ahead q S s small (counts .1) t ∙ rw e
+
+      newest-good : (t : ℕ) → t < q .tasks → Position ahead q t (at (newestAfter ahead s q) t)
+      newest-good t l = rw (newest-at ahead q S s small (counts .1) t 0) (go (has s t)) where
+        go : (b : Bool) → Position ahead q t (cond b (lowestAt ahead q t (at (q .newest) t)) (at (q .newest) t))
+        go true = lowest-position ahead q t (at (q .newest) t) (few t)
+        go false = G .newest t l
+
+      previous-good : (t : ℕ) → t < q .tasks → Position ahead q t (at (previousAfter ahead s q) t)
+      previous-good t l = rw (previous-at ahead q S s small (counts .1) t 0) (go (has s t)) where
+        go : (b : Bool) → Position ahead q t (cond b (at (q .newest) t) (at (q .previous) t))
+        go true = G .newest t l
+        go false = G .previous t l
+
+      phase-good : (t : ℕ) → t < q .tasks → at (phaseAfter ahead s q) t < 3
+      phase-good t l = go (has s t) refl where
+        go : (b : Bool) → has s t ≡ b → at (phaseAfter ahead s q) t < 3
+        go true e = omega (arith, were-idle t e .1)
+        go false e = rw (phase-kept t e) (G .phase t l)
+
+      aim-good : (l : ℕ) → l < q .links → Position ahead q (at (q .writer) l) (aim ahead s q l)
+      aim-good l h = go (delayedKind (at (q .kind) l)) where
+        go : (b : Bool) → Position ahead q (at (q .writer) l) (cond b (at (previousAfter ahead s q) (at (q .writer) l)) (at (newestAfter ahead s q) (at (q .writer) l)))
+        go true = previous-good (at (q .writer) l) (obeys l h .writer)
+        go false = newest-good (at (q .writer) l) (obeys l h .writer)
+
+      aimed : (l : ℕ) → l < q .links → has s (at (q .reader) l) ≡ true → at (pointerAfter ahead s q) l ≡ aim ahead s q l
+      aimed l h e = pointer-at ahead q S s (counts .2) l ∙ rw (lt-ltb l (q .links) h, e)
+
+      stays : (l : ℕ) → l < q .links → has s (at (q .reader) l) ≡ false → at (pointerAfter ahead s q) l ≡ at (q .pointer) l
+      stays l h e = pointer-at ahead q S s (counts .2) l ∙ rw (lt-ltb l (q .links) h, e)
+
+      arrived-sound : Sound ahead size (arrived ahead s q)
+      arrived-sound = record {
+        rules = G .rules;
+        phase = phase-good;
+        newest = newest-good;
+        previous = previous-good;
+        pointer = λ l h. pointer l h (has s (at (q .reader) l)) refl;
+        present = λ l h n. present l h (has s (at (q .reader) l)) refl n;
+        absent = λ l h a z. absent l h (has s (at (q .reader) l)) refl a z;
+      }
+        where
+          pointer : (l : ℕ) → l < q .links → (b : Bool) → has s (at (q .reader) l) ≡ b → at (pointerAfter ahead s q) l ≤ behindsOf ahead q (at (q .writer) l) + 2
+          pointer l h true e = rw (aimed l h e) (aim-good l h .1)
+          pointer l h false e = rw (stays l h e) (G .pointer l h)
+
+          present : (l : ℕ) → l < q .links → (b : Bool) → has s (at (q .reader) l) ≡ b → (at (phaseAfter ahead s q) (at (q .reader) l) ≡ 0 → ⊥) → 1 ≤ at (pointerAfter ahead s q) l
+          present l h true e n = rw (aimed l h e) (aim-good l h .0)
+          present l h false e n = rw (stays l h e) (G .present l h (λ z. n (phase-kept (at (q .reader) l) e ∙ z)))
+
+          absent : (l : ℕ) → l < q .links → (b : Bool) → has s (at (q .reader) l) ≡ b → ahead (at (q .writer) l) (at (q .reader) l) ≡ true
+              → at (phaseAfter ahead s q) (at (q .reader) l) ≡ 0 → at (pointerAfter ahead s q) l ≡ 0
+          absent l h true e a z = absurd (omega (arith, were-idle (at (q .reader) l) e .1))
+          absent l h false e a z = stays l h e ∙ G .absent l h a (sym (phase-kept (at (q .reader) l) e) ∙ z)
+
+    -- ---- task t comes to phase y
+    module _ (t y : ℕ) (l : t < q .tasks) where
+      phase-same : at (set (q .phase) t y) t ≡ y
+      phase-same = getD-set-same (q .phase) t y 0 (omega (arith, S .phase, counts .1))
+
+      phases-good : y < 3 → (u : ℕ) → u < q .tasks → at (set (q .phase) t y) u < 3
+      phases-good h u k = go (ℕ-discrete u t) where
+        go : Dec (u ≡ t) → at (set (q .phase) t y) u < 3
+        go (yes e) = rw (e, phase-same) h
+        go (no e) = rw (getD-set-other (q .phase) t u y 0 e) (G .phase u k)
+
+    -- ---- a start
+    module _ (t : ℕ) (ok : judgedTask ahead 1 t (q .tasks) (at (q .phase)) ≡ 0) where
+      start-known : t < q .tasks
+      start-known = task-allowed ahead 1 t (q .tasks) (at (q .phase)) ok .0
+
+      decided-start : (at (q .phase) t ≡ 1) × (decided 1 (at (q .phase) t) ≡ 2)
+      decided-start = starts-waiting (at (q .phase) t) (G .phase t start-known) (task-allowed ahead 1 t (q .tasks) (at (q .phase)) ok .1)
+
+      -- who starts waited, and runs now
+      pub was-waiting : (at (q .phase) t ≡ 1) × (at (started ahead t q .phase) t ≡ 2)
+      was-waiting = (decided-start .0, phase-same t _ start-known ∙ decided-start .1)
+
+      started-sound : Sound ahead size (started ahead t q)
+      started-sound = record {
+        rules = G .rules;
+        phase = phases-good t (decided 1 (at (q .phase) t)) start-known (omega (arith, decided-start .1));
+        newest = G .newest;
+        previous = G .previous;
+        pointer = G .pointer;
+        present = λ l h n. present l h (ℕ-discrete (at (q .reader) l) t) n;
+        absent = λ l h a z. absent l h (ℕ-discrete (at (q .reader) l) t) a z;
+      }
+        where
+          present : (l : ℕ) → l < q .links → Dec (at (q .reader) l ≡ t) → (at (started ahead t q .phase) (at (q .reader) l) ≡ 0 → ⊥) → 1 ≤ at (q .pointer) l
+          present l h (yes e) n = G .present l h (rw e (λ z. omega (arith, was-waiting .0)))
+          present l h (no e) n = G .present l h (λ z. n (getD-set-other (q .phase) t (at (q .reader) l) _ 0 e ∙ z))
+
+          absent : (l : ℕ) → l < q .links → Dec (at (q .reader) l ≡ t) → ahead (at (q .writer) l) (at (q .reader) l) ≡ true
+              → at (started ahead t q .phase) (at (q .reader) l) ≡ 0 → at (q .pointer) l ≡ 0
+          absent l h (yes e) a z = absurd (omega (arith, was-waiting .1, rw e at z))
+          absent l h (no e) a z = G .absent l h a (sym (getD-set-other (q .phase) t (at (q .reader) l) _ 0 e) ∙ z)
+
+    -- ---- a finish
+    module _ (t v : ℕ) where
+      -- the pointers by which t reads from writers ahead become absent, and no other
+      pub freed-at : (l : ℕ) → at (finished ahead t v q .pointer) l ≡ cond (leaves (table ahead q) t l) 0 (at (q .pointer) l)
+      freed-at l = changed (λ i. eqb (at (q .reader) i) t && ahead (at (q .writer) i) t) (λ i x. 0) (q .links) (q .pointer) (omega (arith, S .pointer, counts .2)) l 0
+
+      others-stay : (l : ℕ) → l < q .links → (at (q .reader) l ≡ t → ⊥) → at (finished ahead t v q .pointer) l ≡ at (q .pointer) l
+      others-stay l h n = freed-at l ∙ rw (lt-ltb l (q .links) h, ne-eqb (at (q .reader) l) t n)
+
+      module _ (ok : judgedTask ahead 3 t (q .tasks) (at (q .phase)) ≡ 0) where
+        -- the task is one of the table's
+        pub finish-known : t < q .tasks
+        finish-known = task-allowed ahead 3 t (q .tasks) (at (q .phase)) ok .0
+
+        decided-finish : (at (q .phase) t ≡ 2) × (decided 3 (at (q .phase) t) ≡ 0)
+        decided-finish = finishes-running (at (q .phase) t) (G .phase t finish-known) (task-allowed ahead 3 t (q .tasks) (at (q .phase)) ok .1)
+
+        -- who finishes ran, and is idle now
+        pub was-running : (at (q .phase) t ≡ 2) × (at (finished ahead t v q .phase) t ≡ 0)
+        was-running = (decided-finish .0, phase-same t _ finish-known ∙ decided-finish .1)
+
+        finished-sound : Sound ahead size (finished ahead t v q)
+        finished-sound = record {
+          rules = G .rules;
+          phase = phases-good t (decided 3 (at (q .phase) t)) finish-known (omega (arith, decided-finish .1));
+          newest = G .newest;
+          previous = G .previous;
+          pointer = λ l h. rw (freed-at l) (pointer l h (leaves (table ahead q) t l));
+          present = λ l h n. present l h (ℕ-discrete (at (q .reader) l) t) n;
+          absent = λ l h a z. absent l h (ℕ-discrete (at (q .reader) l) t) a z;
+        }
+          where
+            pointer : (l : ℕ) → l < q .links → (b : Bool) → cond b 0 (at (q .pointer) l) ≤ behindsOf ahead q (at (q .writer) l) + 2
+            pointer l h true = omega arith
+            pointer l h false = G .pointer l h
+
+            present : (l : ℕ) → l < q .links → Dec (at (q .reader) l ≡ t) → (at (finished ahead t v q .phase) (at (q .reader) l) ≡ 0 → ⊥) → 1 ≤ at (finished ahead t v q .pointer) l
+            present l h (yes e) n = absurd (n (rw e (was-running .1)))
+            present l h (no e) n = rw (others-stay l h e) (G .present l h (λ z. n (getD-set-other (q .phase) t (at (q .reader) l) _ 0 e ∙ z)))
+
+            absent : (l : ℕ) → l < q .links → Dec (at (q .reader) l ≡ t) → ahead (at (q .writer) l) (at (q .reader) l) ≡ true
+                → at (finished ahead t v q .phase) (at (q .reader) l) ≡ 0 → at (finished ahead t v q .pointer) l ≡ 0
+            absent l h (yes e) a z = freed-at l ∙ rw (lt-ltb l (q .links) h, eq-eqb (at (q .reader) l) t e, rw e at a)
+            absent l h (no e) a z = others-stay l h e ∙ G .absent l h a (sym (getD-set-other (q .phase) t (at (q .reader) l) _ 0 e) ∙ z)
+
+-- what is sound stays sound
+pub next-sound : {ahead : ℕ → ℕ → Bool} {size : Size} {q : Saved} → Shape size q → Sound ahead size q → (e : Event ℕ) → judgedOn ahead q e ≡ 0 → Sound ahead size (next ahead q e)
+next-sound {q = q} S G (arrival s) ok = arrived-sound q G S s ok
+next-sound {q = q} S G (start t) ok = started-sound q G S t ok
+next-sound S G (read l) ok = G
+next-sound {q = q} S G (finish t v) ok = finished-sound q G S t v ok
