@@ -10,7 +10,7 @@ use native.Mathlib.Decide.{ℕ-discrete, decLe}
 use borrow.Author.Tests.{ltb-true, ltb-false, eqb-false, ne-eqb, leb-false, lt-leb, not-true}
 use lib.Dec.{eqb, leb, lit<}
 use Rattle.lists.specs.Lists.{some}
-use Rattle.lists.proofs.Bools.{or-left, or-right, and-not, and-if}
+use Rattle.lists.proofs.Bools.{or-left, or-right, and-not, and-if, cond-zero, else-zero}
 use Rattle.lists.proofs.Lists.{some-not, some-of-none}
 use Rattle.protocol.specs.Event.{Event, arrival, start, read, finish, has}
 use Rattle.protocol.specs.Table.{Table}
@@ -28,16 +28,6 @@ has-below m n t h e = go (decLe n t)
     go (yes q) = absurd (true≢false (sym e ∙ rw (div-eq-of-lt (lt-of-lt-of-le h (pow-le-pow-right (lit< tt) q)))))
     go (no q) = omega arith
 
--- a refusal k in front, and then x
-refusal-first : (b : Bool) (k x : ℕ) → (k ≡ 0 → ⊥) → cond b k x ≡ 0 → (b ≡ false) × (x ≡ 0)
-refusal-first true k x n e = absurd (n e)
-refusal-first false k x n e = (refl, e)
-
--- x, or else the refusal k
-refusal-else : (b : Bool) (k x : ℕ) → (k ≡ 0 → ⊥) → cond b x k ≡ 0 → (b ≡ true) × (x ≡ 0)
-refusal-else true k x n e = (refl, e)
-refusal-else false k x n e = absurd (n e)
-
 module _ {Val : Type 0} (T : Table Val) where
   -- fixed priorities let a task run in its turn only
   pub urgent-fair : Fair T (urgent T)
@@ -48,16 +38,16 @@ module _ {Val : Type 0} (T : Table Val) where
     -- in turn: a task of the table, in the phase p that is asked, which may run
     in-turn : (n t k : ℕ) (p b : Bool) → (k ≡ 0 → ⊥) → cond (leb n t) 12 (cond p (cond b 0 16) k) ≡ 0 → (t < n) × (p ≡ true) × (b ≡ true)
     in-turn n t k p b z e =
-        let known = refusal-first (leb n t) 12 _ (λ y. omega arith) e in
-        let phase = refusal-else p k _ z (known .1) in
-        (leb-false n t (known .0), phase .0, refusal-else b 16 0 (λ y. omega arith) (phase .1) .0)
+        let known = cond-zero (leb n t) 12 _ (λ y. omega arith) e in
+        let phase = else-zero p k _ z (known .1) in
+        (leb-false n t (known .0), phase .0, else-zero b 16 0 (λ y. omega arith) (phase .1) .0)
 
     -- judged 0 only if it could happen
     pub judged-possible : (h : List (Event Val)) (e : Event Val) → judged T may h e ≡ 0 → Possible T may h e
     unfolding judged Possible
     judged-possible h (arrival m) e =
-        let known = refusal-first (eqb m 0 || leb (2 ^ (T .tasks)) m) 12 _ (λ y. omega arith) e in
-        let free = refusal-first (some (λ t. has m t && active h t) (T .tasks)) 13 0 (λ y. omega arith) (known .1) in
+        let known = cond-zero (eqb m 0 || leb (2 ^ (T .tasks)) m) 12 _ (λ y. omega arith) e in
+        let free = cond-zero (some (λ t. has m t && active h t) (T .tasks)) 13 0 (λ y. omega arith) (known .1) in
         let small : m < 2 ^ (T .tasks) = leb-false _ m (or-right (eqb m 0) _ (known .0)) in (
           omega (arith, eqb-false m 0 (or-left (eqb m 0) _ (known .0))),
           small,

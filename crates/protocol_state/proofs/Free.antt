@@ -9,7 +9,7 @@ use native.Mathlib.Omega.{arith}
 use lib.ListN.{getD, length}
 use Rattle.lists.proofs.Search.{lowest-in-range}
 use Rattle.protocol.specs.Table.{toBehind}
-use Rattle.protocol.specs.Published.{Boxes, Lowest}
+use Rattle.protocol.specs.Published.{Lowest}
 use Rattle.protocol.specs.Free.{lowestFree}
 use Rattle.protocol.proofs.Lowest.{search-lowest}
 use Rattle.protocol_state.specs.Saved.{Size, Saved, Shape, at, table, boxes}

@@ -1,19 +1,20 @@
 -- The theorems about a saved state.
--- the decision table, tests and lists
+-- the decision table, places of lists, the table rules, soundness
 pub mod Decision
 pub mod Places
--- the table rules and soundness, as tests and as facts
 pub mod Rules
 pub mod Sound
--- what an allowed event does, and that it keeps soundness
+-- what each accepted event does: sound stays sound, and it is a step of the published protocol
 pub mod Free
 pub mod Arrivals
 pub mod Keeps
 pub mod Give
--- it is what the published protocol does, and when it may
 pub mod Steps
 pub mod Phases
--- fresh states, and all that events lead to
+-- whatever events are given to a fresh state
 pub mod Freshes
 pub mod History
 pub mod Numbers
+pub mod Aside
+pub mod Totals
+pub mod Example

@@ -114,10 +114,10 @@ module _ {ahead : ℕ → ℕ → Bool} {size : Size} (q : Saved) (G : Sound ahe
     go true = rw ly (sym (swap 0 16 (some (λ u. ahead u t && active h u) (q .tasks))))
     go false = rw lz
 
-  running-turn : (k t y : ℕ) → t < q .tasks → decided k (at (q .phase) t) ≡ cond (eqb (at (q .phase) t) 2) y 15 → allows y ≡ true
+  running-turn : (k t y : ℕ) → decided k (at (q .phase) t) ≡ cond (eqb (at (q .phase) t) 2) y 15 → allows y ≡ true
       → cond (allows (decided k (at (q .phase) t))) (cond (preempted ahead t (q .tasks) (at (q .phase))) 16 0) (decided k (at (q .phase) t))
       ≡ cond (running h t) (cond (urgent (table ahead q) h t) 0 16) 15
-  running-turn k t y l d ok = in-turn k t 2 y 15 (running h t) (running-is (A t)) d ok refl
+  running-turn k t y d ok = in-turn k t 2 y 15 (running h t) (running-is (A t)) d ok refl
 
   -- an arrival: who may arrive is not active
   may-arrive : (m t : ℕ) → t < q .tasks → mayArrive m (at (q .phase)) t ≡ not (has m t && active h t)
@@ -137,7 +137,7 @@ module _ {ahead : ℕ → ℕ → Bool} {size : Size} (q : Saved) (G : Sound ahe
   judged-by-history (read l) = guarded (leb (q .links) l) _ _ (λ e.
       let r : at (q .reader) l < q .tasks = obeys q G l (leb-false (q .links) l e) .reader in
       rw (lt-leb (q .tasks) (at (q .reader) l) r)
-      (running-turn 2 (at (q .reader) l) 2 r (decided-rule 2 (at (q .phase) (at (q .reader) l)) (omega arith) (G .phase (at (q .reader) l) r)) refl))
+      (running-turn 2 (at (q .reader) l) 2 (decided-rule 2 (at (q .phase) (at (q .reader) l)) (omega arith) (G .phase (at (q .reader) l) r)) refl))
   judged-by-history (finish t v) = guarded (leb (q .tasks) t) _ _ (λ e.
       let l : t < q .tasks = leb-false (q .tasks) t e in
-      running-turn 3 t 0 l (decided-rule 3 (at (q .phase) t) (omega arith) (G .phase t l)) refl)
+      running-turn 3 t 0 (decided-rule 3 (at (q .phase) t) (omega arith) (G .phase t l)) refl)

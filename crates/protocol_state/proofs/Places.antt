@@ -9,7 +9,7 @@ use borrow.Author.Tests.{ltb-true, ltb-false, leb-false}
 use lib.Dec.{eqb, ltb, leb}
 use lib.ListN.{getD, length, replicate, length-replicate, getD-replicate, List·getD-eq-default}
 use Rattle.lists.specs.Lists.{upto, every, some, count, leading}
-use Rattle.lists.proofs.Bools.{or-right}
+use Rattle.lists.proofs.Bools.{or-right, cond-zero, else-zero}
 use Rattle.lists.proofs.Lists.{upto-at, upto-past, every-at}
 use Rattle.protocol.specs.Event.{has}
 use Rattle.protocol_state.specs.Saved.{at}
@@ -35,17 +35,6 @@ zeros n k = go (ltb k n) refl where
   go : (b : Bool) → ltb k n ≡ b → at (replicate n 0) k ≡ 0
   go true e = replicated n 0 k (ltb-true k n e)
   go false e = List·getD-eq-default (replicate {A = ℕ} n 0) 0 (rw (length-replicate {A = ℕ} n 0) (ltb-false k n e))
-
--- ---- tests
--- a refusal k in front is not earned
-pub not-zero : (b : Bool) (k x : ℕ) → (k ≡ 0 → ⊥) → cond b k x ≡ 0 → (b ≡ false) × (x ≡ 0)
-not-zero true k x n e = absurd (n e)
-not-zero false k x n e = (refl, e)
-
--- nor one behind
-pub is-zero : (b : Bool) (k x : ℕ) → (k ≡ 0 → ⊥) → cond b x k ≡ 0 → (b ≡ true) × (x ≡ 0)
-is-zero true k x n e = (refl, e)
-is-zero false k x n e = absurd (n e)
 
 -- who is asked passes
 pub or-not : (a b : Bool) → (not a || b) ≡ true → a ≡ true → b ≡ true
@@ -95,8 +84,8 @@ cond-small false a c = c
 pub arrival-allowed : (s T : ℕ) (ph : ℕ → ℕ) → judgedArrival s T ph ≡ 0 → (s < 2 ^ T) × ((t : ℕ) → t < T → has s t ≡ true → allows (decided 0 (ph t)) ≡ true)
 unfolding judgedArrival
 arrival-allowed s T ph e =
-    let a = not-zero (eqb s 0 || leb (2 ^ T) s) 12 _ (λ z. omega arith) e in
-    let b = is-zero (every (mayArrive s ph) T) 13 0 (λ z. omega arith) (a .1) in
+    let a = cond-zero (eqb s 0 || leb (2 ^ T) s) 12 _ (λ z. omega arith) e in
+    let b = else-zero (every (mayArrive s ph) T) 13 0 (λ z. omega arith) (a .1) in
     (leb-false (2 ^ T) s (or-right (eqb s 0) _ (a .0)), λ t l m. or-not (has s t) _ (every-at (mayArrive s ph) T t (b .0) l) m)
 
 module _ (ahead : ℕ → ℕ → Bool) where
@@ -104,17 +93,17 @@ module _ (ahead : ℕ → ℕ → Bool) where
   pub task-allowed : (k t T : ℕ) (ph : ℕ → ℕ) → judgedTask ahead k t T ph ≡ 0 → (t < T) × (allows (decided k (ph t)) ≡ true) × (preempted ahead t T ph ≡ false)
   unfolding judgedTask
   task-allowed k t T ph e =
-      let a = not-zero (leb T t) 12 _ (λ z. omega arith) e in
+      let a = cond-zero (leb T t) 12 _ (λ z. omega arith) e in
       let n = go (allows (decided k (ph t))) refl (a .1) in
       (leb-false T t (a .0), n .0, n .1) where
         go : (b : Bool) → allows (decided k (ph t)) ≡ b → cond b (cond (preempted ahead t T ph) 16 0) (decided k (ph t)) ≡ 0 →
             (allows (decided k (ph t)) ≡ true) × (preempted ahead t T ph ≡ false)
-        go true h z = (h, not-zero (preempted ahead t T ph) 16 0 (λ y. omega arith) z .0)
+        go true h z = (h, cond-zero (preempted ahead t T ph) 16 0 (λ y. omega arith) z .0)
         go false h z = absurd (true≢false (rw z at h))
 
   -- an allowed read is by one of the table's links
   pub read-allowed : (l T L : ℕ) (R ph : ℕ → ℕ) → judgedRead ahead l T L R ph ≡ 0 → (l < L) × (judgedTask ahead 2 (R l) T ph ≡ 0)
   unfolding judgedRead
   read-allowed l T L R ph e =
-      let a = not-zero (leb L l) 12 _ (λ z. omega arith) e in
+      let a = cond-zero (leb L l) 12 _ (λ z. omega arith) e in
       (leb-false L l (a .0), a .1)

@@ -8,12 +8,12 @@ use native.Mathlib.Omega.{arith}
 use borrow.Author.Tests.{lt-leb, leb-false, lt-ltb, le-ltb, ltb-true, ltb-false, eqb-true, eqb-false, eq-eqb, ne-eqb}
 use lib.Dec.{eqb, ltb, leb}
 use Rattle.lists.specs.Lists.{some, count, leading}
-use Rattle.lists.proofs.Bools.{and-left, and-right, and-not, and-if, or-left, or-right}
+use Rattle.lists.proofs.Bools.{and-left, and-right, and-not, and-if, or-left, or-right, cond-zero}
 use Rattle.lists.proofs.Lists.{some-not, some-of-none, leading-zero}
 use Rattle.protocol.specs.Table.{Lawful, toBehind, behinds}
 use Rattle.protocol_state.specs.Saved.{Size, Saved, at, table}
 use Rattle.protocol_state.specs.Rules.{Ranks, joins, fault, Obeys, judgedTable}
-use Rattle.protocol_state.proofs.Places.{not-zero, leading-none-other}
+use Rattle.protocol_state.proofs.Places.{leading-none-other}
 
 -- the earlier task is ahead: fixed priorities are an order of tasks
 pub ltb-ranks : Ranks ltb
@@ -27,12 +27,12 @@ module _ (ahead : ℕ → ℕ → Bool) (T : ℕ) (W R K : ℕ → ℕ) where
   pub obeys : (l : ℕ) → fault ahead T W R K l ≡ 0 → Obeys ahead T W R K l
   unfolding fault
   obeys l e =
-      let four = not-zero (leb T (W l) || leb T (R l)) 4 _ (λ z. omega arith) e in
-      let five = not-zero (eqb (W l) (R l)) 5 _ (λ z. omega arith) (four .1) in
-      let six = not-zero (ltb 1 (K l)) 6 _ (λ z. omega arith) (five .1) in
-      let seven = not-zero (eqb (K l) 0 && ahead (R l) (W l)) 7 _ (λ z. omega arith) (six .1) in
-      let eight = not-zero (some (joins W R (W l) (R l)) l) 8 _ (λ z. omega arith) (seven .1) in
-      let nine = not-zero (ahead (W l) (R l) && leb 8 (behinds ahead W R (W l) l)) 9 0 (λ z. omega arith) (eight .1) in
+      let four = cond-zero (leb T (W l) || leb T (R l)) 4 _ (λ z. omega arith) e in
+      let five = cond-zero (eqb (W l) (R l)) 5 _ (λ z. omega arith) (four .1) in
+      let six = cond-zero (ltb 1 (K l)) 6 _ (λ z. omega arith) (five .1) in
+      let seven = cond-zero (eqb (K l) 0 && ahead (R l) (W l)) 7 _ (λ z. omega arith) (six .1) in
+      let eight = cond-zero (some (joins W R (W l) (R l)) l) 8 _ (λ z. omega arith) (seven .1) in
+      let nine = cond-zero (ahead (W l) (R l) && leb 8 (behinds ahead W R (W l) l)) 9 0 (λ z. omega arith) (eight .1) in
       record {
         writer = leb-false T (W l) (or-left (leb T (W l)) _ (four .0));
         reader = leb-false T (R l) (or-right (leb T (W l)) _ (four .0));
@@ -65,8 +65,8 @@ module _ (ahead : ℕ → ℕ → Bool) (T : ℕ) (W R K : ℕ → ℕ) where
       parts : ((eqb T 0 || ltb (size .tasks) T) ≡ false) × (ltb (size .links) L ≡ false) × (leading (fault ahead T W R K) L ≡ 0)
       unfolding judgedTable
       parts =
-          let two = not-zero (eqb T 0 || ltb (size .tasks) T) 2 _ (λ z. omega arith) ok in
-          let three = not-zero (ltb (size .links) L) 3 _ (λ z. omega arith) (two .1) in
+          let two = cond-zero (eqb T 0 || ltb (size .tasks) T) 2 _ (λ z. omega arith) ok in
+          let three = cond-zero (ltb (size .links) L) 3 _ (λ z. omega arith) (two .1) in
           (two .0, three .0, three .1)
 
       -- the counts of a table that earns no refusal

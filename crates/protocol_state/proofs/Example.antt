@@ -1,0 +1,73 @@
+-- The long example of document 01 (after figure 17 of 001), computed on both sides: the machine on a saved state, and the run where tasks take no time.
+-- Assumes nothing.
+use mathlib.Core.Path.{_≡_, refl}
+use mathlib.Core.List.{List, [], _∷_}
+use Prim.Native.Nat.{ℕ}
+use lib.Dec.{ltb}
+use Rattle.lists.specs.Lists.{upto, every, some, count, first, leading, sum}
+use Rattle.protocol.specs.Event.{Event, arrival, start, read, finish, has}
+use Rattle.protocol.specs.History.{arrivals, starts, finishes, reads, upTo, output, counts}
+use Rattle.protocol.specs.ZeroTime.{ideals}
+use Rattle.protocol.specs.Instant.{ask, readLinks, whole, work, come, carried, upward, sets, zeroRun, find, looked, theres}
+use Rattle.protocol_state.specs.Saved.{Saved, base, at, table}
+use Rattle.protocol_state.specs.Rules.{fault, judgedTable}
+use Rattle.protocol_state.specs.Decision.{decided}
+use Rattle.protocol_state.specs.Judge.{judgedArrival, judgedTask, judgedRead}
+use Rattle.protocol_state.specs.Next.{newestAfter, previousAfter, pointerAfter, phaseAfter}
+use Rattle.protocol_state.specs.Sound.{soundParts}
+use Rattle.protocol_state.specs.Fresh.{freshOf}
+use Rattle.protocol_state.specs.Give.{Outcome, settled, begin, after, replay}
+
+-- four tasks with defaults 0, 100, 0, 0; links 1 to 0 delayed, 1 to 2 direct, 1 to 3 direct
+abbrev pub station : Saved
+station = freshOf base 4 3 (0 ∷ 100 ∷ 0 ∷ 0 ∷ []) (1 ∷ 1 ∷ 1 ∷ []) (0 ∷ 2 ∷ 3 ∷ []) (1 ∷ 0 ∷ 0 ∷ [])
+
+-- the 35 events, up to just after the first arrival, the second, the third arrival of task 1, and the rest
+abbrev first-part : List (Event ℕ)
+first-part = arrival 15 ∷ []
+
+abbrev second-part : List (Event ℕ)
+second-part = start 0 ∷ read 0 ∷ finish 0 0 ∷ start 1 ∷ finish 1 101 ∷ start 2 ∷ read 1 ∷ finish 2 0 ∷ start 3 ∷ arrival 3 ∷ []
+
+abbrev third-part : List (Event ℕ)
+third-part = start 0 ∷ read 0 ∷ finish 0 0 ∷ start 1 ∷ finish 1 102 ∷ arrival 4 ∷ start 2 ∷ read 1 ∷ finish 2 0 ∷ arrival 3 ∷ []
+
+abbrev last-part : List (Event ℕ)
+last-part = start 0 ∷ read 0 ∷ finish 0 0 ∷ start 1 ∷ finish 1 103 ∷ read 2 ∷ finish 3 0 ∷ arrival 9 ∷ start 0 ∷ read 0 ∷ finish 0 0 ∷ start 3 ∷ read 2 ∷ finish 3 0 ∷ []
+
+abbrev one : Outcome
+one = replay ltb base (begin station) first-part
+
+abbrev two : Outcome
+two = replay ltb base one second-part
+
+abbrev three : Outcome
+three = replay ltb base two third-part
+
+abbrev all : Outcome
+all = replay ltb base three last-part
+
+-- newest of task 1 goes 2, 1, 3
+pub newest-goes : (at (one .state .newest) 1 ≡ 2) × (at (two .state .newest) 1 ≡ 1) × (at (three .state .newest) 1 ≡ 3) × (at (all .state .newest) 1 ≡ 3)
+unfolding upto every some count first leading has fault judgedTable decided judgedArrival judgedTask judgedRead newestAfter previousAfter pointerAfter phaseAfter soundParts freshOf settled after replay
+newest-goes = (refl, refl, refl, refl)
+
+-- the eight numbers, the last one first
+pub numbers-read : all .numbers ≡ 103 ∷ 102 ∷ 101 ∷ 102 ∷ 102 ∷ 101 ∷ 101 ∷ 100 ∷ []
+unfolding upto every some count first leading has fault judgedTable decided judgedArrival judgedTask judgedRead newestAfter previousAfter pointerAfter phaseAfter soundParts freshOf settled after replay
+numbers-read = refl
+
+-- the same in closed form
+pub closed-form : ideals (table ltb station) (all .history) ≡ 103 ∷ 102 ∷ 101 ∷ 102 ∷ 102 ∷ 101 ∷ 101 ∷ 100 ∷ []
+unfolding upto every some count first leading has fault judgedTable decided judgedArrival judgedTask judgedRead newestAfter previousAfter pointerAfter phaseAfter soundParts freshOf settled after replay arrivals finishes upTo output ideals
+closed-form = refl
+
+-- and in the run carried out
+pub carried-out : looked (table ltb station) (zeroRun (table ltb station) (upward 0 4) (all .history)) (all .history) ≡ theres (103 ∷ 102 ∷ 101 ∷ 102 ∷ 102 ∷ 101 ∷ 101 ∷ 100 ∷ [])
+unfolding upto every some count first leading has fault judgedTable decided judgedArrival judgedTask judgedRead newestAfter previousAfter pointerAfter phaseAfter soundParts freshOf settled after replay arrivals finishes output ask readLinks whole work come carried upward sets find looked theres
+carried-out = refl
+
+-- counts 11, 11, 8, 11
+pub counted : counts (table ltb station) (all .history) ≡ record { arrivals = 11; starts = 11; reads = 8; finishes = 11 }
+unfolding upto every some count first leading sum has fault judgedTable decided judgedArrival judgedTask judgedRead newestAfter previousAfter pointerAfter phaseAfter soundParts freshOf settled after replay arrivals starts reads finishes
+counted = refl
