@@ -94,8 +94,11 @@ module _ (ahead : ℕ → ℕ → Bool) where
   next q (finish t v) = finished t v q
 
 -- the value of an accepted event: the number of a read, else 0
+abbrev pub valueBy : Event ℕ → (ℕ → ℕ) → (ℕ → ℕ) → (ℕ → ℕ) → ℕ
+valueBy (arrival s) W P C = 0
+valueBy (start t) W P C = 0
+valueBy (read l) W P C = numberOf l W P C
+valueBy (finish t v) W P C = 0
+
 abbrev pub valueOf : Saved → Event ℕ → ℕ
-valueOf q (arrival s) = 0
-valueOf q (start t) = 0
-valueOf q (read l) = numberOf l (at (q .writer)) (at (q .pointer)) (at (q .cells))
-valueOf q (finish t v) = 0
+valueOf q e = valueBy e (at (q .writer)) (at (q .pointer)) (at (q .cells))

@@ -1,0 +1,3 @@
+// The tests of a table and of a whole state, on the lent parts of a state.
+pub mod sound;
+pub mod table;

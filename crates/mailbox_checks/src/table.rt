@@ -1,0 +1,164 @@
+// The rules of a table, refusals 2 to 9.
+ghost use mathlib.Core.Path.{_≡_};
+ghost use mathlib.Core.Bool.{_&&_, cond};
+ghost use Prim.Native.Nat.{_+_, _≤_, _<_};
+ghost use lib.Dec.{eqb, ltb};
+ghost use Rattle.lists.specs.Lists.{some, leading};
+ghost use Rattle.protocol.specs.Table.{behinds};
+ghost use Rattle.protocol_state.specs.Saved.{at, base};
+ghost use Rattle.protocol_state.specs.Rules.{joins, faultOf, fault, judgedTable};
+use mailbox_parts::numbers::LINKS;
+use mailbox_parts::numbers::TASKS;
+use mailbox_parts::numbers::pick;
+
+// Whether a link from `w0` to `r0` goes from `w` to `r`.
+fn is_pair(w0: u8, r0: u8, w: u8, r: u8) -> bool
+    ensures { λ res. ⌜ res ≡ (eqb w0 w && eqb r0 r) ⌝ }
+{
+    (w0 == w) & (r0 == r)
+}
+
+// Whether one of the first `n` links goes from `w` to `r`.
+fn has_pair(writer: &[u8; LINKS], reader: &[u8; LINKS], n: usize, w: u8, r: u8) -> bool
+    requires { ⌜ n ≤ base .links ⌝ }
+    ensures { λ res. ⌜ res ≡ some (joins (at (now (writer .entry))) (at (now (reader .entry))) w r) n ⌝ }
+{
+    let mut found = false;
+    let mut l = 0;
+    while l < n {
+        found = is_pair(writer[l], reader[l], w, r) | found;
+        l += 1;
+    }
+    found
+}
+
+// Whether a link from `w` to `r` is one of task `t`'s to readers behind.
+fn is_behind(w: u8, r: u8, t: usize) -> bool
+    ensures { λ res. ⌜ res ≡ (eqb w t && ltb t r) ⌝ }
+{
+    (w as usize == t) & (t < r as usize)
+}
+
+// One more where the test holds. There are few links, so the sum fits.
+fn add(b: bool, c: usize) -> usize
+    requires { ⌜ c < base .links ⌝ }
+    ensures { λ r. ⌜ r ≡ cond b (c + 1) c ⌝ }
+{
+    if b { c + 1 } else { c }
+}
+
+// N: how many of the first `n` links are task `t`'s to readers behind.
+pub fn count_behind(writer: &[u8; LINKS], reader: &[u8; LINKS], n: usize, t: usize) -> usize
+    requires { ⌜ n ≤ base .links ⌝ }
+    ensures { λ r. ⌜ (r ≡ behinds ltb (at (now (writer .entry))) (at (now (reader .entry))) t n) × (r ≤ base .links) ⌝ }
+{
+    let mut c = 0;
+    let mut l = 0;
+    while l < n {
+        c = add(is_behind(writer[l], reader[l], t), c);
+        l += 1;
+    }
+    c
+}
+
+// The refusal that a link from `w` to `r` of kind `k` earns, the lowest that applies; `twice` and `n` speak of its writer's earlier links.
+fn fault_of(tasks: usize, w: u8, r: u8, k: u8, twice: bool, n: usize) -> u8
+    ensures { λ res. ⌜ res ≡ faultOf ltb tasks w r k twice n ⌝ }
+{
+    let nine = pick((w < r) & (8 <= n), 9, 0);
+    let eight = pick(twice, 8, nine);
+    let seven = pick((k == 0) & (r < w), 7, eight);
+    let six = pick(1 < k, 6, seven);
+    let five = pick(w == r, 5, six);
+    pick((tasks <= w as usize) | (tasks <= r as usize), 4, five)
+}
+
+// The refusal that a link from `w` to `r` of kind `k` earns after the first `n` links.
+fn fault_after(
+    tasks: usize,
+    writer: &[u8; LINKS],
+    reader: &[u8; LINKS],
+    n: usize,
+    w: u8,
+    r: u8,
+    k: u8,
+) -> u8
+    requires { ⌜ n ≤ base .links ⌝ }
+    ensures { λ res. ⌜ res ≡ faultOf ltb tasks w r k (some (joins (at (now (writer .entry))) (at (now (reader .entry))) w r) n) (behinds ltb (at (now (writer .entry))) (at (now (reader .entry))) w n) ⌝ }
+{
+    let twice = has_pair(writer, reader, n, w, r);
+    let behind = count_behind(writer, reader, n, w as usize);
+    fault_of(tasks, w, r, k, twice, behind)
+}
+
+// The refusal that link `l` earns, 0 for none.
+fn fault_at(
+    tasks: usize,
+    writer: &[u8; LINKS],
+    reader: &[u8; LINKS],
+    kind: &[u8; LINKS],
+    l: usize,
+) -> u8
+    requires { ⌜ l < base .links ⌝ }
+    ensures { λ r. ⌜ r ≡ fault ltb tasks (at (now (writer .entry))) (at (now (reader .entry))) (at (now (kind .entry))) l ⌝ }
+{
+    fault_after(tasks, writer, reader, l, writer[l], reader[l], kind[l])
+}
+
+// The first fault: `earlier` where there is one, else that of link `l`.
+fn fault_or(
+    earlier: u8,
+    tasks: usize,
+    writer: &[u8; LINKS],
+    reader: &[u8; LINKS],
+    kind: &[u8; LINKS],
+    l: usize,
+) -> u8
+    requires { ⌜ l < base .links ⌝ }
+    ensures { λ r. ⌜ r ≡ cond (eqb earlier 0) (fault ltb tasks (at (now (writer .entry))) (at (now (reader .entry))) (at (now (kind .entry))) l) earlier ⌝ }
+{
+    pick(
+        earlier == 0,
+        fault_at(tasks, writer, reader, kind, l),
+        earlier,
+    )
+}
+
+// The refusal of the first link at fault, 0 for none.
+fn first_fault(
+    tasks: usize,
+    links: usize,
+    writer: &[u8; LINKS],
+    reader: &[u8; LINKS],
+    kind: &[u8; LINKS],
+) -> u8
+    requires { ⌜ links ≤ base .links ⌝ }
+    ensures { λ r. ⌜ r ≡ leading (fault ltb tasks (at (now (writer .entry))) (at (now (reader .entry))) (at (now (kind .entry)))) links ⌝ }
+{
+    let mut found: u8 = 0;
+    let mut l = 0;
+    while l < links {
+        found = fault_or(found, tasks, writer, reader, kind, l);
+        l += 1;
+    }
+    found
+}
+
+// The refusal that a table earns, 0 for none: its counts, then the first link at fault.
+pub fn judge_table(
+    tasks: usize,
+    links: usize,
+    writer: &[u8; LINKS],
+    reader: &[u8; LINKS],
+    kind: &[u8; LINKS],
+) -> u8
+    ensures { λ r. ⌜ r ≡ judgedTable ltb tasks (at (now (writer .entry))) (at (now (reader .entry))) (at (now (kind .entry))) base links ⌝ }
+{
+    if (tasks == 0) | (TASKS < tasks) {
+        return 2;
+    }
+    if LINKS < links {
+        return 3;
+    }
+    first_fault(tasks, links, writer, reader, kind)
+}

@@ -1,0 +1,22 @@
+-- `mailbox_parts::judge::judge_read` meets its contract: outside the table, and inside it.
+-- Assumes nothing.
+use Rattle.mailbox_parts.proofs.Judged.{read-outside, read-inside}
+use borrow.Author.Needs.{needs}
+use Rattle.mailbox_parts.proofs.judge.judge_read.Statement.{statement}
+use Rattle.mailbox_parts.proofs.judge.judge_read.Tie as tie
+
+returns : tie.Need-returns
+returns c = read-outside _ _ _ _ _ (c .if1 .taken)
+
+element-copy-out-judge-task : tie.Need-element-copy-out-judge-task
+element-copy-out-judge-task c = search needs
+
+judge-task-requires : tie.Need-judge-task-requires
+judge-task-requires c κs = search needs
+
+returns-2 : tie.Need-returns-2
+returns-2 c = read-inside _ _ _ _ _ (c .before .before .if1 .left) (c .judge-task .ensures)
+
+pub judge-read-spec : {M : Type 1} → statement M
+judge-read-spec =
+    tie.close (tie.spec returns element-copy-out-judge-task judge-task-requires returns-2)

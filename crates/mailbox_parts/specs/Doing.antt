@@ -1,0 +1,29 @@
+-- What an arrival and a finish make of the lists that they change: ph phases, n newest, p previous, C cells, x pointers; a prime marks what comes after.
+-- T and L count tasks and links; W, R and K are the links' writers, readers and kinds.
+-- Assumes nothing.
+use mathlib.Core.Path.{_≡_}
+use mathlib.Core.Bool.{Bool, not}
+use mathlib.Core.List.{List}
+use Prim.Native.Nat.{ℕ}
+use lib.Dec.{eqb, ltb}
+use lib.ListN.{set}
+use Rattle.lists.specs.Lists.{upto}
+use Rattle.protocol_state.specs.Saved.{at, cellOf}
+use Rattle.protocol_state.specs.Next.{previousAt, newestAt, pointerAt, phaseAt, phasesAfter, freedAt}
+
+-- task t is unfinished
+abbrev pub activeAt : (ℕ → ℕ) → ℕ → Bool
+activeAt ph t = not (eqb (ph t) 0)
+
+-- the arrival of the set s: the readers' part comes after the writers'
+pub record Arrives (s T L : ℕ) (W R K ph n p x ph′ n′ p′ x′ : List ℕ) : Type 0 where
+  pub previous : p′ ≡ upto (previousAt s (at n)) T p
+  pub newest : n′ ≡ upto (newestAt ltb s (at W) (at R) (at x) L) T n
+  pub pointer : x′ ≡ upto (pointerAt s (at W) (at R) (at K) (at n′) (at p′)) L x
+  pub phase : ph′ ≡ upto (phaseAt s) T ph
+
+-- the finish of t with the value v
+pub record Finishes (t v L : ℕ) (W R n ph C x ph′ C′ x′ : List ℕ) : Type 0 where
+  pub cells : C′ ≡ set C (cellOf t (at n t)) v
+  pub pointer : x′ ≡ upto (freedAt ltb t (at W) (at R)) L x
+  pub phase : ph′ ≡ phasesAfter 3 t ph

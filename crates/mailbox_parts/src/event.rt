@@ -1,0 +1,88 @@
+// One event of any kind on the lent parts of a state: judged, and done.
+ghost use mathlib.Core.Path.{_≡_};
+ghost use Prim.Native.Nat.{_≤_};
+ghost use lib.Dec.{ltb};
+ghost use Rattle.protocol_state.specs.Saved.{at, base};
+ghost use Rattle.protocol_state.specs.Judge.{judgedEvent};
+ghost use Rattle.protocol_state.specs.Next.{valueBy};
+ghost use Rattle.mailbox_parts.specs.Plain.{plain};
+ghost use Rattle.mailbox_parts.specs.Becomes.{Becomes};
+use crate::arrival::arrive;
+use crate::finish::advance;
+use crate::finish::finish;
+use crate::finish::number_of;
+use crate::judge::judge_arrival;
+use crate::judge::judge_read;
+use crate::judge::judge_task;
+use crate::numbers::CELLS;
+use crate::numbers::LINKS;
+use crate::numbers::TASKS;
+
+// The arrival of a set of tasks, the start of a task, a read by a link, the finish of a task with a value.
+pub enum Event {
+    Arrival(u32),
+    Start(u8),
+    Read(u8),
+    Finish(u8, u32),
+}
+
+// The refusal that an event earns on a sound state, 0 for none.
+pub fn judge(e: Event, tasks: usize, links: usize, reader: &[u8; LINKS], phase: &[u8; TASKS]) -> u8
+    requires { ⌜ (tasks ≤ base .tasks) × (links ≤ base .links) ⌝ }
+    ensures { λ r. ⌜ r ≡ judgedEvent ltb (plain e) tasks links (at (now (reader .entry))) (at (now (phase .entry))) ⌝ }
+{
+    match e {
+        Event::Arrival(set) => judge_arrival(set, tasks, phase),
+        Event::Start(t) => judge_task(1, t, tasks, phase),
+        Event::Read(l) => judge_read(l, tasks, links, reader, phase),
+        Event::Finish(t, _) => judge_task(3, t, tasks, phase),
+    }
+}
+
+// The value of an event that is allowed: the number of a read, else 0.
+pub fn value_of(e: Event, writer: &[u8; LINKS], pointer: &[u8; LINKS], cells: &[u32; CELLS]) -> u32
+    ensures { λ r. ⌜ r ≡ valueBy (plain e) (at (now (writer .entry))) (at (now (pointer .entry))) (at (now (cells .entry))) ⌝ }
+{
+    match e {
+        Event::Arrival(_) => 0,
+        Event::Start(_) => 0,
+        Event::Read(l) => number_of(l, writer, pointer, cells),
+        Event::Finish(_, _) => 0,
+    }
+}
+
+// What an event that is allowed makes of the parts.
+pub fn do_event(
+    e: Event,
+    tasks: usize,
+    links: usize,
+    writer: &[u8; LINKS],
+    reader: &[u8; LINKS],
+    kind: &[u8; LINKS],
+    phase: &mut [u8; TASKS],
+    newest: &mut [u8; TASKS],
+    previous: &mut [u8; TASKS],
+    cells: &mut [u32; CELLS],
+    pointer: &mut [u8; LINKS],
+)
+    requires { ⌜ (tasks ≤ base .tasks) × (links ≤ base .links) ⌝ }
+    ensures { λ _. ⌜ Becomes e tasks links (now (writer .entry)) (now (reader .entry)) (now (kind .entry)) (now (phase .entry)) (now (newest .entry)) (now (previous .entry)) (now (cells .entry)) (now (pointer .entry)) (now (phase .exit)) (now (newest .exit)) (now (previous .exit)) (now (cells .exit)) (now (pointer .exit)) ⌝ }
+{
+    match e {
+        Event::Arrival(set) => arrive(
+            set,
+            tasks,
+            links,
+            writer,
+            reader,
+            kind,
+            phase,
+            newest,
+            previous,
+            pointer,
+        ),
+        Event::Start(t) => advance(1, t, phase),
+        Event::Read(_) => {}
+        Event::Finish(t, v) => finish(t, v, links, writer, reader, newest, phase, cells, pointer),
+    }
+}

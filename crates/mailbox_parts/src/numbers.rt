@@ -1,0 +1,96 @@
+// Numbers, and what stands in lent arrays of them.
+ghost use mathlib.Core.Path.{_≡_};
+ghost use mathlib.Core.Bool.{cond};
+ghost use Prim.Native.Nat.{_+_, _-_, _*_};
+ghost use lib.ListN.{set};
+ghost use Rattle.protocol.specs.Event.{has};
+ghost use Rattle.protocol_state.specs.Saved.{at, cellOf};
+
+// Room for so many tasks and links.
+pub const TASKS: usize = 16;
+
+pub const LINKS: usize = 32;
+
+// A task has at most eight links to readers behind, and two positions more.
+pub const POSITIONS: usize = 10;
+
+// The positions of all tasks, one task after the other.
+pub const CELLS: usize = TASKS * POSITIONS;
+
+// The bits of a set.
+const BITS: usize = 32;
+
+// `x` or `y`: one value and no branch.
+pub fn pick(b: bool, x: u8, y: u8) -> u8
+    ensures { λ r. ⌜ r ≡ cond b x y ⌝ }
+{
+    if b { x } else { y }
+}
+
+// What stands at `i`, and 0 past the end.
+pub fn at(a: &[u8; TASKS], i: usize) -> u8
+    ensures { λ r. ⌜ r ≡ at (now (a .entry)) i ⌝ }
+{
+    let s: &[u8] = a;
+    if i < s.len() { s[i] } else { 0 }
+}
+
+// The same in an array of links.
+pub fn at_link(a: &[u8; LINKS], i: usize) -> u8
+    ensures { λ r. ⌜ r ≡ at (now (a .entry)) i ⌝ }
+{
+    let s: &[u8] = a;
+    if i < s.len() { s[i] } else { 0 }
+}
+
+// Stores at `i`, where that is within.
+pub fn put(a: &mut [u8], i: usize, x: u8)
+    ensures { λ _. ⌜ now (a .exit) ≡ set (now (a .entry)) i x ⌝ }
+{
+    if i < a.len() {
+        a[i] = x;
+    }
+}
+
+// The same in an array of values.
+pub fn put_number(a: &mut [u32], i: usize, x: u32)
+    ensures { λ _. ⌜ now (a .exit) ≡ set (now (a .entry)) i x ⌝ }
+{
+    if i < a.len() {
+        a[i] = x;
+    }
+}
+
+// Where position `p` of task `t` stands among the cells.
+pub fn cell_of(t: u8, p: u8) -> usize
+    ensures { λ r. ⌜ r ≡ cellOf t p ⌝ }
+{
+    if p == 0 {
+        t as usize * POSITIONS
+    } else {
+        t as usize * POSITIONS + (p as usize - 1)
+    }
+}
+
+// The value at position `p` of task `t`.
+pub fn cell_at(cells: &[u32; CELLS], t: u8, p: u8) -> u32
+    ensures { λ r. ⌜ r ≡ at (now (cells .entry)) (cellOf t p) ⌝ }
+{
+    let s: &[u32] = cells;
+    let i = cell_of(t, p);
+    if i < s.len() { s[i] } else { 0 }
+}
+
+// Whether task `t` is in the set: bit `t`, where there is such a bit.
+pub fn has(set: u32, t: usize) -> bool
+    ensures { λ r. ⌜ r ≡ has set t ⌝ }
+{
+    if t < BITS { (set >> t) % 2 == 1 } else { false }
+}
+
+// `x` where task `t` is in the set, else `y`.
+pub fn choose(set: u32, t: usize, x: u8, y: u8) -> u8
+    ensures { λ r. ⌜ r ≡ cond (has set t) x y ⌝ }
+{
+    pick(has(set, t), x, y)
+}
