@@ -1,0 +1,2 @@
+-- What the theorems speak of.
+pub mod Calls
