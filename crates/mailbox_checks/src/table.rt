@@ -74,7 +74,7 @@ fn fault_of(tasks: usize, w: u8, r: u8, k: u8, twice: bool, n: usize) -> u8
 }
 
 // The refusal that a link from `w` to `r` of kind `k` earns after the first `n` links.
-fn fault_after(
+pub fn fault_after(
     tasks: usize,
     writer: &[u8; LINKS],
     reader: &[u8; LINKS],

@@ -1,0 +1,6 @@
+-- The promises of a whole recording.
+pub mod Counting
+pub mod Right
+pub mod Promises
+pub mod Answers
+pub mod Vectors

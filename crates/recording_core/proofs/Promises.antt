@@ -1,0 +1,135 @@
+-- Demand 2 for a whole recording: accepted exactly when there are a table, links and events whose encoding the bytes are, within every limit, every link rule kept,
+-- every event possible in its turn by history alone, and no more reads than the list has room.
+-- Assumes nothing.
+use mathlib.Core.Path.{_≡_, refl, ap}
+use mathlib.Core.Logic.{_⊎_, inl, inr}
+use mathlib.Core.Bool.{Bool}
+use mathlib.Core.List.{List, [], _∷_}
+use Prim.Native.Nat.{ℕ, _<_}
+use lib.ListN.{length}
+use Rattle.protocol.specs.Event.{Event}
+use Rattle.protocol_state.specs.Saved.{at}
+use Rattle.protocol_state.specs.Rules.{Ranks, judgedTable}
+use Rattle.protocol_state.proofs.Rules.{obeys, no-fault}
+use Rattle.recording_format.specs.Number.{Bytes}
+use Rattle.recording_format.specs.Play.{Reply, reply, Allowed}
+use Rattle.recording_format.specs.Task.{anyDefault, andDefault}
+use Rattle.recording_format.specs.Link.{Link, listed}
+use Rattle.recording_format.specs.Limits.{Limits}
+use Rattle.recording_format.specs.Recording.{recording, stateAfter, Recorded}
+use Rattle.recording_format.specs.Outcome.{TableTo, Outcome, taskCount, taskRecord, linkCount, linkRecord, eventCount, eventRecord, extraBytes, accepted}
+use Rattle.recording_format.proofs.Sizes.{tasks-within, within-tasks, links-within, within-links, events-within, within-events, tasks-fit, links-fit, events-fit}
+use Rattle.recording_format.proofs.LinkRules.{length-listed, allowed-no-fault, no-fault-allowed, allowed-judged, recorded-judged}
+use Rattle.recording_format.proofs.Outcomes.{recording-outcome}
+use Rattle.recording_format.proofs.Recordings.{accepted-recorded, recorded-accepted}
+use Rattle.recording_core.specs.Playing.{Playing, coreOf, judgedIn, steppedIn}
+use Rattle.recording_core.specs.Promise.{past, freshTable, Genuine}
+use Rattle.recording_core.proofs.Right.{Right, right-fresh, right-finally, allowed-happens, happens-allowed}
+
+-- any default is allowed
+any-allowed : (qs ds : List ℕ) → Allowed anyDefault andDefault qs ds
+unfolding Allowed
+any-allowed qs [] = tt
+any-allowed qs (d ∷ ds) = (refl, any-allowed (andDefault qs d) ds)
+
+module _ {ahead : ℕ → ℕ → Bool} (ranks : Ranks ahead) (most : Limits) (out : List ℕ) where
+  -- a table whose links earn no refusal begins right
+  begins : (ds : List ℕ) (ls : List Link) → judgedTable ahead (length ds) (at (listed ls .writer)) (at (listed ls .reader)) (at (listed ls .kind)) (most .size) (length (listed ls .writer)) ≡ 0
+      → Right ahead (most .size) (freshTable (most .size) ds ls) out [] (coreOf ahead (most .size) out .start ds (listed ls))
+  begins ds ls ok = right-fresh ahead (most .size) (length ds) (length (listed ls .writer)) ds (listed ls .writer) (listed ls .reader) (listed ls .kind) out ok
+
+  -- and events that are accepted leave it right
+  goes-on : (ds : List ℕ) (ls : List Link) (es : List (Event ℕ)) → judgedTable ahead (length ds) (at (listed ls .writer)) (at (listed ls .reader)) (at (listed ls .kind)) (most .size) (length (listed ls .writer)) ≡ 0
+      → Allowed (judgedIn ahead (most .size)) (steppedIn ahead (most .size)) (coreOf ahead (most .size) out .start ds (listed ls)) es
+      → Right ahead (most .size) (freshTable (most .size) ds ls) out (past [] es) (stateAfter (coreOf ahead (most .size) out) ds ls es)
+  goes-on ds ls es ok a = right-finally ranks es (begins ds ls ok) a
+
+  module _ {s ds : List ℕ} {ls : List Link} {es : List (Event ℕ)} where
+    -- what the reader accepts as a recording is one by the document's words
+    recorded-genuine : Recorded ahead most (coreOf ahead (most .size) out) s ds ls es → Genuine ahead most s out ds ls es
+    recorded-genuine r =
+        let n = length-listed ls in
+        let ok : judgedTable ahead (length ds) (at (listed ls .writer)) (at (listed ls .reader)) (at (listed ls .kind)) (most .size) (length (listed ls .writer)) ≡ 0 =
+        rw n (recorded-judged ahead most (coreOf ahead (most .size) out) s ds ls es r) in
+        record {
+          bytes = r .bytes;
+          fits = (r .tasked .fits, (r .linked .fits, r .played .fits));
+          few-tasks = tasks-within most (length ds) (r .tasked .few);
+          few-links = links-within most (length ls) (r .linked .few);
+          few-events = events-within most (length es) (r .played .few);
+          rules = λ l k. obeys ahead (length ds) (at (listed ls .writer)) (at (listed ls .reader)) (at (listed ls .kind)) l (allowed-no-fault ahead (length ds) ls (r .linked .allowed) l (rw n k));
+          happens = allowed-happens ranks es (begins ds ls ok) (r .played .allowed);
+          room = goes-on ds ls es ok (r .played .allowed) .room;
+        }
+
+    -- and the other way round, where each limit fits the bytes of its count
+    genuine-recorded : most .size .tasks < 256 → most .size .links < 256 → most .events < 65536 → Genuine ahead most s out ds ls es
+        → Recorded ahead most (coreOf ahead (most .size) out) s ds ls es
+    genuine-recorded wt wl we g =
+        let n = length-listed ls in
+        let t = within-tasks most (length ds) (g .few-tasks .0) (g .few-tasks .1) in
+        let k = within-links most (length ls) (g .few-links) in
+        let v = within-events most (length es) (g .few-events) in
+        let a = no-fault-allowed ahead (length ds) ls (λ l h. no-fault ahead (length ds) (at (listed ls .writer)) (at (listed ls .reader)) (at (listed ls .kind)) l (g .rules l (rw n at h))) in
+        let ok : judgedTable ahead (length ds) (at (listed ls .writer)) (at (listed ls .reader)) (at (listed ls .kind)) (most .size) (length (listed ls .writer)) ≡ 0 =
+        allowed-judged ahead (length ds) most ls t (rw n k) a in
+        record {
+          bytes = g .bytes;
+          tasked = record { counted = tasks-fit most (length ds) wt t; few = t; fits = g .fits .0; allowed = any-allowed [] ds };
+          linked = record { counted = links-fit most (length ls) wl k; few = k; fits = g .fits .1 .0; allowed = a };
+          played = record { counted = events-fit most (length es) we v; few = v; fits = g .fits .1 .1; allowed = happens-allowed ranks es (begins ds ls ok) (g .happens) (g .room) };
+        }
+
+  -- demand 2: accepted only if genuine
+  pub accepted-genuine : (s : List ℕ) → Bytes s → recording ahead most (coreOf ahead (most .size) out) s .refusal ≡ 0
+      → (ds : List ℕ) × ((ls : List Link) × ((es : List (Event ℕ)) × Genuine ahead most s out ds ls es))
+  accepted-genuine s b z =
+      let r = accepted-recorded ahead most (coreOf ahead (most .size) out) s b z in
+      (r .0, (r .1 .0, (r .1 .1 .0, recorded-genuine (r .1 .1 .1))))
+
+  -- demand 2: and always then; the place is the length, and the state, the counts and the list are those of its events
+  pub genuine-accepted : most .size .tasks < 256 → most .size .links < 256 → most .events < 65536 → (s ds : List ℕ) (ls : List Link) (es : List (Event ℕ)) → Genuine ahead most s out ds ls es
+      → (q : Playing) × (recording ahead most (coreOf ahead (most .size) out) s ≡ reply 0 (length s) q) × Right ahead (most .size) (freshTable (most .size) ds ls) out (past [] es) q
+  genuine-accepted wt wl we s ds ls es g =
+      let r = genuine-recorded wt wl we g in
+      let ok : judgedTable ahead (length ds) (at (listed ls .writer)) (at (listed ls .reader)) (at (listed ls .kind)) (most .size) (length (listed ls .writer)) ≡ 0 =
+      rw (length-listed ls) (recorded-judged ahead most (coreOf ahead (most .size) out) s ds ls es r) in (
+        stateAfter (coreOf ahead (most .size) out) ds ls es,
+        recorded-accepted ahead most (coreOf ahead (most .size) out) s ds ls es r,
+        goes-on ds ls es ok (r .played .allowed),
+      )
+
+  -- an answer with a table: what stands in it is right, after the events that were accepted
+  pub record WithTable (s : List ℕ) (x : Reply Playing) : Type 0 where
+    pub tasks : List ℕ
+    pub links : List Link
+    pub events : List (Event ℕ)
+    pub place : ℕ
+    pub stands : TableTo ahead most s tasks links place
+    pub right : Right ahead (most .size) (freshTable (most .size) tasks links) out (past [] events) (x .state)
+
+  table-ok : {s ds : List ℕ} {ls : List Link} {m : ℕ} → TableTo ahead most s ds ls m
+      → judgedTable ahead (length ds) (at (listed ls .writer)) (at (listed ls .reader)) (at (listed ls .kind)) (most .size) (length (listed ls .writer)) ≡ 0
+  table-ok {ds = ds} {ls = ls} t = allowed-judged ahead (length ds) most ls (t .tasked .kept .few) (rw (length-listed ls) (t .linked .kept .few)) (t .linked .kept .allowed)
+
+  -- every answer is one with a table, or the single task's with nothing counted and the list untouched
+  pub answers-right : (s : List ℕ) → Bytes s → let x : Reply Playing = recording ahead most (coreOf ahead (most .size) out) s in (x .state ≡ coreOf ahead (most .size) out .single) ⊎ WithTable s x
+  answers-right s b = go (recording ahead most (coreOf ahead (most .size) out) s) (recording-outcome ahead most (coreOf ahead (most .size) out) s b)
+    where
+      single : {x : Reply Playing} {r p : ℕ} → x ≡ reply r p (coreOf ahead (most .size) out .single) → (x .state ≡ coreOf ahead (most .size) out .single) ⊎ WithTable s x
+      single e = inl (ap (λ (y : Reply Playing). y .state) e)
+
+      table : {x : Reply Playing} {r p : ℕ} (ds : List ℕ) (ls : List Link) (m : ℕ) (es : List (Event ℕ)) → TableTo ahead most s ds ls m
+          → Allowed (judgedIn ahead (most .size)) (steppedIn ahead (most .size)) (coreOf ahead (most .size) out .start ds (listed ls)) es
+          → x ≡ reply r p (stateAfter (coreOf ahead (most .size) out) ds ls es) → (x .state ≡ coreOf ahead (most .size) out .single) ⊎ WithTable s x
+      table ds ls m es t a e = inr (record { tasks = ds; links = ls; events = es; place = m; stands = t; right = rw e (goes-on ds ls es (table-ok t) a) })
+
+      go : (x : Reply Playing) → Outcome ahead most (coreOf ahead (most .size) out) s x → (x .state ≡ coreOf ahead (most .size) out .single) ⊎ WithTable s x
+      go x (taskCount r n u e) = single e
+      go x (taskRecord ds r p n f e) = single e
+      go x (linkCount ds r p n t u e) = single e
+      go x (linkRecord ds m ls r p n t f e) = single e
+      go x (eventCount ds ls r p n t u e) = single e
+      go x (eventRecord ds ls m es r p n t f e) = table ds ls m es t (f .played .allowed) e
+      go x (extraBytes ds ls m es p t w h e) = table ds ls m es t (w .kept .allowed) e
+      go x (accepted ds ls m es t w e) = table ds ls m es t (w .kept .allowed) e

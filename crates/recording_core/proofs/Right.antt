@@ -1,0 +1,191 @@
+-- What holds of the state, the counts and the list after each accepted event of a recording; and an event is accepted exactly when it could happen and there is room.
+-- Assumes nothing.
+use mathlib.Core.Path.{_≡_, refl, ap, sym, subst, _∙_}
+use mathlib.Core.Bool.{Bool, true, false, cond}
+use mathlib.Core.List.{List, [], _∷_}
+use Prim.Native.Nat.{ℕ, suc, _≤_}
+use native.Mathlib.Omega.{arith}
+use borrow.Author.Tests.{eqb-true, eqb-false, eq-eqb, leb-false, lt-leb}
+use lib.Dec.{eqb, leb}
+use lib.ListN.{length, length-set}
+use Rattle.lists.proofs.Bools.{cond-zero}
+use Rattle.protocol.specs.Event.{Event, arrival, start, read, finish}
+use Rattle.protocol.specs.Table.{Table}
+use Rattle.protocol.specs.History.{Counts, reads, counts}
+use Rattle.protocol.specs.Schedule.{urgent, Possible, judged}
+use Rattle.protocol.specs.ZeroTime.{ideals}
+use Rattle.protocol.proofs.Schedule.{judged-possible, possible-judged}
+use Rattle.protocol_state.specs.Saved.{Size, Saved, at, table}
+use Rattle.protocol_state.specs.Rules.{Ranks, judgedTable}
+use Rattle.protocol_state.specs.Judge.{judgedOn}
+use Rattle.protocol_state.specs.Next.{next, valueOf}
+use Rattle.protocol_state.specs.Fresh.{freshOf}
+use Rattle.protocol_state.specs.Give.{Outcome, note, after, replay}
+use Rattle.protocol_state.proofs.Give.{done, give-refusal}
+use Rattle.protocol_state.proofs.History.{Reached, reached-sound, reached-refusal, reached-after, reached}
+use Rattle.protocol_state.proofs.Numbers.{reached-ideals}
+use Rattle.recording_format.specs.Play.{Allowed, finally}
+use Rattle.recording_core.specs.Playing.{Playing, noCounts, full, noRoom, listedBy, judgedIn, steppedIn}
+use Rattle.recording_core.specs.Promise.{past, Happens, placed}
+use Rattle.recording_core.proofs.Counting.{counts-none, counts-next}
+
+-- as many ideal numbers as reads
+length-ideals : (T : Table ℕ) (h : List (Event ℕ)) → length (ideals T h) ≡ reads h
+unfolding ideals reads
+length-ideals T [] = refl
+length-ideals T (arrival m ∷ h) = length-ideals T h
+length-ideals T (start u ∷ h) = length-ideals T h
+length-ideals T (read l ∷ h) = ap suc (length-ideals T h)
+length-ideals T (finish u v ∷ h) = length-ideals T h
+
+-- the lent list keeps its length
+pub length-placed : (vs out : List ℕ) → length (placed vs out) ≡ length out
+unfolding placed
+length-placed [] out = refl
+length-placed (v ∷ vs) out = rw length-set (length-placed vs out)
+
+-- reads never become fewer
+reads-past : (h es : List (Event ℕ)) → reads h ≤ reads (past h es)
+unfolding past reads
+reads-past h [] = omega arith
+reads-past h (arrival m ∷ es) = reads-past (arrival m ∷ h) es
+reads-past h (start u ∷ es) = reads-past (start u ∷ h) es
+reads-past h (read l ∷ es) = omega (arith, reads-past (read l ∷ h) es)
+reads-past h (finish u v ∷ es) = reads-past (finish u v ∷ h) es
+
+first-same : {x y : ℕ} {xs ys : List ℕ} → x ∷ xs ≡ y ∷ ys → x ≡ y
+first-same {x} e = ap front e
+  where
+    front : List ℕ → ℕ
+    front [] = x
+    front (v ∷ vs) = v
+
+-- a refusal of the core, or else one for want of room
+both-zero : (j r : ℕ) → cond (eqb j 0) r j ≡ 0 → (j ≡ 0) × (r ≡ 0)
+both-zero j r e = go (eqb j 0) refl e
+  where
+    go : (b : Bool) → eqb j 0 ≡ b → cond b r j ≡ 0 → (j ≡ 0) × (r ≡ 0)
+    go true i z = (eqb-true j 0 i, z)
+    go false i z = absurd (eqb-false j 0 i z)
+
+-- room for the number that an event may read
+room-left : (e : Event ℕ) (h : List (Event ℕ)) (list out : List ℕ) (n : ℕ) → n ≡ reads h → length list ≡ length out → reads h ≤ length out
+    → noRoom e (full list n) ≡ 0 → reads (e ∷ h) ≤ length out
+unfolding reads
+room-left (arrival m) h list out n i l r z = r
+room-left (start u) h list out n i l r z = r
+room-left (read k) h list out n i l r z = let x = leb-false (length list) n (cond-zero (leb (length list) n) 18 0 (λ y. omega arith) z .0) in omega arith
+room-left (finish u v) h list out n i l r z = r
+
+room-enough : (e : Event ℕ) (h : List (Event ℕ)) (list out : List ℕ) (n : ℕ) → n ≡ reads h → length list ≡ length out → reads (e ∷ h) ≤ length out → noRoom e (full list n) ≡ 0
+unfolding reads
+room-enough (arrival m) h list out n i l r = refl
+room-enough (start u) h list out n i l r = refl
+room-enough (read k) h list out n i l r = rw (lt-leb (length list) n (omega arith))
+room-enough (finish u v) h list out n i l r = refl
+
+module _ {ahead : ℕ → ℕ → Bool} {size : Size} {q₀ : Saved} where
+  -- an event that the core allows, as one more of a replay
+  after-next : {o : Outcome} → Reached ahead size q₀ o → (e : Event ℕ) → judgedOn ahead (o .state) e ≡ 0
+      → after ahead size o e ≡ record { state = next ahead (o .state) e; history = e ∷ o .history; numbers = note e (valueOf (o .state) e) (o .numbers) }
+  unfolding after
+  after-next {o} r e z = rw (done (judgedOn ahead (o .state) e) (o .state) (next ahead (o .state) e) (valueOf (o .state) e) (reached-sound r) z)
+
+-- what holds of the state q of a replay after the history h, with the lent list out
+pub record Right (ahead : ℕ → ℕ → Bool) (size : Size) (q₀ : Saved) (out : List ℕ) (h : List (Event ℕ)) (q : Playing) : Type 0 where
+  pub reached : Reached ahead size q₀ (record { state = q .state; history = h; numbers = ideals (table ahead q₀) h })
+  pub counts : q .counts ≡ counts (table ahead q₀) h
+  pub list : q .list ≡ placed (ideals (table ahead q₀) h) out
+  pub room : reads h ≤ length out
+
+module _ {ahead : ℕ → ℕ → Bool} {size : Size} {q₀ : Saved} {out : List ℕ} {h : List (Event ℕ)} {q : Playing} (R : Right ahead size q₀ out h q) where
+  judged-is : (e : Event ℕ) → judgedOn ahead (q .state) e ≡ judged (table ahead q₀) (urgent (table ahead q₀)) h e
+  judged-is e = sym (give-refusal ahead size (q .state) e (reached-sound (R .reached))) ∙ reached-refusal (R .reached) e
+
+  reads-is : q .counts .reads ≡ reads h
+  reads-is = ap (λ (c : Counts). c .reads) (R .counts)
+
+  list-length : length (q .list) ≡ length out
+  list-length = ap length (R .list) ∙ length-placed (ideals (table ahead q₀) h) out
+
+  -- an event is accepted only if it could happen and there is room
+  pub allowed-could : (e : Event ℕ) → judgedIn ahead size q e ≡ 0 → Possible (table ahead q₀) (urgent (table ahead q₀)) h e × (reads (e ∷ h) ≤ length out)
+  unfolding judgedIn
+  allowed-could e z =
+      let b = both-zero (judgedOn ahead (q .state) e) _ z in (
+        judged-possible (table ahead q₀) (urgent (table ahead q₀)) h e (sym (judged-is e) ∙ b .0),
+        room-left e h (q .list) out (q .counts .reads) reads-is list-length (R .room) (b .1),
+      )
+
+  -- and always if it could, and there is
+  pub could-allowed : (e : Event ℕ) → Possible (table ahead q₀) (urgent (table ahead q₀)) h e → reads (e ∷ h) ≤ length out → judgedIn ahead size q e ≡ 0
+  unfolding judgedIn
+  could-allowed e p r =
+      let z : judgedOn ahead (q .state) e ≡ 0 = judged-is e ∙ possible-judged (table ahead q₀) (urgent (table ahead q₀)) h e p in
+      rw (eq-eqb _ 0 z) (room-enough e h (q .list) out (q .counts .reads) reads-is list-length r)
+
+  -- one accepted event more
+  module _ (ranks : Ranks ahead) (e : Event ℕ) (z : judgedIn ahead size q e ≡ 0) where
+    core-allows : judgedOn ahead (q .state) e ≡ 0
+    unfolding judgedIn
+    core-allows = both-zero (judgedOn ahead (q .state) e) _ z .0
+
+    abbrev noted : Outcome
+    noted = record { state = next ahead (q .state) e; history = e ∷ h; numbers = note e (valueOf (q .state) e) (ideals (table ahead q₀) h) }
+
+    noted-reached : Reached ahead size q₀ noted
+    noted-reached = subst (λ (o : Outcome). Reached ahead size q₀ o) (after-next (R .reached) e core-allows) (reached-after (R .reached) e)
+
+    noted-ideals : note e (valueOf (q .state) e) (ideals (table ahead q₀) h) ≡ ideals (table ahead q₀) (e ∷ h)
+    noted-ideals = reached-ideals ranks noted-reached
+
+    listed-next : (e : Event ℕ) (v : ℕ) → note e v (ideals (table ahead q₀) h) ≡ ideals (table ahead q₀) (e ∷ h)
+        → listedBy (q .list) (q .counts .reads) e v ≡ placed (ideals (table ahead q₀) (e ∷ h)) out
+    unfolding ideals placed
+    listed-next (arrival m) v i = R .list
+    listed-next (start u) v i = R .list
+    listed-next (read l) v i = rw (R .list, reads-is, first-same i, length-ideals (table ahead q₀) h)
+    listed-next (finish u x) v i = R .list
+
+    pub right-next : Right ahead size q₀ out (e ∷ h) (steppedIn ahead size q e)
+    unfolding steppedIn
+    right-next =
+        let c = allowed-could e z in
+        let n : q .state .tasks ≡ q₀ .tasks = ap (λ (t : Table ℕ). t .tasks) (R .reached .same) in
+        record {
+          reached = subst (λ (ns : List ℕ). Reached ahead size q₀ (record { state = next ahead (q .state) e; history = e ∷ h; numbers = ns })) noted-ideals noted-reached;
+          counts = rw (n, R .counts) (counts-next (table ahead q₀) (urgent (table ahead q₀)) h e (c .0));
+          list = listed-next e (valueOf (q .state) e) noted-ideals;
+          room = c .1;
+        }
+
+module _ {ahead : ℕ → ℕ → Bool} (ranks : Ranks ahead) {size : Size} {q₀ : Saved} {out : List ℕ} where
+  -- all of them
+  pub right-finally : (es : List (Event ℕ)) {h : List (Event ℕ)} {q : Playing} → Right ahead size q₀ out h q → Allowed (judgedIn ahead size) (steppedIn ahead size) q es
+      → Right ahead size q₀ out (past h es) (finally (steppedIn ahead size) q es)
+  unfolding Allowed past finally
+  right-finally [] R A = R
+  right-finally (e ∷ es) R A = right-finally es (right-next R ranks e (A .0)) (A .1)
+
+  -- events are accepted only if they could happen
+  pub allowed-happens : (es : List (Event ℕ)) {h : List (Event ℕ)} {q : Playing} → Right ahead size q₀ out h q → Allowed (judgedIn ahead size) (steppedIn ahead size) q es
+      → Happens (table ahead q₀) (urgent (table ahead q₀)) h es
+  unfolding Allowed Happens
+  allowed-happens [] R A = tt
+  allowed-happens (e ∷ es) R A = (allowed-could R e (A .0) .0, allowed-happens es (right-next R ranks e (A .0)) (A .1))
+
+  -- and always if they could, and there is room for their numbers
+  pub happens-allowed : (es : List (Event ℕ)) {h : List (Event ℕ)} {q : Playing} → Right ahead size q₀ out h q → Happens (table ahead q₀) (urgent (table ahead q₀)) h es
+      → reads (past h es) ≤ length out → Allowed (judgedIn ahead size) (steppedIn ahead size) q es
+  unfolding Allowed Happens past
+  happens-allowed [] R A r = tt
+  happens-allowed (e ∷ es) {h} R A r =
+      let m : reads (e ∷ h) ≤ reads (past (e ∷ h) es) = reads-past (e ∷ h) es in
+      let z = could-allowed R e (A .0) (omega arith) in
+      (z, happens-allowed es (right-next R ranks e z) (A .1) r)
+
+-- the fresh state of a table that earns no refusal
+pub right-fresh : (ahead : ℕ → ℕ → Bool) (size : Size) (n L : ℕ) (D W R K out : List ℕ) → judgedTable ahead n (at W) (at R) (at K) size L ≡ 0
+    → Right ahead size (freshOf size n L D W R K) out [] (record { state = freshOf size n L D W R K; counts = noCounts; list = out })
+unfolding ideals placed reads replay
+right-fresh ahead size n L D W R K out ok = record { reached = reached ahead size n L D W R K ok []; counts = sym (counts-none (table ahead (freshOf size n L D W R K))); list = refl; room = omega arith }

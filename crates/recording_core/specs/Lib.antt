@@ -1,0 +1,3 @@
+-- What a recording is judged by, with the mailbox core.
+pub mod Playing
+pub mod Promise
