@@ -5,23 +5,25 @@ use mathlib.Core.Path.{_≡_, refl, ap}
 use mathlib.Core.Logic.{_⊎_, inl, inr}
 use mathlib.Core.Bool.{Bool}
 use mathlib.Core.List.{List, [], _∷_}
-use Prim.Native.Nat.{ℕ, _<_}
-use lib.ListN.{length}
+use Prim.Native.Nat.{ℕ, _≤_, _<_}
+use lib.ListN.{length, take}
 use Rattle.protocol.specs.Event.{Event}
 use Rattle.protocol_state.specs.Saved.{at}
 use Rattle.protocol_state.specs.Rules.{Ranks, judgedTable}
 use Rattle.protocol_state.proofs.Rules.{obeys, no-fault}
 use Rattle.recording_format.specs.Number.{Bytes}
-use Rattle.recording_format.specs.Play.{Reply, reply, Allowed}
+use Rattle.recording_format.specs.Play.{Reply, reply, Allowed, Cut}
 use Rattle.recording_format.specs.Task.{anyDefault, andDefault}
 use Rattle.recording_format.specs.Link.{Link, listed}
+use Rattle.recording_format.specs.Event.{events}
 use Rattle.recording_format.specs.Limits.{Limits}
-use Rattle.recording_format.specs.Recording.{recording, stateAfter, Recorded}
+use Rattle.recording_format.specs.Recording.{recording, throughE, stateAfter, Recorded}
 use Rattle.recording_format.specs.Outcome.{TableTo, Outcome, taskCount, taskRecord, linkCount, linkRecord, eventCount, eventRecord, extraBytes, accepted}
 use Rattle.recording_format.proofs.Sizes.{tasks-within, within-tasks, links-within, within-links, events-within, within-events, tasks-fit, links-fit, events-fit}
 use Rattle.recording_format.proofs.LinkRules.{length-listed, allowed-no-fault, no-fault-allowed, allowed-judged, recorded-judged}
 use Rattle.recording_format.proofs.Outcomes.{recording-outcome}
 use Rattle.recording_format.proofs.Recordings.{accepted-recorded, recorded-accepted}
+use Rattle.recording_format.proofs.Cuts.{recorded-cut}
 use Rattle.recording_core.specs.Playing.{Playing, coreOf, judgedIn, steppedIn}
 use Rattle.recording_core.specs.Promise.{past, freshTable, Genuine}
 use Rattle.recording_core.proofs.Right.{Right, right-fresh, right-finally, allowed-happens, happens-allowed}
@@ -98,6 +100,12 @@ module _ {ahead : ℕ → ℕ → Bool} (ranks : Ranks ahead) (most : Limits) (o
         recorded-accepted ahead most (coreOf ahead (most .size) out) s ds ls es r,
         goes-on ds ls es ok (r .played .allowed),
       )
+
+  -- the power cut: of an accepted recording only the first m bytes are kept, at least through E. The answer is that of its whole records, with 1 at the first that isn't whole
+  pub power-cut : most .size .tasks < 256 → most .size .links < 256 → most .events < 65536 → (s ds : List ℕ) (ls : List Link) (es : List (Event ℕ)) → Genuine ahead most s out ds ls es
+      → (m : ℕ) → throughE ds ls ≤ m → m < length s
+      → Cut events (steppedIn ahead (most .size)) (coreOf ahead (most .size) out .start ds (listed ls)) es (throughE ds ls) m (recording ahead most (coreOf ahead (most .size) out) (take m s))
+  power-cut wt wl we s ds ls es g m h l = recorded-cut ahead most (coreOf ahead (most .size) out) s ds ls es (genuine-recorded wt wl we g) m h l
 
   -- an answer with a table: what stands in it is right, after the events that were accepted
   pub record WithTable (s : List ℕ) (x : Reply Playing) : Type 0 where
