@@ -28,7 +28,8 @@ use mailbox_parts::numbers::TASKS;
 
 pub mod tables;
 
-// All that a station has to keep between events. Slots past `tasks` and past `links` hold 0 when fresh and are never touched.
+// All that a station has to keep between events. Slots past `tasks` and past `links` are never touched; when fresh they hold 0, newest
+// and previous 1.
 pub struct State {
     pub tasks: usize,
     pub links: usize,

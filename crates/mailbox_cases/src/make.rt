@@ -1,0 +1,77 @@
+// Tables to try, and states with a number changed.
+use mailbox::Made;
+use mailbox::State;
+use mailbox_parts::numbers::CELLS;
+use mailbox_parts::numbers::LINKS;
+use mailbox_parts::numbers::TASKS;
+
+// Task 1 has 100, as in the long example; tasks 4 to 15 have their own number.
+const DEFAULTS: [u32; TASKS] = [0, 100, 0, 0, 4, 5, 6, 7, 8, 9, 10, 11, 12, 13, 14, 15];
+
+// What `State::fresh` takes. Slots that no link has filled hold 77, so that a copy of too much is seen.
+pub struct Table {
+    tasks: usize,
+    links: usize,
+    writer: [u8; LINKS],
+    reader: [u8; LINKS],
+    kind: [u8; LINKS],
+}
+
+impl Table {
+    // So many tasks and no links.
+    pub fn of(tasks: usize) -> Table {
+        Table {
+            tasks,
+            links: 0,
+            writer: [77u8; LINKS],
+            reader: [77u8; LINKS],
+            kind: [77u8; LINKS],
+        }
+    }
+
+    // One link more, as long as there is a slot.
+    pub fn link(mut self, w: u8, r: u8, k: u8) -> Table {
+        let l = self.links;
+        if l < LINKS {
+            self.writer[l] = w;
+            self.reader[l] = r;
+            self.kind[l] = k;
+            self.links = l + 1;
+        }
+        self
+    }
+
+    // The same table that says it has so many links.
+    pub fn count(mut self, links: usize) -> Table {
+        self.links = links;
+        self
+    }
+
+    // What it makes.
+    pub fn made(self) -> Made {
+        let writer = self.writer;
+        let reader = self.reader;
+        let kind = self.kind;
+        State::fresh(self.tasks, self.links, DEFAULTS, writer, reader, kind)
+    }
+}
+
+// The state with `x` in the part that this letter names, at `i` where it is an array; as it is for any other letter.
+pub fn with(mut s: State, part: u8, i: usize, x: u8) -> State {
+    let t = i % TASKS;
+    let l = i % LINKS;
+    match part {
+        b't' => s.tasks = x as usize,
+        b'l' => s.links = x as usize,
+        b'p' => s.phase[t] = x,
+        b'n' => s.newest[t] = x,
+        b'o' => s.previous[t] = x,
+        b'c' => s.cells[i % CELLS] = x as u32,
+        b'w' => s.writer[l] = x,
+        b'r' => s.reader[l] = x,
+        b'k' => s.kind[l] = x,
+        b'x' => s.pointer[l] = x,
+        _ => {}
+    }
+    s
+}

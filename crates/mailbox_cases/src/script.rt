@@ -1,0 +1,233 @@
+// The script: one line for each case, read byte by byte. Its words are explained at its head, in the file `stdin`.
+use crate::make::Table;
+use crate::make::with;
+use crate::show::answered;
+use crate::show::made;
+use crate::show::past;
+use crate::show::text;
+use mailbox::State;
+use mailbox::Step;
+use mailbox_parts::event::Event;
+
+// Numbers have at most 19 digits; the remainder only keeps the sum from wrapping.
+const DIGITS: u64 = 1000000000000000000;
+
+// A word of a line: a letter and at most three numbers with commas between, the last one in `z`.
+pub struct Word {
+    letter: u8,
+    x: u64,
+    y: u64,
+    z: u64,
+}
+
+impl Word {
+    fn none() -> Word {
+        Word {
+            letter: 0,
+            x: 0,
+            y: 0,
+            z: 0,
+        }
+    }
+
+    // One byte more: the letter, a comma, or a digit, whose low four bits are its number.
+    fn spelled(mut self, c: u8) -> Word {
+        if self.letter == 0 {
+            self.letter = c;
+        } else if c == b',' {
+            self.x = self.y;
+            self.y = self.z;
+            self.z = 0;
+        } else {
+            self.z = self.z % DIGITS * 10 + (c % 16) as u64;
+        }
+        self
+    }
+}
+
+// The numbers of a word as a state and an event have them.
+fn narrow(n: u64) -> u8 {
+    (n % 256) as u8
+}
+
+fn number(n: u64) -> u32 {
+    (n % 4294967296) as u32
+}
+
+// What the script is at.
+pub struct Desk {
+    table: Table,
+    // the state that each line begins with
+    base: State,
+    now: State,
+    // the first byte of the line, 0 before it
+    line: u8,
+    naming: bool,
+    word: Word,
+}
+
+impl Desk {
+    // Before the first line.
+    pub fn cleared() -> Desk {
+        Desk {
+            table: Table::of(1),
+            base: State::single(),
+            now: State::single(),
+            line: 0,
+            naming: false,
+            word: Word::none(),
+        }
+    }
+
+    // One byte of the script more.
+    pub fn byte(self, c: u8) -> Desk {
+        if c == b'\n' {
+            return self.done().ended();
+        }
+        if self.line == 0 {
+            return self.begun(c);
+        }
+        if self.line == b'#' {
+            return self;
+        }
+        if self.naming {
+            return self.named(c);
+        }
+        if c == b' ' {
+            return self.done();
+        }
+        self.spelled(c)
+    }
+
+    // The first byte of a line says what becomes of it; a name follows.
+    fn begun(mut self, c: u8) -> Desk {
+        self.line = c;
+        self.naming = true;
+        self
+    }
+
+    // Whether the line is printed.
+    fn shown(self) -> bool {
+        (self.line == b'=') | (self.line == b'?')
+    }
+
+    fn named(mut self, c: u8) -> Desk {
+        if c == b' ' {
+            self.naming = false;
+        } else if self.shown() {
+            text(&[c]);
+        }
+        self
+    }
+
+    fn spelled(mut self, c: u8) -> Desk {
+        let word = self.word;
+        self.word = word.spelled(c);
+        self
+    }
+
+    // The end of a line: `?` goes back to the state before it.
+    fn ended(mut self) -> Desk {
+        if self.shown() {
+            text(b"\n");
+        }
+        if self.line == b'?' {
+            let s = self.base;
+            self.now = s;
+        } else {
+            let s = self.now;
+            self.base = s;
+        }
+        self.line = 0;
+        self
+    }
+
+    // The end of a word.
+    fn done(mut self) -> Desk {
+        let w = self.word;
+        let letter = w.letter;
+        self.word = Word::none();
+        match letter {
+            b'T' | b'L' | b'C' => self.tabled(w),
+            b'M' => self.made(),
+            b'A' => self.given(Event::Arrival(number(w.z))),
+            b'S' => self.given(Event::Start(narrow(w.z))),
+            b'R' => self.given(Event::Read(narrow(w.z))),
+            b'F' => self.given(Event::Finish(narrow(w.y), number(w.z))),
+            b'J' => self.looked(),
+            _ => self.spoiled(w),
+        }
+    }
+
+    // The table begun anew, with one link more, or with another count.
+    fn tabled(mut self, w: Word) -> Desk {
+        let t = self.table;
+        let letter = w.letter;
+        match letter {
+            b'T' => self.table = Table::of(w.z as usize),
+            b'L' => self.table = t.link(narrow(w.x), narrow(w.y), narrow(w.z)),
+            _ => self.table = t.count(w.z as usize),
+        }
+        self
+    }
+
+    // The fresh state of the table.
+    fn made(mut self) -> Desk {
+        let t = self.table;
+        let m = t.made();
+        if self.shown() {
+            made(m);
+        }
+        let s = m.state;
+        self.now = s;
+        self
+    }
+
+    // An event given to the state.
+    fn given(mut self, e: Event) -> Desk {
+        let before = self.now;
+        let step = called(before, e);
+        if self.shown() {
+            answered(before, e, step);
+        }
+        let s = step.state;
+        self.now = s;
+        self
+    }
+
+    // What stands past the counts.
+    fn looked(self) -> Desk {
+        if self.shown() {
+            let s = self.now;
+            past(s);
+        }
+        self
+    }
+
+    // A number of the state changed.
+    fn spoiled(mut self, w: Word) -> Desk {
+        let s = self.now;
+        self.now = with(s, w.letter, w.y as usize, narrow(w.z));
+        self
+    }
+}
+
+// The event given to the state by the method of its kind.
+fn called(s: State, e: Event) -> Step {
+    match e {
+        Event::Arrival(set) => s.arrival(set),
+        Event::Start(t) => s.start(t),
+        Event::Read(l) => s.read(l),
+        Event::Finish(t, value) => s.finish(t, value),
+    }
+}
+
+// The whole script.
+pub fn play(script: &[u8]) {
+    let mut desk = Desk::cleared();
+    let mut i = 0;
+    while i < script.len() {
+        desk = desk.byte(script[i]);
+        i += 1;
+    }
+}
