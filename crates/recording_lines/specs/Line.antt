@@ -24,6 +24,7 @@ use Rattle.recording_lines.specs.Words.{
   text-refused,
   text-rest,
   text-running,
+  text-unknown,
   text-task,
   text-waiting,
 }
@@ -78,9 +79,9 @@ refusedLine refusal place = text-refused ++ number refusal ++ text-at ++ number 
 abbrev pub countsLine : ℕ → ℕ → ℕ → ℕ → List ℕ
 countsLine a s r f = text-counts ++ number a ++ number s ++ number r ++ number f ++ feed
 
--- a phase: 1 waiting, 2 running, else idle
+-- a phase: 0 idle, 1 waiting, 2 running; another number is no phase
 unfoldable pub phase : ℕ → List ℕ
-phase p = cond (eqb p 1) text-waiting (cond (eqb p 2) text-running text-idle)
+phase p = cond (eqb p 1) text-waiting (cond (eqb p 2) text-running (cond (eqb p 0) text-idle text-unknown))
 
 -- ` newest P previous P`
 abbrev pub positions : ℕ → ℕ → List ℕ

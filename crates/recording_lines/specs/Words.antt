@@ -51,6 +51,10 @@ text-waiting = 32 ∷ 119 ∷ 97 ∷ 105 ∷ 116 ∷ 105 ∷ 110 ∷ 103 ∷ []
 abbrev pub text-running : List ℕ
 text-running = 32 ∷ 114 ∷ 117 ∷ 110 ∷ 110 ∷ 105 ∷ 110 ∷ 103 ∷ []
 
+-- a space and `unknown`
+abbrev pub text-unknown : List ℕ
+text-unknown = 32 ∷ 117 ∷ 110 ∷ 107 ∷ 110 ∷ 111 ∷ 119 ∷ 110 ∷ []
+
 -- a space and `newest`
 abbrev pub text-newest : List ℕ
 text-newest = 32 ∷ 110 ∷ 101 ∷ 119 ∷ 101 ∷ 115 ∷ 116 ∷ []

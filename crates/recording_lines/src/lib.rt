@@ -142,7 +142,7 @@ pub fn put_counts(
     put_line(&mut line, e, out)
 }
 
-// A phase's word put into a line: the place after it.
+// A phase's word put into a line: the place after it. What is no phase has a word of its own.
 fn put_phase(code: u8, line: &mut [u8], at: usize) -> usize
     requires { ⌜ at + 8 ≤ length (now line) ⌝ }
     ensures { λ r. ⌜ Added (phase code) 8 at (now (line .entry)) r (now (line .exit)) ⌝ }
@@ -153,7 +153,10 @@ fn put_phase(code: u8, line: &mut [u8], at: usize) -> usize
     if code == 2 {
         return put_text(b" running", line, at);
     }
-    put_text(b" idle", line, at)
+    if code == 0 {
+        return put_text(b" idle", line, at);
+    }
+    put_text(b" unknown", line, at)
 }
 
 // A cell, as wide as a number to print.

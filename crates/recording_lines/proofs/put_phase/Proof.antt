@@ -45,7 +45,20 @@ same-length-3 c = search needs
 
 returns-3 : tie.Need-returns-3
 unfolding phase
-returns-3 c = rw (ne-eqb _ 1 (c .before .before .before .before .before .before .if1 .left), ne-eqb _ 2 (c .before .before .before .before .before .if2 .left)) (shorter (omega (arith, c .before .before .put-text3 .ensures .near)) (c .before .before .put-text3 .ensures))
+returns-3 c = rw (ne-eqb _ 1 (c .before .before .before .before .before .before .before .if1 .left), ne-eqb _ 2 (c .before .before .before .before .before .before .if2 .left), eq-eqb _ 0 (c .before .before .before .before .before .if3 .taken)) (shorter (omega (arith, c .before .before .put-text3 .ensures .near)) (c .before .before .put-text3 .ensures))
+
+slice-aggregate-put-text-4 : tie.Need-slice-aggregate-put-text-4
+slice-aggregate-put-text-4 c = search needs
+
+put-text-requires-4 : tie.Need-put-text-requires-4
+put-text-requires-4 c κs = search needs
+
+same-length-4 : tie.Need-same-length-4
+same-length-4 c = search needs
+
+returns-4 : tie.Need-returns-4
+unfolding phase
+returns-4 c = rw (ne-eqb _ 1 (c .before .before .before .before .before .before .before .if1 .left), ne-eqb _ 2 (c .before .before .before .before .before .before .if2 .left), ne-eqb _ 0 (c .before .before .before .before .before .if3 .left)) (shorter (omega (arith, c .before .before .put-text4 .ensures .near)) (c .before .before .put-text4 .ensures))
 
 pub put-phase-spec : {M : Type 1} → statement M
 put-phase-spec =
@@ -62,4 +75,8 @@ put-phase-spec =
     slice-aggregate-put-text-3
     put-text-requires-3
     same-length-3
-    returns-3)
+    returns-3
+    slice-aggregate-put-text-4
+    put-text-requires-4
+    same-length-4
+    returns-4)
