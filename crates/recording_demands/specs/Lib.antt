@@ -1,0 +1,1 @@
+-- Nothing is defined here: the theorems speak of what the replay ensures.
