@@ -1,0 +1,229 @@
+// The printouts of a recording, written to standard output: what was read, and, for a closer look, the state at the end.
+//
+// What a program writes no contract can say, so the functions here are proved safe and ending and no more. Each line is made
+// by `recording_lines`, whose contracts say what stands in it; the numbers are those that `recording::replay` answers with.
+ghost use Prim.Native.Nat.{_≤_};
+ghost use Rattle.protocol_state.specs.Saved.{base};
+use libc::STDOUT_FILENO;
+use mailbox::State;
+use mailbox_checks::table::count_behind;
+use mailbox_parts::event::Event;
+use mailbox_parts::numbers::CELLS;
+use mailbox_parts::numbers::LINKS;
+use mailbox_parts::numbers::POSITIONS;
+use mailbox_parts::numbers::TASKS;
+use recording::replay;
+use recording::rest;
+use recording_lines::put_accepted;
+use recording_lines::put_counts;
+use recording_lines::put_link;
+use recording_lines::put_place;
+use recording_lines::put_read;
+use recording_lines::put_refusal;
+use recording_lines::put_refused;
+use recording_lines::put_rest;
+use recording_lines::put_task;
+use recording_read::event::Next;
+use recording_read::table::read_table;
+use recording_walk::event_at;
+
+// The bytes of the longest recording and one more, so that an extra byte is seen.
+pub const BYTES: usize = 60165;
+
+// A program's room for numbers: as many as a recording may have events.
+pub const NUMBERS: usize = 10000;
+
+// Room for the longest line, a task with ten cells.
+const LINE: usize = 320;
+
+// Writes the first n bytes of a line, of which there are never more than its room.
+fn show(n: usize, line: &[u8]) {
+    if n <= line.len() {
+        io::write_all(STDOUT_FILENO, &line[..n]);
+    }
+}
+
+// The part of a list from a place on that has n entries; empty where there are fewer.
+fn part(list: &[u32], from: usize, n: usize) -> &[u32] {
+    let size = list.len();
+    if from <= size {
+        if n <= size - from {
+            let end = from + n;
+            return &list[from..end];
+        }
+    }
+    &list[size..]
+}
+
+// Writes the line of a read: its link and the next of the numbers. Answers how many are written then.
+fn print_number(link: u8, list: &[u32], done: usize) -> usize {
+    let mut line = [0u8; LINE];
+    if done < list.len() {
+        show(put_read(link, list[done], &mut line), &line);
+        done + 1
+    } else {
+        done
+    }
+}
+
+// Writes the line of an event that is a read. Answers how many are written then.
+fn print_event(e: Event, list: &[u32], done: usize) -> usize {
+    match e {
+        Event::Arrival(_) => done,
+        Event::Start(_) => done,
+        Event::Read(link) => print_number(link, list, done),
+        Event::Finish(_, _) => done,
+    }
+}
+
+// Writes a line for each number of the list, with the links of the read records among the events from a place on.
+fn print_reads(s: &[u8], at: usize, events: usize, list: &[u32]) {
+    let mut p = at;
+    let mut done: usize = 0;
+    let mut i: usize = 0;
+    while i < events {
+        let next = event_at(s, p);
+        let Next::Got(e, after) = next else {
+            break;
+        };
+        done = print_event(e, list, done);
+        p = after;
+        i += 1;
+    }
+}
+
+// Writes the last line of a replay: all events accepted, or the refusal and its place.
+fn print_end(refusal: u8, place: usize, events: usize) {
+    let mut line = [0u8; LINE];
+    if refusal == 0 {
+        show(put_accepted(events, &mut line), &line);
+    } else {
+        show(put_refused(refusal, place, &mut line), &line);
+    }
+}
+
+// Writes what a recording says: a line for each number read, then whether it was accepted. The lent list has the numbers.
+pub fn print_replay(s: &[u8], out: &mut [u32]) {
+    let a = replay(s, out);
+    let t = read_table(s);
+    print_reads(s, t.place, t.events, part(out, 0, a.reads));
+    print_end(a.refusal, a.place, t.events);
+}
+
+// n, or the most that it may be. The counts of a state never exceed it.
+fn at_most(n: usize, most: usize) -> usize
+    ensures { λ r. ⌜ r ≤ most ⌝ }
+{
+    if n <= most { n } else { most }
+}
+
+// Writes the line of a task with so many links to readers behind: it has two positions more.
+fn print_task(t: usize, behind: usize, phase: u8, newest: u8, previous: u8, cells: &[u32; CELLS])
+    requires { ⌜ (t ≤ base .tasks) × (behind ≤ base .links) ⌝ }
+{
+    let mut line = [0u8; LINE];
+    let own = part(cells, t * POSITIONS, behind + 2);
+    show(put_task(t, phase, newest, previous, own, &mut line), &line);
+}
+
+// Writes a line for each task.
+fn print_tasks(
+    tasks: usize,
+    links: usize,
+    writer: &[u8; LINKS],
+    reader: &[u8; LINKS],
+    phase: &[u8; TASKS],
+    newest: &[u8; TASKS],
+    previous: &[u8; TASKS],
+    cells: &[u32; CELLS],
+)
+    requires { ⌜ (tasks ≤ base .tasks) × (links ≤ base .links) ⌝ }
+{
+    let mut t = 0;
+    while t < tasks {
+        let behind = count_behind(writer, reader, links, t);
+        print_task(t, behind, phase[t], newest[t], previous[t], cells);
+        t += 1;
+    }
+}
+
+// Writes the line of a link.
+fn print_link(l: usize, pointer: u8) {
+    let mut line = [0u8; LINE];
+    show(put_link(l, pointer, &mut line), &line);
+}
+
+// Writes a line for each link.
+fn print_links(links: usize, pointer: &[u8; LINKS])
+    requires { ⌜ links ≤ base .links ⌝ }
+{
+    let mut l = 0;
+    while l < links {
+        print_link(l, pointer[l]);
+        l += 1;
+    }
+}
+
+// Writes a state: its tasks, then its links.
+fn print_state(q: State) {
+    let tasks = at_most(q.tasks, TASKS);
+    let links = at_most(q.links, LINKS);
+    let writer = q.writer;
+    let reader = q.reader;
+    let phase = q.phase;
+    let newest = q.newest;
+    let previous = q.previous;
+    let cells = q.cells;
+    let pointer = q.pointer;
+    print_tasks(
+        tasks,
+        links,
+        &writer,
+        &reader,
+        &phase,
+        &newest,
+        &previous,
+        &cells,
+    );
+    print_links(links, &pointer);
+}
+
+// Writes the refusal, the place and the counts that a replay answers with.
+fn print_answer(
+    refusal: u8,
+    place: usize,
+    arrivals: usize,
+    starts: usize,
+    reads: usize,
+    finishes: usize,
+) {
+    let mut line = [0u8; LINE];
+    show(put_refusal(refusal, &mut line), &line);
+    show(put_place(place, &mut line), &line);
+    show(
+        put_counts(arrivals, starts, reads, finishes, &mut line),
+        &line,
+    );
+}
+
+// Writes how many bytes are left unread.
+fn print_rest(left: &[u8]) {
+    let mut line = [0u8; LINE];
+    show(put_rest(left.len(), &mut line), &line);
+}
+
+// Writes all that a replay answers with: the refusal, 0 for none, the place, the counts, the state, and how much is left unread.
+pub fn print_inspect(s: &[u8], out: &mut [u32]) {
+    let a = replay(s, out);
+    print_answer(
+        a.refusal,
+        a.place,
+        a.arrivals,
+        a.starts,
+        a.reads,
+        a.finishes,
+    );
+    let state = a.state;
+    print_state(state);
+    print_rest(rest(s, a.place));
+}
