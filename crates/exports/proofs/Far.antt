@@ -1,0 +1,47 @@
+-- A task or link number above 255 is in no table: its event earns 12, after 19.
+-- Assumes nothing.
+use mathlib.Core.Path.{_≡_, refl, sym, ap, _∙_}
+use mathlib.Core.Logic.{_≢_}
+use mathlib.Core.Bool.{Bool, true, false}
+use Prim.Native.Nat.{ℕ, _<_}
+use native.Mathlib.Omega.{arith}
+use borrow.Author.Tests.{le-leb}
+use lib.Dec.{leb, ltb}
+use Rattle.protocol.specs.Event.{Event, arrival, start, read, finish}
+use Rattle.protocol_state.specs.Saved.{Saved, base, at}
+use Rattle.protocol_state.specs.Judge.{judgedTask, judgedRead, judgedOn}
+use Rattle.protocol_state.specs.Next.{next, valueOf}
+use Rattle.protocol_state.specs.Sound.{isSound}
+use Rattle.protocol_state.specs.Give.{reply, settled, give}
+use Rattle.protocol_state.proofs.Sound.{sound-says}
+use Rattle.protocol_state.proofs.Keeps as keeps
+use Rattle.protocol_state.proofs.Give.{unsound, refused}
+
+-- where each sound state answers an event by r, its answer is known
+pub refused-by : (q : Saved) (e : Event ℕ) (r : ℕ) → r ≢ 0 → (isSound ltb base q ≡ true → judgedOn ltb q e ≡ r) → settled (isSound ltb base q) r q q 0 ≡ give ltb base q e
+refused-by q e r n j = go (isSound ltb base q) refl where
+  go : (b : Bool) → isSound ltb base q ≡ b → settled (isSound ltb base q) r q q 0 ≡ give ltb base q e
+  go false s = unsound r q q 0 s ∙ sym (unsound (judgedOn ltb q e) q (next ltb q e) (valueOf q e) s)
+  go true s = refused r q q 0 s n ∙ ap (λ (k : ℕ). reply q k 0) (sym (j s)) ∙ sym (refused (judgedOn ltb q e) q (next ltb q e) (valueOf q e) s (λ z. n (sym (j s) ∙ z)))
+
+module _ (q : Saved) (i : ℕ) (far : 255 < i) where
+  task-far : (k : ℕ) → isSound ltb base q ≡ true → judgedTask ltb k i (q .tasks) (at (q .phase)) ≡ 12
+  unfolding judgedTask
+  task-far k s =
+      let c = keeps.counts q (sound-says ltb base q s) in
+      let h : leb (q .tasks) i ≡ true = le-leb (q .tasks) i (omega arith) in rw h
+
+  link-far : isSound ltb base q ≡ true → judgedRead ltb i (q .tasks) (q .links) (at (q .reader)) (at (q .phase)) ≡ 12
+  unfolding judgedRead
+  link-far s =
+      let c = keeps.counts q (sound-says ltb base q s) in
+      let h : leb (q .links) i ≡ true = le-leb (q .links) i (omega arith) in rw h
+
+  pub start-far : settled (isSound ltb base q) 12 q q 0 ≡ give ltb base q (start i)
+  start-far = refused-by q (start i) 12 (λ z. omega arith) (task-far 1)
+
+  pub read-far : settled (isSound ltb base q) 12 q q 0 ≡ give ltb base q (read i)
+  read-far = refused-by q (read i) 12 (λ z. omega arith) link-far
+
+  pub finish-far : (v : ℕ) → settled (isSound ltb base q) 12 q q 0 ≡ give ltb base q (finish i v)
+  finish-far v = refused-by q (finish i v) 12 (λ z. omega arith) (task-far 3)

@@ -1,0 +1,3 @@
+pub mod Far
+pub mod Ways
+pub mod Fills

@@ -1,0 +1,83 @@
+-- A call, way by way: unsound, no event, refused, done.
+-- Assumes nothing.
+use mathlib.Core.Path.{_≡_, refl, sym, ap, _∙_}
+use mathlib.Core.Logic.{⊎-elim}
+use mathlib.Core.Bool.{Bool, true, false, not}
+use mathlib.Core.List.{List, [], _∷_}
+use Prim.Native.Nat.{ℕ, _≤_}
+use native.Mathlib.Omega.{arith}
+use borrow.Author.Tests.{eqb-true, not-true, not-false}
+use types.Run.{OneOf}
+use denote.Enum.Declared.{tagOf}
+use Rattle.lists.proofs.Bools.{and-left}
+use lib.Dec.{eqb, ltb}
+use Rattle.protocol_state.specs.Saved.{Saved, base, at}
+use Rattle.protocol_state.specs.Rules.{judgedTable}
+use Rattle.protocol_state.specs.Judge.{judgedOn}
+use Rattle.protocol_state.specs.Next.{next, valueOf}
+use Rattle.protocol_state.specs.Sound.{soundParts, isSound}
+use Rattle.protocol_state.specs.Give.{reply, give}
+use Rattle.protocol_state.proofs.Rules as rules
+use Rattle.protocol_state.proofs.Give.{unsound, refused, done}
+use Rattle.mailbox_parts.specs.Plain.{plain}
+use Rattle.mailbox_parts.specs.Becomes.{savedOf, Becomes}
+use Rattle.mailbox_parts.specs.declared.event.Event.{Event}
+use Rattle.exports.specs.Calls.{Call, known, unknown, called, answered}
+use Rattle.exports.specs.Replies.{heard, numberOf, Given, Answered}
+use Rattle.exports.specs.declared.call.Asked.{Asked}
+use Rattle.exports.specs.declared.call.Asked.the-variants as asked
+use Rattle.exports.proofs.call.Asked as A
+
+-- an unsound state is answered 19, whatever is called
+never : (q : Saved) (c : Call) → isSound ltb base q ≡ false → answered q c ≡ reply q 19 0
+never q (known e) s = unsound (judgedOn ltb q e) q (next ltb q e) (valueOf q e) s
+never q unknown s = unsound 11 q q 0 s
+
+-- what is no event is answered by its number
+none : (q : Saved) (a : Asked) → isSound ltb base q ≡ true → OneOf (1 ∷ 2 ∷ []) (tagOf A.the-type a) → heard q a ≡ reply q (numberOf a) 0
+none q (asked.Known e) s o = ⊎-elim (λ (u : _≡_ {A = ℕ} 0 1). absurd (omega arith)) (λ (u : _≡_ {A = ℕ} 0 2). absurd (omega arith)) o
+none q asked.Outside s o = refused 12 q q 0 s (λ z. omega arith)
+none q asked.Unknown s o = refused 11 q q 0 s (λ z. omega arith)
+
+-- an event that a sound state refuses, and one that it does
+module _ (q : Saved) (e : Event) {k v : ℕ} (s : isSound ltb base q ≡ true) (judged : k ≡ judgedOn ltb q (plain e)) where
+  held : (k ≡ 0 → ⊥) → v ≡ 0 → reply q k v ≡ give ltb base q (plain e)
+  held z i = rw (i, judged) (sym (refused (judgedOn ltb q (plain e)) q (next ltb q (plain e)) (valueOf q (plain e)) s (λ j. z (judged ∙ j))))
+
+  allowed : {q′ : Saved} → k ≡ 0 → v ≡ valueOf q (plain e) → q′ ≡ next ltb q (plain e) → reply q′ 0 v ≡ give ltb base q (plain e)
+  allowed z t b = rw (b, t) (sym (done (judgedOn ltb q (plain e)) q (next ltb q (plain e)) (valueOf q (plain e)) s (sym judged ∙ z)))
+
+-- the counts of a sound state are within the room
+pub counts : (T L : ℕ) (W R K ph n p x : ℕ → ℕ) → soundParts ltb base T L W R K ph n p x ≡ true → (T ≤ base .tasks) × (L ≤ base .links)
+unfolding soundParts
+counts T L W R K ph n p x s = let c = rules.counts ltb T W R K base L (eqb-true _ 0 (and-left (eqb (judgedTable ltb T W R K base L) 0) _ s)) in (c .1, c .2)
+
+-- the test that the code makes: it passed
+pub passed : (b : Bool) {sound : Bool} → b ≡ sound → not b ≡ false → sound ≡ true
+passed b test n = sym test ∙ not-false b n
+
+-- the same of the parts that are lent, whatever the defaults are
+module _ {T L : ℕ} {W R K ph n p C x : List ℕ} where
+  module _ {e : Event} {k v : ℕ} (s : isSound ltb base (savedOf T L [] ph n p C W R K x) ≡ true) (judged : k ≡ judgedOn ltb (savedOf T L [] ph n p C W R K x) (plain e)) where
+    pub given-refused : (k ≡ 0 → ⊥) → v ≡ 0 → Given e T L W R K ph n p C x ph n p C x k v
+    given-refused z i = record { event = λ D. held (savedOf T L D ph n p C W R K x) e s judged z i }
+
+    pub given-done :
+        {ph′ n′ p′ C′ x′ : List ℕ} → k ≡ 0 → v ≡ valueOf (savedOf T L [] ph n p C W R K x) (plain e) → Becomes e T L W R K ph n p C x ph′ n′ p′ C′ x′ →
+        Given e T L W R K ph n p C x ph′ n′ p′ C′ x′ 0 v
+    given-done z t b = record { event = λ D. allowed (savedOf T L D ph n p C W R K x) e s judged z t (b .state D) }
+
+  module _ {kind which value : ℕ} where
+    pub answered-unsound : {b : Bool} → b ≡ isSound ltb base (savedOf T L [] ph n p C W R K x) → not b ≡ true → Answered kind which value T L W R K ph n p C x ph n p C x 19 0
+    answered-unsound {b} test h = record { call = λ D. sym (never (savedOf T L D ph n p C W R K x) (called kind which value) (sym test ∙ not-true b h)) }
+
+    module _ (a : Asked) (says : (q : Saved) → heard q a ≡ answered q (called kind which value)) where
+      pub answered-none :
+          {b : Bool} {r : ℕ} → b ≡ isSound ltb base (savedOf T L [] ph n p C W R K x) → not b ≡ false → OneOf (1 ∷ 2 ∷ []) (tagOf A.the-type a) → r ≡ numberOf a →
+          Answered kind which value T L W R K ph n p C x ph n p C x r 0
+      answered-none {b} test h o i = record { call = λ D. rw i (sym (none (savedOf T L D ph n p C W R K x) a (passed b test h) o) ∙ says (savedOf T L D ph n p C W R K x)) }
+
+      pub answered-event :
+          {e : Event} {ph′ n′ p′ C′ x′ : List ℕ} {r v : ℕ} → a ≡ asked.Known e → Given e T L W R K ph n p C x ph′ n′ p′ C′ x′ r v →
+          Answered kind which value T L W R K ph n p C x ph′ n′ p′ C′ x′ r v
+      answered-event g d = record { call = λ D. d .event D ∙ ap (heard (savedOf T L D ph n p C W R K x)) (sym g) ∙ says (savedOf T L D ph n p C W R K x) }

@@ -1,0 +1,21 @@
+-- `exports::replay::parnusild_replay` meets its contract: the state that the replay ends in is put into the parts.
+-- Assumes nothing.
+use borrow.Author.Needs.{needs}
+use Rattle.exports.proofs.Fills.{replay-filled}
+use Rattle.exports.proofs.replay.parnusild_replay.Statement.{statement}
+use Rattle.exports.proofs.replay.parnusild_replay.Tie as tie
+
+replay-requires : tie.Need-replay-requires
+replay-requires c κs = search needs
+
+put-state-requires : tie.Need-put-state-requires
+put-state-requires c κs = search needs
+
+same-length : tie.Need-same-length
+same-length c = search needs
+
+returns : tie.Need-returns
+returns c = replay-filled _ _ (c .before .before .before .before .before .before .before .before .before .before .before .before .before .before .before .replay .result) (c .before .before .before .before .before .before .before .before .before .before .before .before .before .before .before .replay .ensures) (c .put-state .ensures)
+
+pub parnusild-replay-spec : {M : Type 1} → statement M
+parnusild-replay-spec = tie.close (tie.spec replay-requires put-state-requires same-length returns)

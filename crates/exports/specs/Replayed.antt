@@ -1,0 +1,28 @@
+-- The answer to a whole recording, as the parts that a host lends.
+-- Assumes nothing.
+use mathlib.Core.Path.{_≡_}
+use mathlib.Core.List.{List, [], _∷_}
+use Prim.Native.Nat.{ℕ}
+use lib.Dec.{ltb}
+use Rattle.protocol.specs.History.{Counts}
+use Rattle.protocol_state.specs.Saved.{Saved, base}
+use Rattle.recording_format.specs.Limits.{baseLimits}
+use Rattle.recording_format.specs.Play.{Reply}
+use Rattle.recording_format.specs.Recording.{recording}
+use Rattle.recording_core.specs.Playing.{Playing, coreOf}
+
+-- the recording's reply to the bytes s, with the lent list `out`
+abbrev pub replyTo : List ℕ → List ℕ → Reply Playing
+replyTo s out = recording ltb baseLimits (coreOf ltb base out) s
+
+-- the four counts in their order
+abbrev pub countsIn : Counts → List ℕ
+countsIn c = c .arrivals ∷ (c .starts ∷ (c .reads ∷ (c .finishes ∷ [])))
+
+-- the refusal r, the place m, the counts cs, the state q and the list out′ are those of the reply
+pub record Replayed (s out : List ℕ) (r m : ℕ) (cs : List ℕ) (q : Saved) (out′ : List ℕ) : Type 0 where
+  pub refusal : r ≡ replyTo s out .refusal
+  pub place : m ≡ replyTo s out .place
+  pub counts : cs ≡ countsIn (replyTo s out .state .counts)
+  pub state : q ≡ replyTo s out .state .state
+  pub list : out′ ≡ replyTo s out .state .list

@@ -1,0 +1,42 @@
+-- The parts of a state that a host lends, as the replies to its calls.
+-- T and L count tasks and links; D are the defaults, W, R and K the links' writers, readers and kinds; ph phases, n newest, p previous, C cells, x pointers.
+-- A prime marks what comes after.
+-- Assumes nothing.
+use mathlib.Core.Path.{_≡_}
+use mathlib.Core.List.{List}
+use Prim.Native.Nat.{ℕ}
+use lib.Dec.{ltb}
+use Rattle.protocol_state.specs.Saved.{Saved, base}
+use Rattle.protocol_state.specs.Sound.{isSound}
+use Rattle.protocol_state.specs.Give.{Reply, reply, settled, give}
+use Rattle.protocol_state.specs.Fresh.{Made}
+use Rattle.mailbox_parts.specs.Plain.{plain}
+use Rattle.mailbox_parts.specs.Becomes.{savedOf}
+use Rattle.mailbox_parts.specs.declared.event.Event.{Event}
+use Rattle.exports.specs.Calls.{called, answered}
+use Rattle.exports.specs.declared.call.Asked.{Asked}
+use Rattle.exports.specs.declared.call.Asked.the-variants.{Known, Outside, Unknown}
+
+-- what the code's reading of a call answers: a number that no table has is 12, after 19
+abbrev pub heard : Saved → Asked → Reply
+heard q (Known e) = give ltb base q (plain e)
+heard q Outside = settled (isSound ltb base q) 12 q q 0
+heard q Unknown = settled (isSound ltb base q) 11 q q 0
+
+-- the refusal of what is no event
+abbrev pub numberOf : Asked → ℕ
+numberOf (Known e) = 0
+numberOf Outside = 12
+numberOf Unknown = 11
+
+-- what a table makes, from its parts
+abbrev pub madeAs : ℕ → Saved → Made
+madeAs r q = record { refusal = r; state = q }
+
+-- the parts after, the refusal r and the number v are those of the reply to an event, whatever the defaults are
+pub record Given (e : Event) (T L : ℕ) (W R K ph n p C x ph′ n′ p′ C′ x′ : List ℕ) (r v : ℕ) : Type 0 where
+  pub event : (D : List ℕ) → reply (savedOf T L D ph′ n′ p′ C′ W R K x′) r v ≡ give ltb base (savedOf T L D ph n p C W R K x) (plain e)
+
+-- the same of a call by kind, which and value
+pub record Answered (kind which value T L : ℕ) (W R K ph n p C x ph′ n′ p′ C′ x′ : List ℕ) (r v : ℕ) : Type 0 where
+  pub call : (D : List ℕ) → reply (savedOf T L D ph′ n′ p′ C′ W R K x′) r v ≡ answered (savedOf T L D ph n p C W R K x) (called kind which value)

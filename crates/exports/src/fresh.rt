@@ -1,0 +1,60 @@
+// The fresh state of a table, into the lent parts of a state.
+ghost use mathlib.Core.Path.{_≡_};
+ghost use lib.Dec.{ltb};
+ghost use Rattle.protocol_state.specs.Saved.{base};
+ghost use Rattle.protocol_state.specs.Fresh.{made};
+ghost use Rattle.mailbox_parts.specs.Becomes.{savedOf};
+ghost use Rattle.exports.specs.Replies.{madeAs};
+use crate::parts::put_state;
+use mailbox::State;
+use mailbox_parts::numbers::CELLS;
+use mailbox_parts::numbers::LINKS;
+use mailbox_parts::numbers::TASKS;
+
+// The fresh state of a table: the refusal that the table earns, 0 for none, and its fresh state, else that of a single task.
+#[no_mangle]
+pub extern "C" fn parnusild_fresh(
+    table_tasks: usize,
+    table_links: usize,
+    table_defaults: &[u32; TASKS],
+    table_writer: &[u8; LINKS],
+    table_reader: &[u8; LINKS],
+    table_kind: &[u8; LINKS],
+    tasks: &mut usize,
+    links: &mut usize,
+    defaults: &mut [u32; TASKS],
+    phase: &mut [u8; TASKS],
+    newest: &mut [u8; TASKS],
+    previous: &mut [u8; TASKS],
+    cells: &mut [u32; CELLS],
+    writer: &mut [u8; LINKS],
+    reader: &mut [u8; LINKS],
+    kind: &mut [u8; LINKS],
+    pointer: &mut [u8; LINKS],
+) -> u8
+    ensures { λ r. ⌜ madeAs r (savedOf (now (tasks .exit)) (now (links .exit)) (now (defaults .exit)) (now (phase .exit)) (now (newest .exit)) (now (previous .exit)) (now (cells .exit)) (now (writer .exit)) (now (reader .exit)) (now (kind .exit)) (now (pointer .exit))) ≡ made ltb base «table_tasks» «table_links» (now («table_defaults» .entry)) (now («table_writer» .entry)) (now («table_reader» .entry)) (now («table_kind» .entry)) ⌝ }
+{
+    let made = State::fresh(
+        table_tasks,
+        table_links,
+        *table_defaults,
+        *table_writer,
+        *table_reader,
+        *table_kind,
+    );
+    put_state(
+        made.state,
+        tasks,
+        links,
+        defaults,
+        phase,
+        newest,
+        previous,
+        cells,
+        writer,
+        reader,
+        kind,
+        pointer,
+    );
+    made.refusal
+}

@@ -1,0 +1,137 @@
+/* A host in C. It replays a recording and prints what was read and counted, then gives the same events one by one to a saved state
+ * of its own and sees that both end in the same state, then gives some events that are refused.
+ *
+ *     host FILE       the long example of document 01 (recordings/figure-17.rec)
+ */
+#include <stdio.h>
+#include <string.h>
+
+#include "parnusild.h"
+
+/* the longest recording and one byte more; as many numbers as a recording can read */
+static uint8_t bytes[60165];
+static uint32_t numbers[PARNUSILD_EVENTS];
+
+struct event {
+    uint8_t kind;
+    uint32_t which;
+    uint32_t value;
+};
+
+/* the long example: A{..} arrival, S start, R read, F finish */
+#define A(set) { PARNUSILD_ARRIVAL, set, 0 }
+#define S(task) { PARNUSILD_START, task, 0 }
+#define R(link) { PARNUSILD_READ, link, 0 }
+#define F(task, value) { PARNUSILD_FINISH, task, value }
+static const struct event example[] = {
+    A(0xf), S(0), R(0), F(0, 0), S(1), F(1, 101), S(2), R(1), F(2, 0), S(3),
+    A(0x3), S(0), R(0), F(0, 0), S(1), F(1, 102),
+    A(0x4), S(2), R(1), F(2, 0),
+    A(0x3), S(0), R(0), F(0, 0), S(1), F(1, 103), R(2), F(3, 0),
+    A(0x9), S(0), R(0), F(0, 0), S(3), R(2), F(3, 0),
+};
+
+/* its table: four tasks, links 1 to 0 delayed, 1 to 2 direct, 1 to 3 direct */
+static const struct parnusild_table table = {
+    .tasks = 4,
+    .links = 3,
+    .defaults = { 0, 100, 0, 0 },
+    .writer = { 1, 1, 1 },
+    .reader = { 0, 2, 3 },
+    .kind = { 1, 0, 0 },
+};
+
+/* whether two states hold the same */
+static int same(const struct parnusild_state *a, const struct parnusild_state *b)
+{
+    return a->tasks == b->tasks && a->links == b->links
+        && !memcmp(a->defaults, b->defaults, sizeof a->defaults) && !memcmp(a->phase, b->phase, sizeof a->phase)
+        && !memcmp(a->newest, b->newest, sizeof a->newest) && !memcmp(a->previous, b->previous, sizeof a->previous)
+        && !memcmp(a->cells, b->cells, sizeof a->cells) && !memcmp(a->writer, b->writer, sizeof a->writer)
+        && !memcmp(a->reader, b->reader, sizeof a->reader) && !memcmp(a->kind, b->kind, sizeof a->kind)
+        && !memcmp(a->pointer, b->pointer, sizeof a->pointer);
+}
+
+/* the replay of a whole recording */
+static void replay(size_t size, struct parnusild_state *state)
+{
+    struct parnusild_answer answer;
+    size_t i;
+    parnusild_state_replay(state, &answer, bytes, size, numbers, PARNUSILD_EVENTS);
+    printf("refusal %u at %zu of %zu\n", answer.refusal, answer.place, size);
+    printf("arrivals %zu, starts %zu, reads %zu, finishes %zu\n", answer.arrivals, answer.starts, answer.reads, answer.finishes);
+    for (i = 0; i < answer.reads; i++)
+        printf("read %u\n", (unsigned)numbers[i]);
+}
+
+/* the events one by one, on a saved state */
+static void one_by_one(struct parnusild_state *state)
+{
+    size_t i, done = 0, reads = 0, alike = 0;
+    uint32_t number;
+    printf("fresh %u\n", parnusild_state_fresh(state, &table));
+    for (i = 0; i < sizeof example / sizeof example[0]; i++) {
+        const struct event *e = &example[i];
+        if (parnusild_state_event(state, e->kind, e->which, e->value, &number) == 0)
+            done++;
+        if (e->kind == PARNUSILD_READ)
+            alike += number == numbers[reads++];
+        if (e->kind == PARNUSILD_ARRIVAL && e->which & 2)
+            printf("newest of task 1: %u\n", state->newest[1]);
+    }
+    printf("accepted %zu of %zu, numbers alike %zu of %zu\n", done, i, alike, reads);
+}
+
+/* an event that is refused: its number, whether it left the state, and what it left in `number` */
+static void refuse(const char *what, struct parnusild_state *state, uint8_t kind, uint32_t which)
+{
+    const struct parnusild_state before = *state;
+    uint32_t number = 77;
+    unsigned refusal = parnusild_state_event(state, kind, which, 5, &number);
+    printf("%s: refusal %u, state %s, number %u\n", what, refusal, same(state, &before) ? "kept" : "CHANGED", (unsigned)number);
+}
+
+int main(int argc, char **argv)
+{
+    struct parnusild_state whole, state;
+    size_t size;
+    uint32_t number;
+    FILE *file = argc == 2 ? fopen(argv[1], "rb") : NULL;
+    if (!file) {
+        fprintf(stderr, "usage: %s FILE\n", argv[0]);
+        return 2;
+    }
+    size = fread(bytes, 1, sizeof bytes, file);
+    fclose(file);
+    replay(size, &whole);
+    one_by_one(&state);
+    printf("states %s\n", same(&whole, &state) ? "alike" : "DIFFER");
+
+    printf("arrival %u\n", parnusild_state_arrival(&state, 1));
+    printf("start %u\n", parnusild_state_start(&state, 0));
+    printf("read %u", parnusild_state_read(&state, 0, &number));
+    printf(" number %u\n", (unsigned)number);
+    printf("finish %u\n", parnusild_state_finish(&state, 0, 9));
+    refuse("unknown kind 0", &state, 0, 0);
+    refuse("unknown kind 5", &state, 5, 0);
+    refuse("unknown kind 255", &state, 255, 0);
+    refuse("empty set", &state, PARNUSILD_ARRIVAL, 0);
+    refuse("task 31 arrives", &state, PARNUSILD_ARRIVAL, 0x80000000);
+    refuse("task 256", &state, PARNUSILD_START, 256);
+    refuse("link 256", &state, PARNUSILD_READ, 256);
+    refuse("task 4294967295", &state, PARNUSILD_FINISH, 0xffffffff);
+    refuse("idle task starts", &state, PARNUSILD_START, 0);
+    refuse("idle task reads", &state, PARNUSILD_READ, 0);
+    parnusild_state_arrival(&state, 4);
+    parnusild_state_start(&state, 2);
+    parnusild_state_arrival(&state, 1);
+    refuse("active task arrives", &state, PARNUSILD_ARRIVAL, 5);
+    refuse("task ahead is active", &state, PARNUSILD_READ, 1);
+    state.newest[0] = 0;
+    refuse("unsound", &state, PARNUSILD_START, 0);
+    refuse("unsound, unknown kind", &state, 9, 0);
+    refuse("unsound, task 256", &state, PARNUSILD_START, 256);
+    parnusild_state_replay(&state, &(struct parnusild_answer){ 0 }, NULL, 0, NULL, 0);
+    printf("no bytes: tasks %zu, links %zu\n", state.tasks, state.links);
+    return 0;
+}

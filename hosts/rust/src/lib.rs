@@ -1,0 +1,207 @@
+//! The proved mailboxes, for hosts in Rust: a saved state in the host's own memory, one event given to it, and the replay of a whole
+//! recording. Each call lends the state's fields to the proved core, which works on them in place.
+//!
+//! Nothing is asked of a state, a table or a recording: whatever they hold, an answer comes back, and a refused event leaves the state
+//! as it was lent. Refusals are the numbers of document 01, explained in docs/REFUSALS.md.
+mod calls;
+
+/// At most so many tasks.
+pub const TASKS: usize = 16;
+/// At most so many links.
+pub const LINKS: usize = 32;
+/// The positions of all tasks: at most ten each.
+pub const CELLS: usize = TASKS * 10;
+
+/// A table. Tasks are numbered from 0 and the earlier one is more urgent; slots past the counts are not looked at.
+#[derive(Clone, Debug, PartialEq, Eq)]
+pub struct Table {
+    pub tasks: usize,
+    pub links: usize,
+    pub defaults: [u32; TASKS],
+    pub writer: [u8; LINKS],
+    pub reader: [u8; LINKS],
+    /// 0 direct, 1 delayed
+    pub kind: [u8; LINKS],
+}
+
+/// All that a station has to keep between events. Slots past the counts are never touched by an event.
+#[derive(Clone, Debug, PartialEq, Eq)]
+pub struct State {
+    pub tasks: usize,
+    pub links: usize,
+    pub defaults: [u32; TASKS],
+    /// 0 idle, 1 waiting, 2 running
+    pub phase: [u8; TASKS],
+    pub newest: [u8; TASKS],
+    pub previous: [u8; TASKS],
+    /// position p of task t at t * 10 + p - 1
+    pub cells: [u32; CELLS],
+    pub writer: [u8; LINKS],
+    pub reader: [u8; LINKS],
+    /// 0 direct, 1 delayed
+    pub kind: [u8; LINKS],
+    /// 0: absent
+    pub pointer: [u8; LINKS],
+}
+
+/// An event: the arrival of a set (bit t is task t), the start of a task, the read by a link, the finish of a task with a value.
+#[derive(Clone, Copy, Debug, PartialEq, Eq)]
+pub enum Event {
+    Arrival(u32),
+    Start(u32),
+    Read(u32),
+    Finish(u32, u32),
+}
+
+/// What a table makes: the refusal that it earns, 0 for none, and its fresh state, else that of a single task.
+#[derive(Clone, Debug, PartialEq, Eq)]
+pub struct Made {
+    pub refusal: u8,
+    pub state: State,
+}
+
+/// The answer to a whole recording: the refusal, 0 for none, its place, the state after the last accepted event, and four counts.
+#[derive(Clone, Debug, PartialEq, Eq)]
+pub struct Answer {
+    pub refusal: u8,
+    pub place: usize,
+    pub state: State,
+    /// task by task: each task of an arrival's set counts one
+    pub arrivals: usize,
+    pub starts: usize,
+    /// so many first entries of the list hold the numbers read
+    pub reads: usize,
+    pub finishes: usize,
+}
+
+impl State {
+    /// Room for a state; a call fills it.
+    fn room() -> State {
+        State {
+            tasks: 0,
+            links: 0,
+            defaults: [0; TASKS],
+            phase: [0; TASKS],
+            newest: [0; TASKS],
+            previous: [0; TASKS],
+            cells: [0; CELLS],
+            writer: [0; LINKS],
+            reader: [0; LINKS],
+            kind: [0; LINKS],
+            pointer: [0; LINKS],
+        }
+    }
+
+    /// The fresh state of a table, or the refusal that the table earns, 2 to 9, and the fresh state of a single task.
+    pub fn fresh(table: &Table) -> Made {
+        let mut state = State::room();
+        // Every reference is to a field or a table of its own, as the library asks.
+        let refusal = unsafe {
+            calls::parnusild_fresh(
+                table.tasks,
+                table.links,
+                &table.defaults,
+                &table.writer,
+                &table.reader,
+                &table.kind,
+                &mut state.tasks,
+                &mut state.links,
+                &mut state.defaults,
+                &mut state.phase,
+                &mut state.newest,
+                &mut state.previous,
+                &mut state.cells,
+                &mut state.writer,
+                &mut state.reader,
+                &mut state.kind,
+                &mut state.pointer,
+            )
+        };
+        Made { refusal, state }
+    }
+
+    /// One event given to the state: the number of an accepted read, 0 for another accepted event, or the refusal: 19, else 12 to 16.
+    /// A refusal leaves the state as it was lent.
+    pub fn event(&mut self, event: Event) -> Result<u32, u8> {
+        let (refusal, number) = match event {
+            Event::Arrival(set) => self.call(1, set, 0),
+            Event::Start(task) => self.call(2, task, 0),
+            Event::Read(link) => self.call(3, link, 0),
+            Event::Finish(task, value) => self.call(4, task, value),
+        };
+        if refusal == 0 {
+            Ok(number)
+        } else {
+            Err(refusal)
+        }
+    }
+
+    /// An event as three numbers, for a host that has no `Event`: the refusal, 11 for a kind outside 1 to 4, and the number.
+    pub fn call(&mut self, kind: u8, which: u32, value: u32) -> (u8, u32) {
+        // Not 0, so that a test sees that the call sets it.
+        let mut number = u32::MAX;
+        let refusal = unsafe {
+            calls::parnusild_event(
+                kind,
+                which,
+                value,
+                &mut number,
+                self.tasks,
+                self.links,
+                &self.writer,
+                &self.reader,
+                &self.kind,
+                &mut self.phase,
+                &mut self.newest,
+                &mut self.previous,
+                &mut self.cells,
+                &mut self.pointer,
+            )
+        };
+        (refusal, number)
+    }
+}
+
+/// The answer to a whole recording. The list's first entries become the numbers read, the rest is untouched.
+pub fn replay(bytes: &[u8], numbers: &mut [u32]) -> Answer {
+    let mut state = State::room();
+    let mut place = usize::MAX;
+    let mut counts = [usize::MAX; 4];
+    // A slice's pointer is not null, even where the slice is empty.
+    let refusal = unsafe {
+        calls::parnusild_replay(
+            bytes.as_ptr(),
+            bytes.len(),
+            numbers.as_mut_ptr(),
+            numbers.len(),
+            &mut place,
+            &mut counts,
+            &mut state.tasks,
+            &mut state.links,
+            &mut state.defaults,
+            &mut state.phase,
+            &mut state.newest,
+            &mut state.previous,
+            &mut state.cells,
+            &mut state.writer,
+            &mut state.reader,
+            &mut state.kind,
+            &mut state.pointer,
+        )
+    };
+    let [arrivals, starts, reads, finishes] = counts;
+    Answer {
+        refusal,
+        place,
+        state,
+        arrivals,
+        starts,
+        reads,
+        finishes,
+    }
+}
+
+/// The unread rest of a recording, from the place of its answer to the end: empty after acceptance.
+pub fn rest<'a>(bytes: &'a [u8], answer: &Answer) -> &'a [u8] {
+    bytes.get(answer.place..).unwrap_or(&[])
+}

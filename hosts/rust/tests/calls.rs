@@ -1,0 +1,336 @@
+//! Each call of the library from Rust: the long example, edge sizes, refusals and what they leave.
+use parnusild::{replay, rest, Answer, Event, State, Table, LINKS, TASKS};
+use Event::{Arrival, Finish, Read, Start};
+
+/// A table from its defaults and its links: writer, reader, kind.
+fn table(defaults: &[u32], links: &[(u8, u8, u8)]) -> Table {
+    let mut t = Table {
+        tasks: defaults.len(),
+        links: links.len(),
+        defaults: [7; TASKS],
+        writer: [9; LINKS],
+        reader: [9; LINKS],
+        kind: [9; LINKS],
+    };
+    t.defaults[..defaults.len()].copy_from_slice(defaults);
+    for (l, &(w, r, k)) in links.iter().enumerate() {
+        t.writer[l] = w;
+        t.reader[l] = r;
+        t.kind[l] = k;
+    }
+    t
+}
+
+/// The bytes of a recording, by document 01.
+fn record(t: &Table, events: &[Event]) -> Vec<u8> {
+    let mut b = vec![t.tasks as u8];
+    for d in &t.defaults[..t.tasks] {
+        b.extend(d.to_le_bytes());
+    }
+    b.push(t.links as u8);
+    for l in 0..t.links {
+        b.extend([t.writer[l], t.reader[l], t.kind[l]]);
+    }
+    b.extend((events.len() as u16).to_le_bytes());
+    for e in events {
+        match *e {
+            Arrival(set) => {
+                b.push(1);
+                b.extend((set as u16).to_le_bytes());
+            }
+            Start(task) => b.extend([2, task as u8]),
+            Read(link) => b.extend([3, link as u8]),
+            Finish(task, value) => {
+                b.extend([4, task as u8]);
+                b.extend(value.to_le_bytes());
+            }
+        }
+    }
+    b
+}
+
+fn example_table() -> Table {
+    table(&[0, 100, 0, 0], &[(1, 0, 1), (1, 2, 0), (1, 3, 0)])
+}
+
+const NUMBERS: [u32; 8] = [100, 101, 101, 102, 102, 101, 102, 103];
+
+#[rustfmt::skip]
+const EVENTS: [Event; 35] = [
+    Arrival(0b1111), Start(0), Read(0), Finish(0, 0), Start(1), Finish(1, 101), Start(2), Read(1), Finish(2, 0), Start(3),
+    Arrival(0b0011), Start(0), Read(0), Finish(0, 0), Start(1), Finish(1, 102),
+    Arrival(0b0100), Start(2), Read(1), Finish(2, 0),
+    Arrival(0b0011), Start(0), Read(0), Finish(0, 0), Start(1), Finish(1, 103), Read(2), Finish(3, 0),
+    Arrival(0b1001), Start(0), Read(0), Finish(0, 0), Start(3), Read(2), Finish(3, 0),
+];
+
+fn example() -> Vec<u8> {
+    record(&example_table(), &EVENTS)
+}
+
+/// The place of event `i` of the long example.
+fn place_of(i: usize) -> usize {
+    record(&example_table(), &EVENTS[..i]).len()
+}
+
+fn counts(a: &Answer) -> [usize; 4] {
+    [a.arrivals, a.starts, a.reads, a.finishes]
+}
+
+/// The fresh state of a single task with default 0 and no links.
+fn single() -> State {
+    State::fresh(&table(&[0], &[])).state
+}
+
+/// What an event leaves of a state that it is refused by.
+fn refused(s: &State, kind: u8, which: u32, value: u32) -> u8 {
+    let mut after = s.clone();
+    let (refusal, number) = after.call(kind, which, value);
+    assert_ne!(refusal, 0);
+    assert_eq!(number, 0, "the number of a refused event");
+    assert_eq!(&after, s, "the state after a refused event");
+    refusal
+}
+
+#[test]
+fn the_file_is_the_long_example() {
+    let path = concat!(
+        env!("CARGO_MANIFEST_DIR"),
+        "/../../recordings/figure-17.rec"
+    );
+    assert_eq!(std::fs::read(path).unwrap(), example());
+    assert_eq!(example().len(), 148);
+}
+
+#[test]
+fn long_example() {
+    let bytes = example();
+    let mut list = [77; 10];
+    let a = replay(&bytes, &mut list);
+    assert_eq!((a.refusal, a.place), (0, 148));
+    assert_eq!(counts(&a), [11, 11, 8, 11]);
+    assert_eq!(list[..8], NUMBERS);
+    assert_eq!(list[8..], [77, 77], "the rest of the list");
+    assert!(rest(&bytes, &a).is_empty());
+}
+
+#[test]
+fn event_by_event() {
+    let mut s = State::fresh(&example_table()).state;
+    let mut read = Vec::new();
+    let mut newest = Vec::new();
+    for e in EVENTS {
+        let number = s.event(e).unwrap();
+        match e {
+            Read(_) => read.push(number),
+            _ => assert_eq!(number, 0),
+        }
+        if let Arrival(set) = e {
+            if set & 2 != 0 {
+                newest.push(s.newest[1]);
+            }
+        }
+    }
+    assert_eq!(read, NUMBERS);
+    assert_eq!(newest, [2, 1, 3]);
+    assert_eq!(s, replay(&example(), &mut [0; 8]).state);
+}
+
+#[test]
+fn room_for_the_numbers() {
+    let bytes = example();
+    let mut exact = [77; 8];
+    let a = replay(&bytes, &mut exact);
+    assert_eq!((a.refusal, exact), (0, NUMBERS));
+    let mut short = [77; 7];
+    let a = replay(&bytes, &mut short);
+    assert_eq!((a.refusal, a.place), (18, place_of(33)));
+    assert_eq!(counts(&a), [11, 11, 7, 10]);
+    assert_eq!(short, NUMBERS[..7]);
+    assert_eq!(rest(&bytes, &a), &bytes[place_of(33)..]);
+    let a = replay(&bytes, &mut []);
+    assert_eq!((a.refusal, a.place), (18, place_of(2)));
+    assert_eq!(counts(&a), [4, 1, 0, 0]);
+}
+
+#[test]
+fn small_recordings() {
+    let none = replay(&[], &mut []);
+    assert_eq!((none.refusal, none.place, counts(&none)), (1, 0, [0; 4]));
+    assert_eq!(none.state, single());
+    let a = replay(&[1, 0, 0, 0, 0, 0, 0, 0], &mut []);
+    assert_eq!((a.refusal, a.place, counts(&a)), (0, 8, [0; 4]));
+    let a = replay(&[1, 0, 0, 0, 0, 0, 0, 0, 5], &mut [3]);
+    assert_eq!((a.refusal, a.place), (17, 8));
+    assert_eq!(rest(&[1, 0, 0, 0, 0, 0, 0, 0, 5], &a), [5]);
+    assert_eq!(replay(&[0], &mut []).refusal, 2);
+    assert_eq!(replay(&[17], &mut []).refusal, 2);
+    let a = replay(&[1, 0, 0, 0, 0, 33], &mut []);
+    assert_eq!((a.refusal, a.place), (3, 5));
+    let a = replay(&[1, 0, 0, 0, 0, 0, 0x11, 0x27], &mut []);
+    assert_eq!((a.refusal, a.place), (10, 6));
+    let a = replay(&[1, 0, 0, 0, 0, 0, 1, 0, 5], &mut []);
+    assert_eq!((a.refusal, a.place), (11, 8));
+}
+
+/// A power cut: the answer is that of the whole records, with 1 at the first that isn't whole.
+#[test]
+fn every_cut() {
+    let bytes = example();
+    for cut in 0..bytes.len() {
+        let mut list = [77; 8];
+        let a = replay(&bytes[..cut], &mut list);
+        assert_eq!(a.refusal, 1, "cut at {}", cut);
+        if cut < place_of(0) {
+            assert_eq!((counts(&a), &a.state), ([0; 4], &single()));
+            continue;
+        }
+        let whole = (0..35).rev().find(|&i| place_of(i) <= cut).unwrap();
+        assert_eq!(a.place, place_of(whole));
+        let mut state = State::fresh(&example_table()).state;
+        let mut reads = 0;
+        for e in &EVENTS[..whole] {
+            state.event(*e).unwrap();
+            reads += matches!(e, Read(_)) as usize;
+        }
+        assert_eq!((a.reads, a.state), (reads, state));
+        assert_eq!(list[..reads], NUMBERS[..reads]);
+        assert!(list[reads..].iter().all(|&x| x == 77));
+    }
+}
+
+#[test]
+fn kinds_and_numbers_in_no_table() {
+    let mut s = State::fresh(&example_table()).state;
+    s.event(Arrival(1)).unwrap();
+    for kind in (0..=255).filter(|k| !(1..=4).contains(k)) {
+        assert_eq!(refused(&s, kind, 0, 1), 11);
+    }
+    for which in [4, 255, 256, 257, 65536, u32::MAX] {
+        assert_eq!(refused(&s, 2, which, 0), 12);
+        assert_eq!(refused(&s, 4, which, 5), 12);
+    }
+    for which in [3, 255, 256, 512, u32::MAX] {
+        assert_eq!(refused(&s, 3, which, 0), 12);
+    }
+    for set in [0, 1 << 4, 1 | 1 << 16, 1 << 31] {
+        assert_eq!(refused(&s, 1, set, 0), 12);
+    }
+}
+
+#[test]
+fn refusals_in_rising_order() {
+    let mut s = State::fresh(&example_table()).state;
+    assert_eq!(s.event(Start(0)), Err(14));
+    assert_eq!(s.event(Read(0)), Err(15));
+    assert_eq!(s.event(Finish(0, 1)), Err(15));
+    s.event(Arrival(0b1001)).unwrap();
+    assert_eq!(refused(&s, 1, 0b0011, 0), 13);
+    assert_eq!(refused(&s, 2, 3, 0), 16);
+    s.event(Start(0)).unwrap();
+    assert_eq!(refused(&s, 2, 0, 0), 14);
+    assert_eq!(refused(&s, 3, 2, 0), 15);
+    assert_eq!(s.event(Read(0)), Ok(100));
+}
+
+/// 19 before anything else: for every kind, also an unknown one, and for numbers in no table.
+#[test]
+fn unsound_states() {
+    let good = State::fresh(&example_table()).state;
+    let spoils: [fn(&mut State); 9] = [
+        |s| s.tasks = 0,
+        |s| s.tasks = 17,
+        |s| s.tasks = usize::MAX,
+        |s| s.links = usize::MAX,
+        |s| s.phase[3] = 3,
+        |s| s.newest[1] = 0,
+        |s| s.previous[1] = 5,
+        |s| s.pointer[2] = 1,
+        |s| s.kind[0] = 0,
+    ];
+    for spoil in spoils {
+        let mut s = good.clone();
+        spoil(&mut s);
+        for kind in 0..=5 {
+            for which in [0, 1, 256, u32::MAX] {
+                assert_eq!(refused(&s, kind, which, 0), 19);
+            }
+        }
+    }
+    let mut past = good;
+    past.phase[4] = 200;
+    past.writer[3] = 200;
+    assert_eq!(
+        past.event(Arrival(1)),
+        Ok(0),
+        "slots past the counts are not looked at"
+    );
+    assert_eq!((past.phase[4], past.writer[3]), (200, 200));
+}
+
+#[test]
+fn tables() {
+    let refusal = |t: &Table| State::fresh(t).refusal;
+    for tasks in [0, 17, usize::MAX] {
+        let t = Table {
+            tasks,
+            ..example_table()
+        };
+        assert_eq!(
+            State::fresh(&t),
+            parnusild::Made {
+                refusal: 2,
+                state: single()
+            }
+        );
+    }
+    for links in [33, usize::MAX] {
+        assert_eq!(
+            refusal(&Table {
+                links,
+                ..example_table()
+            }),
+            3
+        );
+    }
+    assert_eq!(refusal(&table(&[0; 2], &[(0, 2, 0)])), 4);
+    assert_eq!(refusal(&table(&[0; 2], &[(0, 0, 0)])), 5);
+    assert_eq!(refusal(&table(&[0; 2], &[(0, 1, 2)])), 6);
+    assert_eq!(refusal(&table(&[0; 2], &[(1, 0, 0)])), 7);
+    assert_eq!(refusal(&table(&[0; 2], &[(0, 1, 0), (0, 1, 1)])), 8);
+    let eight: Vec<_> = (1..=8).map(|r| (0, r, 0)).collect();
+    let nine: Vec<_> = (1..=9).map(|r| (0, r, 0)).collect();
+    assert_eq!(refusal(&table(&[0; 16], &eight)), 0);
+    assert_eq!(refusal(&table(&[0; 16], &nine)), 9);
+    let most: Vec<_> = (0..16)
+        .flat_map(|r| (0..16).filter(move |w| *w > r).map(move |w| (w, r, 1)))
+        .take(32)
+        .collect();
+    assert_eq!(refusal(&table(&[5; 16], &most)), 0);
+}
+
+#[test]
+fn a_fresh_state() {
+    let s = State::fresh(&example_table()).state;
+    assert_eq!((s.tasks, s.links), (4, 3));
+    assert_eq!(
+        s.defaults[..6],
+        [0, 100, 0, 0, 0, 0],
+        "past the tasks stands 0"
+    );
+    assert_eq!(
+        (s.phase, s.newest, s.previous),
+        ([0; TASKS], [1; TASKS], [1; TASKS])
+    );
+    assert!(s.cells[10..20].iter().all(|&c| c == 100));
+    assert!(s.cells[..10].iter().chain(&s.cells[20..]).all(|&c| c == 0));
+    assert_eq!(
+        (
+            s.writer[..4].to_vec(),
+            s.reader[..4].to_vec(),
+            s.kind[..4].to_vec()
+        ),
+        (vec![1, 1, 1, 0], vec![0, 2, 3, 0], vec![1, 0, 0, 0])
+    );
+    assert_eq!(s.pointer, [0; LINKS]);
+}

@@ -1,0 +1,175 @@
+/* The proved mailboxes, for hosts in C.
+ *
+ * The host keeps the saved state in its own memory, as a struct parnusild_state. Each call lends the state's fields to the proved
+ * core, which works on them in place: no state is copied and nothing is kept between calls. Nothing is asked of a state, a table or
+ * a recording: whatever they hold, an answer comes back, and a refused event leaves the state as it was lent.
+ *
+ * What the core takes for granted, and no proof can see: each pointer points to what its type says, and no two of one call overlap.
+ * So the table is not a part of the state, and `number`, the answer and the lists lie outside of it. A call writes to what it is lent
+ * and to nothing else, so different threads may have calls under way on different states.
+ *
+ * Refusals are numbers: 0 is none, 1 to 19 are explained in docs/REFUSALS.md.
+ *
+ * Link with the library that `tools/native-staticlib exports` writes.
+ */
+#ifndef PARNUSILD_H
+#define PARNUSILD_H
+
+#include <stddef.h>
+#include <stdint.h>
+
+#ifdef __cplusplus
+extern "C" {
+#define PARNUSILD_RESTRICT
+#else
+#define PARNUSILD_RESTRICT restrict
+#endif
+
+enum {
+    PARNUSILD_TASKS = 16,     /* at most so many tasks */
+    PARNUSILD_LINKS = 32,     /* and so many links */
+    PARNUSILD_EVENTS = 10000, /* and so many events in a recording */
+    PARNUSILD_POSITIONS = 10, /* a task has N + 2 positions, N at most 8 */
+    PARNUSILD_CELLS = PARNUSILD_TASKS * PARNUSILD_POSITIONS
+};
+
+/* The kinds of an event. Any other is unknown, refusal 11. */
+enum {
+    PARNUSILD_ARRIVAL = 1,
+    PARNUSILD_START = 2,
+    PARNUSILD_READ = 3,
+    PARNUSILD_FINISH = 4
+};
+
+/* A table. Tasks are numbered from 0 and the earlier one is more urgent; slots past the counts are not looked at. */
+struct parnusild_table {
+    size_t tasks; /* 1 to 16 */
+    size_t links; /* 0 to 32 */
+    uint32_t defaults[PARNUSILD_TASKS];
+    uint8_t writer[PARNUSILD_LINKS];
+    uint8_t reader[PARNUSILD_LINKS];
+    uint8_t kind[PARNUSILD_LINKS]; /* 0 direct, 1 delayed */
+};
+
+/* All that a station has to keep between events. Slots past the counts are never touched by an event. */
+struct parnusild_state {
+    size_t tasks;
+    size_t links;
+    uint32_t defaults[PARNUSILD_TASKS];
+    uint8_t phase[PARNUSILD_TASKS];    /* 0 idle, 1 waiting, 2 running */
+    uint8_t newest[PARNUSILD_TASKS];   /* a position, from 1 */
+    uint8_t previous[PARNUSILD_TASKS]; /* a position, from 1 */
+    uint32_t cells[PARNUSILD_CELLS];   /* position p of task t at t * 10 + p - 1 */
+    uint8_t writer[PARNUSILD_LINKS];
+    uint8_t reader[PARNUSILD_LINKS];
+    uint8_t kind[PARNUSILD_LINKS];     /* 0 direct, 1 delayed */
+    uint8_t pointer[PARNUSILD_LINKS];  /* a position of the writer; 0: absent */
+};
+
+/* What a replay answers beside the state and the list. */
+struct parnusild_answer {
+    uint8_t refusal; /* 0: accepted */
+    size_t place;    /* the first byte of the count or record at fault; on acceptance the length */
+    size_t arrivals; /* task by task: each task of an arrival's set counts one */
+    size_t starts;
+    size_t reads;    /* so many first entries of the list hold the numbers read */
+    size_t finishes;
+};
+
+/* The calls of the library, on the fields of a state; the functions below take the struct. A slice is a pointer, not null even where
+ * its length is 0, and a length; an array is a pointer. */
+uint8_t parnusild_event(uint8_t kind, uint32_t which, uint32_t value, uint32_t *number, size_t tasks, size_t links,
+                        const uint8_t *writer, const uint8_t *reader, const uint8_t *kinds, uint8_t *phase, uint8_t *newest,
+                        uint8_t *previous, uint32_t *cells, uint8_t *pointer);
+uint8_t parnusild_fresh(size_t table_tasks, size_t table_links, const uint32_t *table_defaults, const uint8_t *table_writer,
+                        const uint8_t *table_reader, const uint8_t *table_kind, size_t *tasks, size_t *links,
+                        uint32_t *defaults, uint8_t *phase, uint8_t *newest, uint8_t *previous, uint32_t *cells,
+                        uint8_t *writer, uint8_t *reader, uint8_t *kind, uint8_t *pointer);
+uint8_t parnusild_replay(const uint8_t *bytes, size_t size, uint32_t *numbers, size_t room, size_t *place, size_t *counts,
+                         size_t *tasks, size_t *links, uint32_t *defaults, uint8_t *phase, uint8_t *newest,
+                         uint8_t *previous, uint32_t *cells, uint8_t *writer, uint8_t *reader, uint8_t *kind,
+                         uint8_t *pointer);
+
+/* The fresh state of a table: `newest` and `previous` at 1, every position holding the task's default, every pointer absent, every
+ * task idle. Answers 0, or the refusal that the table earns, 2 to 9; the state is then the fresh one of a single task with default 0
+ * and no links. What the state held before doesn't matter. */
+static inline uint8_t parnusild_state_fresh(struct parnusild_state *PARNUSILD_RESTRICT state,
+                                            const struct parnusild_table *PARNUSILD_RESTRICT table)
+{
+    return parnusild_fresh(table->tasks, table->links, table->defaults, table->writer, table->reader, table->kind,
+                           &state->tasks, &state->links, state->defaults, state->phase, state->newest, state->previous,
+                           state->cells, state->writer, state->reader, state->kind, state->pointer);
+}
+
+/* One event given to the state. `which` is the set of an arrival (bit t is task t), the task of a start or finish, the link of a
+ * read; `value` is the value of a finish. Answers 0, or the refusal: 19 a state that isn't sound, before anything else; 11 a kind
+ * outside 1 to 4; then 12 to 16 in rising order. A number that no table can have, as 256, is a task or link not in the table: 12.
+ * `number` becomes the number of an accepted read, and 0 otherwise. A refusal leaves the state as it was lent. */
+static inline uint8_t parnusild_state_event(struct parnusild_state *PARNUSILD_RESTRICT state, uint8_t kind, uint32_t which,
+                                            uint32_t value, uint32_t *PARNUSILD_RESTRICT number)
+{
+    return parnusild_event(kind, which, value, number, state->tasks, state->links, state->writer, state->reader,
+                           state->kind, state->phase, state->newest, state->previous, state->cells, state->pointer);
+}
+
+/* Arrival of a set: `previous` becomes `newest`, `newest` the lowest free position; then the pointers of links whose reader is in the
+ * set; then all in the set are waiting. Refusals: 19; 12 an empty set, or a task not in the table; 13 an active task. */
+static inline uint8_t parnusild_state_arrival(struct parnusild_state *state, uint32_t set)
+{
+    uint32_t number;
+    return parnusild_state_event(state, PARNUSILD_ARRIVAL, set, 0, &number);
+}
+
+/* Start: the task is running. Refusals: 19; 12 not in the table; 14 it isn't waiting; 16 a more urgent task is active. */
+static inline uint8_t parnusild_state_start(struct parnusild_state *state, uint32_t task)
+{
+    uint32_t number;
+    return parnusild_state_event(state, PARNUSILD_START, task, 0, &number);
+}
+
+/* Read: the number at the link's pointer in its writer's positions; the link's reader is the task that reads.
+ * Refusals, with the number 0: 19; 12 not in the table; 15 it isn't running; 16 a more urgent task is active. */
+static inline uint8_t parnusild_state_read(struct parnusild_state *PARNUSILD_RESTRICT state, uint32_t link,
+                                           uint32_t *PARNUSILD_RESTRICT number)
+{
+    return parnusild_state_event(state, PARNUSILD_READ, link, 0, number);
+}
+
+/* Finish: the value goes to the task's `newest` position; pointers of links by which this task reads from writers ahead of it become
+ * absent; the task is idle. Refusals: 19; 12 not in the table; 15 it isn't running; 16 a more urgent task is active. */
+static inline uint8_t parnusild_state_finish(struct parnusild_state *state, uint32_t task, uint32_t value)
+{
+    uint32_t number;
+    return parnusild_state_event(state, PARNUSILD_FINISH, task, value, &number);
+}
+
+/* A whole recording, read from the lent bytes. Bytes are judged from the left and the first fault decides. The answer has the
+ * refusal, the place and the four counts; the state is the one after the last accepted event (at a refusal in the tasks, the links or
+ * one of the three counts the fresh one of a single task); the list's first entries hold the numbers read, the rest is untouched.
+ * 18 is a read that is otherwise allowed, with no room in the list. On refusal the unread rest is bytes + place, size - place long.
+ * `bytes` may be null where `size` is 0, and `numbers` where `room` is 0. Answers the refusal, too. */
+static inline uint8_t parnusild_state_replay(struct parnusild_state *PARNUSILD_RESTRICT state,
+                                             struct parnusild_answer *PARNUSILD_RESTRICT answer,
+                                             const uint8_t *PARNUSILD_RESTRICT bytes, size_t size,
+                                             uint32_t *PARNUSILD_RESTRICT numbers, size_t room)
+{
+    const uint8_t no_byte = 0;
+    uint32_t no_number = 0;
+    size_t counts[4];
+    answer->refusal = parnusild_replay(size ? bytes : &no_byte, size, room ? numbers : &no_number, room, &answer->place,
+                                       counts, &state->tasks, &state->links, state->defaults, state->phase, state->newest,
+                                       state->previous, state->cells, state->writer, state->reader, state->kind,
+                                       state->pointer);
+    answer->arrivals = counts[0];
+    answer->starts = counts[1];
+    answer->reads = counts[2];
+    answer->finishes = counts[3];
+    return answer->refusal;
+}
+
+#ifdef __cplusplus
+}
+#endif
+#undef PARNUSILD_RESTRICT
+
+#endif

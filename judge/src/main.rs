@@ -1,0 +1,106 @@
+//! The proved library as the subject of the judge: every answer is compared
+//! with the oracle's, which was written from document 01 alone.
+
+use oracle::command;
+use oracle::format::{Counts, Event, Table};
+use oracle::state::State;
+use oracle::subject::{Answer, OneAnswer, Subject};
+
+struct Proved;
+
+/// A state as the library's, and back. The oracle keeps the counts in a byte.
+fn lent(state: &State) -> parnusild::State {
+    parnusild::State {
+        tasks: usize::from(state.tasks),
+        links: usize::from(state.links),
+        defaults: state.defaults,
+        phase: state.phase,
+        newest: state.newest,
+        previous: state.previous,
+        cells: state.cells,
+        writer: state.writer,
+        reader: state.reader,
+        kind: state.kind,
+        pointer: state.pointer,
+    }
+}
+
+fn handed_back(state: &parnusild::State) -> State {
+    State {
+        tasks: state.tasks as u8,
+        links: state.links as u8,
+        defaults: state.defaults,
+        phase: state.phase,
+        newest: state.newest,
+        previous: state.previous,
+        cells: state.cells,
+        writer: state.writer,
+        reader: state.reader,
+        kind: state.kind,
+        pointer: state.pointer,
+    }
+}
+
+fn asked(table: &Table) -> parnusild::Table {
+    let mut asked = parnusild::Table {
+        tasks: table.defaults.len(),
+        links: table.links.len(),
+        defaults: [0; parnusild::TASKS],
+        writer: [0; parnusild::LINKS],
+        reader: [0; parnusild::LINKS],
+        kind: [0; parnusild::LINKS],
+    };
+    asked.defaults[..table.defaults.len()].copy_from_slice(&table.defaults);
+    for (number, link) in table.links.iter().enumerate() {
+        asked.writer[number] = link.writer;
+        asked.reader[number] = link.reader;
+        asked.kind[number] = link.kind;
+    }
+    asked
+}
+
+impl Subject for Proved {
+    fn name(&self) -> String {
+        "the proved library".to_string()
+    }
+
+    fn replay(&self, bytes: &[u8], list: &[u32]) -> Answer {
+        let mut list = list.to_vec();
+        let answer = parnusild::replay(bytes, &mut list);
+        Answer {
+            refusal: answer.refusal,
+            place: answer.place,
+            counts: Counts {
+                arrivals: answer.arrivals as u32,
+                starts: answer.starts as u32,
+                reads: answer.reads as u32,
+                finishes: answer.finishes as u32,
+            },
+            state: handed_back(&answer.state),
+            rest: parnusild::rest(bytes, &answer).len(),
+            list,
+        }
+    }
+
+    fn fresh(&self, table: &Table) -> State {
+        let made = parnusild::State::fresh(&asked(table));
+        assert_eq!(made.refusal, 0, "a table that keeps the rules is refused: {:?}", table);
+        handed_back(&made.state)
+    }
+
+    fn one_event(&self, state: &State, event: Event) -> OneAnswer {
+        let (kind, which, value) = match event {
+            Event::Arrival(set) => (1, u32::from(set), 0),
+            Event::Start(task) => (2, u32::from(task), 0),
+            Event::Read(link) => (3, u32::from(link), 0),
+            Event::Finish(task, value) => (4, u32::from(task), value),
+        };
+        let mut after = lent(state);
+        let (refusal, value) = after.call(kind, which, value);
+        OneAnswer { refusal, value, state: handed_back(&after) }
+    }
+}
+
+fn main() {
+    std::process::exit(command::judge(&Proved));
+}

@@ -1,0 +1,228 @@
+//! Every sequence of events up to a depth over small tables: `Pointers`
+//! against `ZeroTime`, and the subject against both.
+//!
+//! Finish values are all different, and neither engine looks at a value, so
+//! two histories whose states differ only by a renaming of values have the
+//! same futures. States are therefore kept with values renamed in the order
+//! they first appear, and a state already seen is not entered again.
+
+use std::collections::HashSet;
+
+use crate::engine::{Engine, FreshEngine, IDLE};
+use crate::format::{Event, Link, Table};
+use crate::laws::sound_by_sentence;
+use crate::pointers::Pointers;
+use crate::subject::{OneAnswer, Subject};
+use crate::zero_time::ZeroTime;
+
+#[derive(Clone, Copy, Default, Debug)]
+pub struct Visited {
+    pub states: usize,
+    pub transitions: usize,
+    pub depth: usize,
+    /// No new state was left: every longer sequence is covered as well.
+    pub closed: bool,
+}
+
+#[derive(Clone)]
+struct Pair {
+    pointers: Pointers,
+    zero: ZeroTime,
+}
+
+/// A state is kept as the way to it: the node before and the event.
+struct Node {
+    before: u32,
+    event: u8,
+}
+
+/// All events worth giving to a table, each kind's out-of-range one included.
+/// The value of a finish is filled in when it is given.
+pub fn alphabet(table: &Table) -> Vec<Event> {
+    let tasks = table.defaults.len();
+    let mut events: Vec<Event> = (0..1u16 << tasks).map(Event::Arrival).collect();
+    events.extend([Event::Arrival(1 << tasks), Event::Arrival(1 << tasks | 1)]);
+    for task in 0..=tasks as u8 {
+        events.push(Event::Start(task));
+        events.push(Event::Finish(task, 0));
+    }
+    events.extend((0..=table.links.len() as u8).map(Event::Read));
+    events
+}
+
+impl Pair {
+    fn fresh(table: &Table) -> Pair {
+        Pair { pointers: Pointers::fresh(table), zero: ZeroTime::fresh(table) }
+    }
+
+    /// A finish writes a value no other finish of the history writes.
+    fn filled(&self, event: Event, tasks: usize) -> Event {
+        match event {
+            Event::Finish(task, _) if usize::from(task) < tasks => {
+                Event::Finish(task, u32::from(task) << 24 | (self.zero.finishes(usize::from(task)) as u32 + 1))
+            }
+            other => other,
+        }
+    }
+
+    /// The engines' and the subject's answers to an event; the state after it
+    /// if accepted.
+    fn give(&self, subject: &dyn Subject, event: Event) -> Result<Option<Pair>, String> {
+        let (by_pointers, by_counts) = (self.pointers.judge(event), self.zero.judge(event));
+        if by_pointers != by_counts {
+            return Err(format!("{:?}: {} by pointers, {} by counts", event, by_pointers, by_counts));
+        }
+        let said = subject.one_event(&self.pointers.state, event);
+        if by_pointers != 0 {
+            return self.refused(by_pointers, said);
+        }
+        let mut next = self.clone();
+        let (number, zero_number) = (next.pointers.apply(event), next.zero.apply(event));
+        if number != zero_number {
+            return Err(format!("{:?}: reads {:#x}, in zero time {:#x}", event, number, zero_number));
+        }
+        if !sound_by_sentence(&next.pointers.state) {
+            return Err(format!("{:?} leads to a state that is not sound", event));
+        }
+        if said != (OneAnswer { refusal: 0, value: number, state: next.pointers.state }) {
+            return Err(format!("{:?}: {} says {:?}", event, subject.name(), said));
+        }
+        Ok(Some(next))
+    }
+
+    /// A refusal has the state as it was lent and the value 0.
+    fn refused(&self, refusal: u8, said: OneAnswer) -> Result<Option<Pair>, String> {
+        if said != (OneAnswer { refusal, value: 0, state: self.pointers.state }) {
+            return Err(format!("refused with {}, but the subject says {:?}", refusal, said));
+        }
+        Ok(None)
+    }
+
+    /// The state of both engines with the values renamed.
+    fn key(&self, table: &Table) -> Box<[u8]> {
+        let state = &self.pointers.state;
+        let tasks = table.defaults.len();
+        let mut names = Names::default();
+        let mut key = Vec::with_capacity(64);
+        for task in 0..tasks {
+            key.extend_from_slice(&[state.phase[task], state.newest[task], state.previous[task]]);
+            for position in 1..=state.positions(task) as u8 {
+                key.push(names.name(state.cells[state.cell(task, position)]));
+            }
+            let [last, before] = self.zero.last_outputs(task);
+            key.extend_from_slice(&[names.name(last), names.name(before)]);
+        }
+        for (number, link) in table.links.iter().enumerate() {
+            key.push(state.pointer[number]);
+            let idle = self.zero.phase(usize::from(link.reader)) == IDLE;
+            key.push(match self.zero.number_for(number) {
+                _ if idle => 255,
+                None => 254,
+                Some(value) => names.name(value),
+            });
+        }
+        key.into_boxed_slice()
+    }
+}
+
+#[derive(Default)]
+struct Names {
+    seen: Vec<u32>,
+}
+
+impl Names {
+    fn name(&mut self, value: u32) -> u8 {
+        match self.seen.iter().position(|known| *known == value) {
+            Some(name) => name as u8,
+            None => {
+                self.seen.push(value);
+                (self.seen.len() - 1) as u8
+            }
+        }
+    }
+}
+
+/// Breadth first, level by level; an error is the history that shows it.
+pub fn explore(subject: &dyn Subject, table: &Table, depth: usize) -> Result<Visited, String> {
+    let events = alphabet(table);
+    let tasks = table.defaults.len();
+    let mut nodes = vec![Node { before: u32::MAX, event: 0 }];
+    let mut seen = HashSet::new();
+    seen.insert(Pair::fresh(table).key(table));
+    let mut visited = Visited { states: 1, ..Visited::default() };
+    let mut level = 0..1;
+    while visited.depth < depth && !level.is_empty() {
+        for number in level.clone() {
+            let pair = rebuild(table, &events, &nodes, number);
+            for (code, &event) in events.iter().enumerate() {
+                visited.transitions += 1;
+                let next = pair
+                    .give(subject, pair.filled(event, tasks))
+                    .map_err(|fault| format!("{} after {:?}", fault, path(&events, &nodes, number)))?;
+                if let Some(next) = next {
+                    if seen.insert(next.key(table)) {
+                        nodes.push(Node { before: number as u32, event: code as u8 });
+                    }
+                }
+            }
+        }
+        level = level.end..nodes.len();
+        visited.depth += 1;
+    }
+    visited.states = nodes.len();
+    visited.closed = level.is_empty();
+    Ok(visited)
+}
+
+fn path(events: &[Event], nodes: &[Node], number: usize) -> Vec<Event> {
+    let mut back = Vec::new();
+    let mut node = &nodes[number];
+    while node.before != u32::MAX {
+        back.push(events[usize::from(node.event)]);
+        node = &nodes[node.before as usize];
+    }
+    back.reverse();
+    back
+}
+
+fn rebuild(table: &Table, events: &[Event], nodes: &[Node], number: usize) -> Pair {
+    let mut pair = Pair::fresh(table);
+    for event in path(events, nodes, number) {
+        let event = pair.filled(event, table.defaults.len());
+        pair.pointers.apply(event);
+        pair.zero.apply(event);
+    }
+    pair
+}
+
+/// Every table of three tasks with the given number of links, apart from the
+/// order of the links: each pair behind is without, direct or delayed, each
+/// pair ahead is without or delayed.
+pub fn three_task_tables(links: usize) -> Vec<Table> {
+    let behind = [(0, 1), (0, 2), (1, 2)];
+    let ahead = [(1, 0), (2, 0), (2, 1)];
+    let mut tables = Vec::new();
+    for code in 0..27 * 8 {
+        let mut chosen = Vec::new();
+        for (digit, &(writer, reader)) in behind.iter().enumerate() {
+            let choice = code / 8 / [1, 3, 9][digit] % 3;
+            if choice > 0 {
+                chosen.push(Link { writer, reader, kind: choice as u8 - 1 });
+            }
+        }
+        for (bit, &(writer, reader)) in ahead.iter().enumerate() {
+            if code >> bit & 1 == 1 {
+                chosen.push(Link { writer, reader, kind: 1 });
+            }
+        }
+        if chosen.len() == links {
+            tables.push(Table { defaults: defaults(3), links: chosen });
+        }
+    }
+    tables
+}
+
+/// Defaults that no finish writes and that differ from task to task.
+pub fn defaults(tasks: u32) -> Vec<u32> {
+    (0..tasks).map(|task| 0xD000_0000 + task).collect()
+}

@@ -1,0 +1,397 @@
+//! The document's rules once more, as properties of an answer. They share no
+//! step with the engines, so an engine's slip does not repeat itself here.
+
+use crate::engine::{IDLE, RUNNING, WAITING};
+use crate::format::{encode, Counts, Event, Recording, Table};
+use crate::state::State;
+use crate::subject::{Answer, OneAnswer, Subject};
+
+/// Soundness as the document's sentence reads, over all links and pairs.
+pub fn sound_by_sentence(state: &State) -> bool {
+    let tasks = usize::from(state.tasks);
+    let links = usize::from(state.links);
+    (1..=16).contains(&tasks)
+        && links <= 32
+        && table_keeps_rules(state, tasks, links)
+        && pointers_lie(state, tasks, links)
+}
+
+fn table_keeps_rules(state: &State, tasks: usize, links: usize) -> bool {
+    let pair = |l: usize| (usize::from(state.writer[l]), usize::from(state.reader[l]));
+    let each = (0..links).all(|l| {
+        let (writer, reader) = pair(l);
+        let kind = state.kind[l];
+        writer < tasks && reader < tasks && writer != reader && kind <= 1 && (reader > writer || kind == 1)
+    });
+    let once = (0..links).all(|l| (0..links).all(|m| l == m || pair(l) != pair(m)));
+    let eight = (0..tasks).all(|task| (0..links).filter(|l| pair(*l).0 == task && pair(*l).1 > task).count() <= 8);
+    each && once && eight
+}
+
+fn pointers_lie(state: &State, tasks: usize, links: usize) -> bool {
+    let top = |task: usize| {
+        2 + (0..links).filter(|l| usize::from(state.writer[*l]) == task && usize::from(state.reader[*l]) > task).count()
+    };
+    let lies = |position: u8, task: usize| (1..=top(task)).contains(&usize::from(position));
+    (0..tasks).all(|t| state.phase[t] <= 2 && lies(state.newest[t], t) && lies(state.previous[t], t))
+        && (0..links).all(|l| {
+            let (writer, reader) = (usize::from(state.writer[l]), usize::from(state.reader[l]));
+            let absent = state.pointer[l] == 0;
+            let idle = state.phase[reader] == IDLE;
+            (absent || lies(state.pointer[l], writer)) && (idle || !absent) && (!idle || writer > reader || absent)
+        })
+}
+
+/// The first fault that the bytes alone show, without an engine: its number
+/// and place. All rules that a link breaks are gathered and the least given.
+pub fn fault_in_bytes(bytes: &[u8]) -> Option<(u8, usize)> {
+    let tasks = match bytes.first() {
+        None => return Some((1, 0)),
+        Some(tasks) if !(1..=16).contains(tasks) => return Some((2, 0)),
+        Some(tasks) => usize::from(*tasks),
+    };
+    let links_at = 1 + 4 * tasks;
+    if bytes.len() < links_at {
+        return Some((1, 1 + (bytes.len() - 1) / 4 * 4));
+    }
+    let links = match bytes.get(links_at) {
+        None => return Some((1, links_at)),
+        Some(links) if *links > 32 => return Some((3, links_at)),
+        Some(links) => usize::from(*links),
+    };
+    let events_at = links_at + 1 + 3 * links;
+    for place in (links_at + 1..events_at).step_by(3) {
+        if bytes.len() < place + 3 {
+            return Some((1, place));
+        }
+        if let Some(rule) = least_rule_broken(tasks, &bytes[links_at + 1..place], &bytes[place..place + 3]) {
+            return Some((rule, place));
+        }
+    }
+    match bytes.get(events_at..events_at + 2) {
+        None => Some((1, events_at)),
+        Some(count) => {
+            let events = usize::from(count[0]) + 256 * usize::from(count[1]);
+            if events > 10_000 {
+                return Some((10, events_at));
+            }
+            fault_in_events(bytes, events_at + 2, events)
+        }
+    }
+}
+
+fn least_rule_broken(tasks: usize, earlier: &[u8], link: &[u8]) -> Option<u8> {
+    let (writer, reader, kind) = (link[0], link[1], link[2]);
+    let same_writer = || earlier.chunks(3).filter(|other| other[0] == writer);
+    let rules = [
+        (9, reader > writer && same_writer().filter(|other| other[1] > writer).count() == 8),
+        (8, same_writer().any(|other| other[1] == reader)),
+        (7, kind == 0 && reader < writer),
+        (6, kind > 1),
+        (5, writer == reader),
+        (4, usize::from(writer.max(reader)) >= tasks),
+    ];
+    rules.iter().filter(|(_, broken)| *broken).map(|(rule, _)| *rule).min()
+}
+
+fn fault_in_events(bytes: &[u8], first: usize, events: usize) -> Option<(u8, usize)> {
+    let mut place = first;
+    for _ in 0..events {
+        let size = match bytes.get(place) {
+            None => return Some((1, place)),
+            Some(kind) => [None, Some(3), Some(2), Some(2), Some(6)].get(usize::from(*kind)).copied().flatten(),
+        };
+        match size {
+            None => return Some((11, place)),
+            Some(size) if bytes.len() < place + size => return Some((1, place)),
+            Some(size) => place += size,
+        }
+    }
+    if bytes.len() > place {
+        return Some((17, place));
+    }
+    None
+}
+
+/// The refusal and the place follow from the bytes alone, unless the state
+/// and the list refuse an earlier event; that refusal is judged once more.
+fn verdict_follows(bytes: &[u8], lent: &[u32], answer: &Answer) -> bool {
+    let by_state = matches!(answer.refusal, 12..=16 | 18);
+    let fault = fault_in_bytes(bytes);
+    if !by_state {
+        return fault.unwrap_or((0, bytes.len())) == (answer.refusal, answer.place);
+    }
+    let earlier = fault.map_or(true, |(number, place)| answer.place < place && matches!(number, 1 | 11 | 17));
+    let event = match event_at(bytes, answer.place) {
+        Some(event) => event,
+        None => return false,
+    };
+    let full = matches!(event, Event::Read(_)) && answer.counts.reads as usize == lent.len();
+    let refusal = match least_refusal(&answer.state, event) {
+        0 if full => 18,
+        refusal => refusal,
+    };
+    earlier && refusal == answer.refusal
+}
+
+fn event_at(bytes: &[u8], place: usize) -> Option<Event> {
+    let byte = |offset: usize| bytes.get(place + offset).copied();
+    let value = |offset: usize| Some(u32::from(byte(offset)?));
+    Some(match byte(0)? {
+        1 => Event::Arrival((value(1)? + value(2)? * 256) as u16),
+        2 => Event::Start(byte(1)?),
+        3 => Event::Read(byte(1)?),
+        4 => Event::Finish(byte(1)?, value(2)? | value(3)? << 8 | value(4)? << 16 | value(5)? << 24),
+        _ => return None,
+    })
+}
+
+/// At a refusal in the tasks, the links or a count: one task with default 0,
+/// all counts 0. Only such a refusal is given for 2 to 10.
+fn early_refusal_holds(answer: &Answer) -> bool {
+    let nothing_done = answer.state == State::single() && answer.counts == Counts::default();
+    !(2..=10).contains(&answer.refusal) || nothing_done
+}
+
+/// What every answer to a whole recording must keep; the name of the first
+/// law broken.
+pub fn replay_law_broken(bytes: &[u8], lent: &[u32], answer: &Answer) -> Option<&'static str> {
+    let reads = answer.counts.reads as usize;
+    let accepted = answer.refusal == 0;
+    let active = active_tasks(&answer.state);
+    let laws: [(&'static str, bool); 10] = [
+        ("the number is one of 0 to 18", answer.refusal <= 18),
+        ("on acceptance the place is the length", !accepted || answer.place == bytes.len()),
+        (
+            "a refusal other than 1 has bytes at its place",
+            accepted || answer.refusal == 1 || answer.place < bytes.len(),
+        ),
+        ("the rest runs from the place to the end", answer.place + answer.rest == bytes.len()),
+        ("arrivals equal finishes plus active tasks", answer.counts.arrivals == answer.counts.finishes + active),
+        ("the state is sound", sound_by_sentence(&answer.state)),
+        ("the list keeps its length", answer.list.len() == lent.len()),
+        ("the list past the reads is untouched", answer.list.get(reads..) == lent.get(reads..)),
+        ("refusal and place follow from bytes, state and list", verdict_follows(bytes, lent, answer)),
+        ("an early refusal has the single task's state and no counts", early_refusal_holds(answer)),
+    ];
+    laws.iter().find(|(_, holds)| !holds).map(|(name, _)| *name)
+}
+
+fn active_tasks(state: &State) -> u32 {
+    (0..usize::from(state.tasks)).filter(|task| state.phase[*task] != IDLE).count() as u32
+}
+
+/// An accepted recording, given event by event to the fresh state, must come
+/// to the same state and numbers.
+pub fn stepwise_law_broken(subject: &dyn Subject, recording: &Recording, answer: &Answer) -> Option<String> {
+    let mut state = subject.fresh(&recording.table);
+    let mut numbers = answer.list.iter();
+    for (number, &event) in recording.events.iter().enumerate() {
+        let one = subject.one_event(&state, event);
+        if one.refusal != 0 {
+            return Some(format!("event {} alone is refused {}", number, one.refusal));
+        }
+        let expected = match event {
+            Event::Read(_) => numbers.next().copied().unwrap_or(0),
+            _ => 0,
+        };
+        if one.value != expected {
+            return Some(format!("event {} alone gives {} and not {}", number, one.value, expected));
+        }
+        state = one.state;
+    }
+    if state != answer.state {
+        return Some("the states differ at the end".to_string());
+    }
+    None
+}
+
+/// A power cut: the answer to the first bytes is that of the whole records,
+/// refused 1 at the first record that isn't whole.
+pub fn power_cut_law_broken(
+    subject: &dyn Subject,
+    recording: &Recording,
+    ends: &[usize],
+    cut: usize,
+    answer: &Answer,
+    lent: &[u32],
+) -> Option<&'static str> {
+    let whole = ends.iter().take_while(|end| **end <= cut).count();
+    if cut < ends[0] {
+        return None;
+    }
+    let kept = Recording { table: recording.table.clone(), events: recording.events[..whole - 1].to_vec() };
+    let expected = subject.replay(&encode(&kept), lent);
+    let nothing_lost = whole == ends.len();
+    let (refusal, place) = if nothing_lost { (0, cut) } else { (1, ends[whole - 1]) };
+    if answer.refusal != refusal || answer.place != place {
+        return Some("power cut: refusal and place");
+    }
+    if answer.state != expected.state || answer.counts != expected.counts || answer.list != expected.list {
+        return Some("power cut: state, counts and list of the whole records");
+    }
+    None
+}
+
+/// The place after E, and after each event: where whole records end.
+pub fn record_ends(recording: &Recording) -> Vec<usize> {
+    let mut ends = vec![crate::format::place_of_event_count(&recording.table) + 2];
+    let mut bytes = Vec::new();
+    for &event in &recording.events {
+        crate::format::encode_event(event, &mut bytes);
+        ends.push(ends[0] + bytes.len());
+    }
+    ends
+}
+
+/// What the answer to one event must keep, judged without an engine.
+pub fn one_event_law_broken(before: &State, event: Event, answer: &OneAnswer) -> Option<&'static str> {
+    let refusal = if sound_by_sentence(before) { least_refusal(before, event) } else { 19 };
+    if answer.refusal != refusal {
+        return Some("the refusal of one event");
+    }
+    if refusal != 0 {
+        return if answer.value == 0 && answer.state == *before {
+            None
+        } else {
+            Some("a refusal has the state as lent and the value 0")
+        };
+    }
+    if answer.state != with_allowed_changes(before, event, &answer.state) {
+        return Some("only what the event names may change");
+    }
+    if accepted_holds(before, event, answer) {
+        None
+    } else {
+        Some("what the event does")
+    }
+}
+
+/// The least of the rows 12 to 16 that apply to an event.
+fn least_refusal(state: &State, event: Event) -> u8 {
+    let tasks = usize::from(state.tasks);
+    let active = |task: &usize| *task < tasks && state.phase[*task] != IDLE;
+    let phase = |task: usize| state.phase.get(task).copied().filter(|_| task < tasks);
+    let (outside, runner, needed, otherwise) = match event {
+        Event::Arrival(set) => {
+            let named = (0..16).filter(|task| set & (1 << task) != 0);
+            if set == 0 || named.clone().any(|task| task >= tasks) {
+                return 12;
+            }
+            return if named.clone().any(|task| active(&task)) { 13 } else { 0 };
+        }
+        Event::Start(task) => (usize::from(task) >= tasks, usize::from(task), WAITING, 14),
+        Event::Finish(task, _) => (usize::from(task) >= tasks, usize::from(task), RUNNING, 15),
+        Event::Read(link) if link >= state.links => return 12,
+        Event::Read(link) => (false, usize::from(state.reader[usize::from(link)]), RUNNING, 15),
+    };
+    if outside {
+        12
+    } else if phase(runner) != Some(needed) {
+        otherwise
+    } else if (0..runner).any(|task| active(&task)) {
+        16
+    } else {
+        0
+    }
+}
+
+/// The state before, with the fields the event may change taken from after.
+fn with_allowed_changes(before: &State, event: Event, after: &State) -> State {
+    let mut allowed = *before;
+    match event {
+        Event::Arrival(set) => {
+            for task in (0..16).filter(|task| set & (1 << task) != 0) {
+                allowed.phase[task] = after.phase[task];
+                allowed.newest[task] = after.newest[task];
+                allowed.previous[task] = after.previous[task];
+            }
+            for l in links_into(before, set) {
+                allowed.pointer[l] = after.pointer[l];
+            }
+        }
+        Event::Start(task) => allowed.phase[usize::from(task)] = after.phase[usize::from(task)],
+        Event::Read(_) => {}
+        Event::Finish(task, _) => {
+            let task = usize::from(task);
+            let cell = task * 10 + usize::from(before.newest[task]) - 1;
+            allowed.phase[task] = after.phase[task];
+            allowed.cells[cell] = after.cells[cell];
+            for l in links_into(before, 1 << task) {
+                allowed.pointer[l] = after.pointer[l];
+            }
+        }
+    }
+    allowed
+}
+
+fn links_into(state: &State, set: u16) -> Vec<usize> {
+    (0..usize::from(state.links)).filter(|l| set & (1 << state.reader[*l]) != 0).collect()
+}
+
+fn accepted_holds(before: &State, event: Event, answer: &OneAnswer) -> bool {
+    let after = &answer.state;
+    match event {
+        Event::Arrival(set) => answer.value == 0 && arrival_holds(before, set, after),
+        Event::Start(task) => answer.value == 0 && after.phase[usize::from(task)] == RUNNING,
+        Event::Read(link) => {
+            let link = usize::from(link);
+            let cell = usize::from(before.writer[link]) * 10 + usize::from(before.pointer[link]) - 1;
+            answer.value == before.cells[cell]
+        }
+        Event::Finish(task, value) => answer.value == 0 && finish_holds(before, usize::from(task), value, after),
+    }
+}
+
+fn arrival_holds(before: &State, set: u16, after: &State) -> bool {
+    let tasks = (0..16).filter(|task| set & (1 << task) != 0);
+    let writers = tasks.clone().all(|task| {
+        let taken = |position: u8| {
+            position == before.newest[task]
+                || (0..usize::from(before.links)).any(|l| {
+                    usize::from(before.writer[l]) == task
+                        && before.reader[l] > before.writer[l]
+                        && before.pointer[l] == position
+                })
+        };
+        let newest = after.newest[task];
+        after.phase[task] == WAITING
+            && after.previous[task] == before.newest[task]
+            && newest >= 1
+            && !taken(newest)
+            && (1..newest).all(taken)
+    });
+    let readers = links_into(before, set).into_iter().all(|l| {
+        let writer = usize::from(before.writer[l]);
+        let wanted = [after.newest[writer], after.previous[writer]][usize::from(before.kind[l])];
+        after.pointer[l] == wanted
+    });
+    writers && readers
+}
+
+fn finish_holds(before: &State, task: usize, value: u32, after: &State) -> bool {
+    after.phase[task] == IDLE
+        && after.cells[task * 10 + usize::from(before.newest[task]) - 1] == value
+        && links_into(before, 1 << task).into_iter().all(|l| {
+            let writer_ahead = usize::from(before.writer[l]) < task;
+            after.pointer[l] == if writer_ahead { 0 } else { before.pointer[l] }
+        })
+}
+
+/// The fresh state of a table, as the document says it.
+pub fn fresh_law_broken(table: &Table, fresh: &State) -> Option<&'static str> {
+    let tasks = table.defaults.len();
+    let default = |task: usize| table.defaults.get(task).copied().unwrap_or(0);
+    let link = |l: usize| table.links.get(l).map(|k| (k.writer, k.reader, k.kind)).unwrap_or((0, 0, 0));
+    let holds = usize::from(fresh.tasks) == tasks
+        && usize::from(fresh.links) == table.links.len()
+        && (0..16).all(|t| fresh.defaults[t] == default(t) && fresh.phase[t] == IDLE)
+        && (0..16).all(|t| fresh.newest[t] == 1 && fresh.previous[t] == 1)
+        && (0..160).all(|c| fresh.cells[c] == default(c / 10))
+        && (0..32).all(|l| (fresh.writer[l], fresh.reader[l], fresh.kind[l]) == link(l) && fresh.pointer[l] == 0);
+    if holds {
+        None
+    } else {
+        Some("the fresh state of a table")
+    }
+}

@@ -1,0 +1,199 @@
+//! Saved states: sound ones from random histories, and spoiled ones.
+
+use crate::corpus::{nasty_event, random_events, random_table, Schedule, Size};
+use crate::engine::{Engine, FreshEngine, IDLE};
+use crate::format::{Event, Link, Recording, Table, DELAYED};
+use crate::pointers::Pointers;
+use crate::prng::Prng;
+use crate::state::{State, MOST_CELLS, MOST_POSITIONS};
+use crate::zero_time::ZeroTime;
+
+/// A state with the history that led to it, as the zero-time run knows it.
+pub struct Saved {
+    pub state: State,
+    pub zero: ZeroTime,
+    pub table: Table,
+    pub schedule: Schedule,
+    pub history: Recording,
+}
+
+pub fn from_history(prng: &mut Prng) -> Saved {
+    let size = prng.pick(&[Size::Small, Size::Any, Size::Any, Size::Limit]);
+    let table = random_table(prng, size);
+    from_history_of(prng, table)
+}
+
+fn from_history_of(prng: &mut Prng, table: Table) -> Saved {
+    let count = prng.below(120);
+    let (events, schedule) = random_events(prng, &table, count);
+    let mut pointers = Pointers::fresh(&table);
+    let mut zero = ZeroTime::fresh(&table);
+    for &event in &events {
+        pointers.apply(event);
+        zero.apply(event);
+    }
+    let history = Recording { table: table.clone(), events };
+    Saved { state: pointers.state, zero, table, schedule, history }
+}
+
+/// An event for a state: half of them are likely to be allowed.
+pub fn event_for(prng: &mut Prng, state: &State, saved: &Saved) -> Event {
+    if prng.chance(50) {
+        return nasty_event(prng, &saved.table, &saved.schedule);
+    }
+    let top = saved.schedule.top();
+    let idle: u16 =
+        (0..saved.table.defaults.len()).filter(|t| saved.schedule.phase[*t] == IDLE).fold(0, |set, t| set | 1 << t);
+    let links = usize::from(state.links).min(32);
+    let top_links: Vec<u8> =
+        (0..links).filter(|l| Some(usize::from(state.reader[*l])) == top).map(|l| l as u8).collect();
+    match prng.below(4) {
+        0 => Event::Arrival(idle & prng.word() as u16),
+        1 if !top_links.is_empty() => Event::Read(prng.pick(&top_links)),
+        2 => Event::Start(top.unwrap_or(0) as u8),
+        _ => Event::Finish(top.unwrap_or(0) as u8, prng.word()),
+    }
+}
+
+/// Every field that a lent state has; the index runs over the whole array,
+/// slots past the counts included.
+#[derive(Clone, Copy, PartialEq, Eq, Debug)]
+pub enum Field {
+    Tasks,
+    Links,
+    Default(usize),
+    Phase(usize),
+    Newest(usize),
+    Previous(usize),
+    Cell(usize),
+    Writer(usize),
+    Reader(usize),
+    Kind(usize),
+    Pointer(usize),
+}
+
+pub fn all_fields() -> Vec<Field> {
+    let mut fields = vec![Field::Tasks, Field::Links];
+    for t in 0..16 {
+        fields.extend([Field::Default(t), Field::Phase(t), Field::Newest(t), Field::Previous(t)]);
+        fields.extend([Field::Cell(t * MOST_POSITIONS), Field::Cell(t * MOST_POSITIONS + 9)]);
+    }
+    for l in 0..32 {
+        fields.extend([Field::Writer(l), Field::Reader(l), Field::Kind(l), Field::Pointer(l)]);
+    }
+    fields
+}
+
+/// The values either side of each line a field has, for a state.
+pub fn boundary_values(state: &State, field: Field) -> Vec<u32> {
+    let tasks = u32::from(state.tasks);
+    let links = u32::from(state.links);
+    let lines = |positions: u32| vec![0, 1, 2, positions, positions + 1, 10, 11, 255];
+    match field {
+        Field::Tasks => vec![0, 1, tasks - 1, tasks + 1, 15, 16, 17, 255],
+        Field::Links => vec![0, 1, links.saturating_sub(1), links + 1, 31, 32, 33, 255],
+        Field::Default(_) | Field::Cell(_) => vec![0, 1, u32::MAX],
+        Field::Phase(_) => vec![0, 1, 2, 3, 128, 255],
+        Field::Newest(task) | Field::Previous(task) => lines(state.positions(task) as u32),
+        Field::Writer(_) | Field::Reader(_) => vec![0, tasks - 1, tasks, 15, 16, 31, 255],
+        Field::Kind(_) => vec![0, 1, 2, 255],
+        Field::Pointer(link) => lines(state.positions(usize::from(state.writer[link])) as u32),
+    }
+}
+
+pub fn set_field(state: &mut State, field: Field, value: u32) {
+    let byte = value as u8;
+    match field {
+        Field::Tasks => state.tasks = byte,
+        Field::Links => state.links = byte,
+        Field::Default(t) => state.defaults[t] = value,
+        Field::Phase(t) => state.phase[t] = byte,
+        Field::Newest(t) => state.newest[t] = byte,
+        Field::Previous(t) => state.previous[t] = byte,
+        Field::Cell(c) => state.cells[c % MOST_CELLS] = value,
+        Field::Writer(l) => state.writer[l] = byte,
+        Field::Reader(l) => state.reader[l] = byte,
+        Field::Kind(l) => state.kind[l] = byte,
+        Field::Pointer(l) => state.pointer[l] = byte,
+    }
+}
+
+/// Each field of a sound state set to each of its boundary values and to one
+/// random value.
+pub fn every_field_spoiled(prng: &mut Prng, sound: &State) -> Vec<State> {
+    let mut states = Vec::new();
+    for field in all_fields() {
+        let mut values = boundary_values(sound, field);
+        values.push(prng.word());
+        for value in values {
+            let mut state = *sound;
+            set_field(&mut state, field, value);
+            states.push(state);
+        }
+    }
+    states
+}
+
+/// A few fields at once: small steps that often stay sound, so that accepted
+/// events on states no history leads to come up as well.
+pub fn randomly_spoiled(prng: &mut Prng, sound: &State) -> State {
+    let mut state = *sound;
+    for _ in 0..prng.between(1, 4) {
+        let task = prng.below(usize::from(sound.tasks));
+        let link = prng.below(usize::from(sound.links).max(1));
+        let field = prng.pick(&[
+            Field::Phase(task),
+            Field::Newest(task),
+            Field::Previous(task),
+            Field::Cell(task * MOST_POSITIONS + prng_position(sound, task)),
+            Field::Kind(link),
+            Field::Pointer(link),
+            Field::Pointer(link),
+            Field::Reader(link),
+            Field::Default(task),
+            Field::Links,
+        ]);
+        let value = match field {
+            Field::Links => u32::from(sound.links).saturating_sub(1),
+            Field::Cell(_) | Field::Default(_) => prng.word(),
+            Field::Kind(_) => prng.below(2) as u32,
+            _ => prng.pick(&boundary_values(sound, field)),
+        };
+        set_field(&mut state, field, value);
+    }
+    state
+}
+
+/// Task 0 has eight links to readers behind; a link of task 1 is turned into
+/// its ninth, or the count of links is taken past such a slot.
+pub fn crowded(prng: &mut Prng) -> State {
+    let tasks = prng.between(10, 16) as u8;
+    let mut links: Vec<Link> = (1..=8).map(|reader| Link { writer: 0, reader, kind: prng.below(2) as u8 }).collect();
+    let at = prng.below(9);
+    links.insert(at, Link { writer: 1, reader: prng.between(9, usize::from(tasks) - 1) as u8, kind: DELAYED });
+    let defaults = (0..tasks).map(|_| prng.word()).collect();
+    let mut state = from_history_of(prng, Table { defaults, links }).state;
+    state.writer[at] = prng.pick(&[0, 0, 0, 2]);
+    if prng.chance(30) {
+        state.links = 8;
+    }
+    state
+}
+
+fn prng_position(state: &State, task: usize) -> usize {
+    usize::from(state.newest[task]).saturating_sub(1)
+}
+
+/// Any bytes at all in the first few fields, for the crudest states.
+pub fn any_bytes(prng: &mut Prng) -> State {
+    let mut state = State::single();
+    state.tasks = prng.pick(&[0, 1, 2, 3, 16, 17, 255]);
+    state.links = prng.pick(&[0, 1, 2, 3, 32, 33, 255]);
+    for field in all_fields() {
+        if prng.chance(60) && field != Field::Tasks && field != Field::Links {
+            let value = if prng.chance(80) { prng.below(4) as u32 } else { prng.word() };
+            set_field(&mut state, field, value);
+        }
+    }
+    state
+}

@@ -1,0 +1,204 @@
+//! The state as it is lent, saved and handed back, and when it is sound.
+
+use crate::engine::{IDLE, RUNNING};
+use crate::format::{link_refusal, Link, Table, MOST_LINKS, MOST_TASKS};
+
+/// Positions of one task: at most eight readers behind, and two.
+pub const MOST_POSITIONS: usize = 10;
+pub const MOST_CELLS: usize = MOST_TASKS * MOST_POSITIONS;
+/// The pointer's value when it is absent; positions are numbered from 1.
+pub const ABSENT: u8 = 0;
+
+/// Position p of task t is at `cells[t * 10 + p - 1]`. Every field may hold
+/// any byte when a state is lent; soundness says which of them are states.
+#[derive(Clone, Copy, PartialEq, Eq, Debug)]
+pub struct State {
+    pub tasks: u8,
+    pub links: u8,
+    pub defaults: [u32; MOST_TASKS],
+    pub phase: [u8; MOST_TASKS],
+    pub newest: [u8; MOST_TASKS],
+    pub previous: [u8; MOST_TASKS],
+    pub cells: [u32; MOST_CELLS],
+    pub writer: [u8; MOST_LINKS],
+    pub reader: [u8; MOST_LINKS],
+    pub kind: [u8; MOST_LINKS],
+    pub pointer: [u8; MOST_LINKS],
+}
+
+impl State {
+    /// The fresh state of a table that keeps rules 2 to 9.
+    pub fn fresh(table: &Table) -> State {
+        let mut state = State {
+            tasks: table.defaults.len() as u8,
+            links: table.links.len() as u8,
+            defaults: [0; MOST_TASKS],
+            phase: [IDLE; MOST_TASKS],
+            newest: [1; MOST_TASKS],
+            previous: [1; MOST_TASKS],
+            cells: [0; MOST_CELLS],
+            writer: [0; MOST_LINKS],
+            reader: [0; MOST_LINKS],
+            kind: [0; MOST_LINKS],
+            pointer: [ABSENT; MOST_LINKS],
+        };
+        for (task, &default) in table.defaults.iter().enumerate().take(MOST_TASKS) {
+            state.defaults[task] = default;
+            let first = task * MOST_POSITIONS;
+            // Positions past N + 2 hold the default as well.
+            state.cells[first..first + MOST_POSITIONS].fill(default);
+        }
+        for (number, link) in table.links.iter().enumerate().take(MOST_LINKS) {
+            state.writer[number] = link.writer;
+            state.reader[number] = link.reader;
+            state.kind[number] = link.kind;
+        }
+        state
+    }
+
+    /// What an early refusal answers with: one task, default 0, no links.
+    pub fn single() -> State {
+        State::fresh(&Table { defaults: vec![0], links: Vec::new() })
+    }
+
+    pub fn link(&self, number: usize) -> Link {
+        Link { writer: self.writer[number], reader: self.reader[number], kind: self.kind[number] }
+    }
+
+    /// N + 2 of a task. The links must name tasks of the table.
+    pub fn positions(&self, task: usize) -> usize {
+        let behind = |number: &usize| {
+            let link = self.link(*number);
+            usize::from(link.writer) == task && link.reader_behind()
+        };
+        (0..usize::from(self.links)).filter(behind).count() + 2
+    }
+
+    pub fn active(&self, task: usize) -> bool {
+        self.phase[task] != IDLE
+    }
+
+    pub fn cell(&self, task: usize, position: u8) -> usize {
+        task * MOST_POSITIONS + usize::from(position) - 1
+    }
+
+    /// The links of the table, for states whose count of links is in range.
+    pub fn table(&self) -> Table {
+        Table {
+            defaults: self.defaults[..usize::from(self.tasks)].to_vec(),
+            links: (0..usize::from(self.links)).map(|number| self.link(number)).collect(),
+        }
+    }
+}
+
+/// The parts of "a state is sound when"; each can be the only one broken.
+#[derive(Clone, Copy, PartialEq, Eq, Debug)]
+#[repr(u8)]
+pub enum Clause {
+    /// Rule 2 of the table.
+    Tasks = 2,
+    /// Rule 3.
+    Links = 3,
+    /// Rules 4 to 9.
+    NamesNoTask = 4,
+    WriterIsReader = 5,
+    Kind = 6,
+    DirectAhead = 7,
+    SecondToReader = 8,
+    NinthBehind = 9,
+    /// A phase that is none of the three.
+    Phase = 10,
+    Newest = 11,
+    Previous = 12,
+    Pointer = 13,
+    ActiveReaderWithout = 14,
+    IdleReaderWith = 15,
+}
+
+pub const CLAUSES: [Clause; 14] = [
+    Clause::Tasks,
+    Clause::Links,
+    Clause::NamesNoTask,
+    Clause::WriterIsReader,
+    Clause::Kind,
+    Clause::DirectAhead,
+    Clause::SecondToReader,
+    Clause::NinthBehind,
+    Clause::Phase,
+    Clause::Newest,
+    Clause::Previous,
+    Clause::Pointer,
+    Clause::ActiveReaderWithout,
+    Clause::IdleReaderWith,
+];
+
+/// The clauses a state breaks. When the table is broken the rest has no
+/// meaning (there is no N), so the table's clause then stands alone.
+pub fn broken_clauses(state: &State) -> Vec<Clause> {
+    match table_clause(state) {
+        Some(clause) => vec![clause],
+        None => broken_beyond_table(state),
+    }
+}
+
+pub fn sound(state: &State) -> bool {
+    table_clause(state).is_none() && broken_beyond_table(state).is_empty()
+}
+
+fn table_clause(state: &State) -> Option<Clause> {
+    let tasks = usize::from(state.tasks);
+    let links = usize::from(state.links);
+    if tasks == 0 || tasks > MOST_TASKS {
+        return Some(Clause::Tasks);
+    }
+    if links > MOST_LINKS {
+        return Some(Clause::Links);
+    }
+    let mut earlier = [Link { writer: 0, reader: 0, kind: 0 }; MOST_LINKS];
+    for number in 0..links {
+        let link = state.link(number);
+        let refusal = link_refusal(tasks, &earlier[..number], link);
+        if refusal != 0 {
+            return CLAUSES.iter().copied().find(|clause| *clause as u8 == refusal);
+        }
+        earlier[number] = link;
+    }
+    None
+}
+
+fn broken_beyond_table(state: &State) -> Vec<Clause> {
+    let mut broken = Vec::new();
+    let mut note = |clause: Clause| {
+        if !broken.contains(&clause) {
+            broken.push(clause);
+        }
+    };
+    for task in 0..usize::from(state.tasks) {
+        let positions = state.positions(task);
+        let inside = |position: u8| position >= 1 && usize::from(position) <= positions;
+        if state.phase[task] > RUNNING {
+            note(Clause::Phase);
+        }
+        if !inside(state.newest[task]) {
+            note(Clause::Newest);
+        }
+        if !inside(state.previous[task]) {
+            note(Clause::Previous);
+        }
+    }
+    for number in 0..usize::from(state.links) {
+        let link = state.link(number);
+        let pointer = state.pointer[number];
+        let active = state.active(usize::from(link.reader));
+        if usize::from(pointer) > state.positions(usize::from(link.writer)) {
+            note(Clause::Pointer);
+        }
+        if active && pointer == ABSENT {
+            note(Clause::ActiveReaderWithout);
+        }
+        if !active && link.reader_behind() && pointer != ABSENT {
+            note(Clause::IdleReaderWith);
+        }
+    }
+    broken
+}

@@ -1,0 +1,124 @@
+//! What gets judged: whole replays, the fresh state of a table, one event on
+//! a saved state. The real code is to be linked behind this trait.
+
+use crate::engine::{Engine, FreshEngine};
+use crate::format::{replay, Counts, Event, Reading, Table};
+use crate::pointers::{judge, Pointers};
+use crate::state::{sound, State};
+use crate::zero_time::ZeroTime;
+
+/// The answer to a whole recording. The list is the lent one afterwards, its
+/// untouched part included; `rest` is the length of the unread rest.
+#[derive(Clone, PartialEq, Eq, Debug)]
+pub struct Answer {
+    pub refusal: u8,
+    pub place: usize,
+    pub counts: Counts,
+    pub state: State,
+    pub list: Vec<u32>,
+    pub rest: usize,
+}
+
+/// The answer to one event given to a saved state.
+#[derive(Clone, PartialEq, Eq, Debug)]
+pub struct OneAnswer {
+    pub refusal: u8,
+    pub value: u32,
+    pub state: State,
+}
+
+pub trait Subject {
+    fn name(&self) -> String;
+
+    /// Reads a whole recording with a list lent as it stands.
+    fn replay(&self, bytes: &[u8], lent: &[u32]) -> Answer;
+
+    /// The fresh state of a table that keeps rules 2 to 9.
+    fn fresh(&self, table: &Table) -> State;
+
+    /// One event given to a state that may hold any bytes.
+    fn one_event(&self, state: &State, event: Event) -> OneAnswer;
+}
+
+/// The oracle itself: the reader of recordings on the `Pointers` engine.
+pub struct Oracle;
+
+impl Subject for Oracle {
+    fn name(&self) -> String {
+        "oracle".to_string()
+    }
+
+    fn replay(&self, bytes: &[u8], lent: &[u32]) -> Answer {
+        answer_of(replay(bytes, lent, Pointers::fresh), |engine| engine.state)
+    }
+
+    fn fresh(&self, table: &Table) -> State {
+        State::fresh(table)
+    }
+
+    fn one_event(&self, state: &State, event: Event) -> OneAnswer {
+        one_event_with(state, event, judge, |state, event| {
+            let mut engine = Pointers { state: *state };
+            let value = engine.apply(event);
+            (engine.state, value)
+        })
+    }
+}
+
+pub fn answer_of<E>(reading: Reading<E>, state: impl FnOnce(E) -> State) -> Answer {
+    Answer {
+        refusal: reading.refusal,
+        place: reading.place,
+        counts: reading.counts,
+        state: reading.engine.map(state).unwrap_or_else(State::single),
+        list: reading.list,
+        rest: reading.rest,
+    }
+}
+
+/// 19 before anything else, then 12 to 16, then the event; every refusal has
+/// the state as lent and the value 0.
+pub fn one_event_with(
+    state: &State,
+    event: Event,
+    judge: impl FnOnce(&State, Event) -> u8,
+    apply: impl FnOnce(&State, Event) -> (State, u32),
+) -> OneAnswer {
+    let refusal = if sound(state) { judge(state, event) } else { 19 };
+    if refusal != 0 {
+        return OneAnswer { refusal, value: 0, state: *state };
+    }
+    let (state, value) = apply(state, event);
+    OneAnswer { refusal, value, state }
+}
+
+/// What the zero-time run says of a recording.
+pub fn zero_time_reading(bytes: &[u8], lent: &[u32]) -> Reading<ZeroTime> {
+    replay(bytes, lent, ZeroTime::fresh)
+}
+
+/// What a whole answer and a zero-time reading disagree on, if anything:
+/// numbers, refusal, place, counts, rest, and the phases.
+pub fn disagreement(answer: &Answer, zero: &Reading<ZeroTime>) -> Option<&'static str> {
+    if answer.refusal != zero.refusal {
+        return Some("refusal");
+    }
+    if answer.place != zero.place {
+        return Some("place");
+    }
+    if answer.counts != zero.counts {
+        return Some("counts");
+    }
+    if answer.list != zero.list {
+        return Some("list of numbers");
+    }
+    if answer.rest != zero.rest {
+        return Some("rest");
+    }
+    if let Some(engine) = &zero.engine {
+        if (0..usize::from(answer.state.tasks)).any(|task| answer.state.phase[task] != engine.phase(task)) {
+            return Some("phases");
+        }
+    }
+    None
+}
