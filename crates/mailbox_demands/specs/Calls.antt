@@ -8,8 +8,10 @@ use lib.Dec.{eqb}
 use Rattle.protocol.specs.Event.{Event}
 use Rattle.protocol.specs.Table.{Table}
 use Rattle.protocol.specs.Schedule.{urgent, judged}
-use Rattle.protocol_state.specs.Give.{note}
-use Rattle.mailbox.specs.States.{given}
+use Rattle.protocol.specs.Demand.{Answers}
+use Rattle.protocol_state.specs.Give.{reply, note}
+use Rattle.protocol_state.specs.Alike.{Alike}
+use Rattle.mailbox.specs.States.{saved, given}
 use Rattle.mailbox.specs.declared.State.{State}
 use Rattle.mailbox.specs.declared.Step.{Step}
 
@@ -45,8 +47,16 @@ numbers ns [] rs = ns
 numbers ns (e ∷ es) [] = ns
 numbers ns (e ∷ es) (r ∷ rs) = numbers (noted ns e r) es rs
 
--- each refusal is what the table and the history of accepted events say
-unfoldable pub Judged : Table ℕ → List (Event ℕ) → List (Event ℕ) → List Step → Type 0
-Judged T h [] rs = Unit {0}
-Judged T h (e ∷ es) [] = Unit {0}
-Judged T h (e ∷ es) (r ∷ rs) = (r .answer .refusal ≡ judged T (urgent T) h e) × Judged T (went h e r) es rs
+-- it is so at each call: said of the accepted events before it, the event and the answer
+unfoldable pub Each : (List (Event ℕ) → Event ℕ → Step → Type 0) → List (Event ℕ) → List (Event ℕ) → List Step → Type 0
+Each Q h [] rs = Unit {0}
+Each Q h (e ∷ es) [] = Unit {0}
+Each Q h (e ∷ es) (r ∷ rs) = Q h e r × Each Q (went h e r) es rs
+
+-- the refusal is what the table and the history say
+abbrev pub Judged : Table ℕ → List (Event ℕ) → Event ℕ → Step → Type 0
+Judged T h e r = r .answer .refusal ≡ judged T (urgent T) h e
+
+-- the answer is the one that the answer function B gives: the same refusal, value, positions, pointers and mailboxes
+abbrev pub AnsweredBy : Answers ℕ → Table ℕ → List (Event ℕ) → Event ℕ → Step → Type 0
+AnsweredBy B T h e r = Alike (reply (saved (r .state)) (r .answer .refusal) (r .answer .value)) (B .reply T h e)

@@ -4,14 +4,14 @@ use mathlib.Core.Path.{_≡_, refl, ap, sym, _∙_}
 use mathlib.Core.Logic.{_≢_}
 use mathlib.Core.Bool.{Bool, true, false, _&&_, true≢false}
 use mathlib.Core.List.{List, [], _∷_}
-use Prim.Native.Nat.{ℕ, _<_}
+use Prim.Native.Nat.{ℕ}
 use borrow.Author.Tests.{eqb-true}
 use lib.Dec.{eqb, ltb, lit<}
 use Rattle.lists.specs.Lists.{some}
 use Rattle.lists.proofs.Bools.{and-left, and-right}
 use Rattle.protocol.specs.Event.{Event, arrival, start, read, finish, has}
 use Rattle.protocol.specs.Table.{Table, Lawful}
-use Rattle.protocol.specs.History.{arrivals, starts, finishes, upTo, output}
+use Rattle.protocol.specs.History.{Goes, same, more, arrivals, starts, finishes, upTo, output}
 use Rattle.protocol.specs.Schedule.{urgent, Possible, AllPossible, judged}
 use Rattle.protocol.specs.ZeroTime.{ideals}
 use Rattle.protocol.specs.Published.{Boxes, Step}
@@ -19,15 +19,14 @@ use Rattle.protocol.specs.Instant.{upward}
 use Rattle.protocol.specs.Demand.{Answers, boxesAfter, numbersRead, Demand2, Demand3}
 use Rattle.protocol.proofs.Schedule.{urgent-fair, judged-possible}
 use Rattle.protocol.proofs.Upward.{upward-order}
-use Rattle.protocol.proofs.ZeroRun.{Goes, same, more}
 use Rattle.protocol.proofs.Demands.{only-ideals}
 
 module _ {Val : Type 0} where
   -- two tasks, one link from the more urgent to the other, the default d
-  unfoldable pub pair : Val → Bool → Table Val
+  unfoldable pair : Val → Bool → Table Val
   pair d late = record { tasks = 2; links = 1; default = λ t. d; writer = λ l. 0; reader = λ l. 1; delayed = λ l. late; ahead = ltb }
 
-  pub pair-lawful : (d : Val) (late : Bool) → Lawful (pair d late)
+  pair-lawful : (d : Val) (late : Bool) → Lawful (pair d late)
   unfolding pair
   pair-lawful d late = record { writer = λ l q. lit< tt; reader = λ l q. lit< tt; direct = λ l q e. refl; other = λ l q e. absurd (true≢false e) }
 
@@ -45,19 +44,19 @@ module _ {Val : Type 0} where
   )
 
   -- both arrive, the first runs and gives x, the second reads
-  unfoldable pub both : Val → List (Event Val)
+  unfoldable both : Val → List (Event Val)
   both x = read 0 ∷ start 1 ∷ finish 0 x ∷ start 0 ∷ arrival 3 ∷ []
 
   -- the second is held up: the first arrives again and gives y, then the second reads
-  unfoldable pub held : Val → Val → List (Event Val)
+  unfoldable held : Val → Val → List (Event Val)
   held x y = read 0 ∷ finish 0 y ∷ start 0 ∷ arrival 1 ∷ start 1 ∷ finish 0 x ∷ start 0 ∷ arrival 3 ∷ []
 
   -- the second arrives alone and is ready to read
-  unfoldable pub alone : List (Event Val)
+  unfoldable alone : List (Event Val)
   alone = start 1 ∷ arrival 2 ∷ []
 
   -- it reads and finishes; then both arrive, the first gives x, and the second is ready to read again
-  unfoldable pub again : Val → Val → List (Event Val)
+  unfoldable again : Val → Val → List (Event Val)
   again x y = start 1 ∷ finish 0 x ∷ start 0 ∷ arrival 3 ∷ finish 1 y ∷ read 0 ∷ alone
 
   module _ (d : Val) (late : Bool) (x y : Val) where
@@ -79,35 +78,28 @@ module _ {Val : Type 0} where
   unfolding pair
   told A D d late h P = only-ideals urgent urgent-fair A D (pair d late) (pair-lawful d late) (upward 0 2) (upward-order (pair d late) (λ u t. refl)) h P
 
-  first-same : {x y : Val} {xs ys : List Val} → x ∷ xs ≡ y ∷ ys → x ≡ y
-  first-same {x} e = ap front e
-    where
-      front : List Val → Val
-      front [] = x
-      front (v ∷ vs) = v
-
   module _ (A : Answers Val) (D : Demand3 A urgent) (d x y : Val) where
     -- by a direct link it reads the output x, for every x
-    pub reads-output : A .reply (pair d false) (start 1 ∷ finish 0 x ∷ start 0 ∷ arrival 3 ∷ []) (read 0) .value ≡ x
+    reads-output : A .reply (pair d false) (start 1 ∷ finish 0 x ∷ start 0 ∷ arrival 3 ∷ []) (read 0) .value ≡ x
     unfolding pair both numbersRead ideals arrivals starts finishes upTo output has
-    reads-output = first-same (told A D d false (both x) (both-possible d false x y))
+    reads-output = cc (told A D d false (both x) (both-possible d false x y))
 
     -- and still x where the reader is held up while its writer runs again
-    pub reads-own-arrival : A .reply (pair d false) (finish 0 y ∷ start 0 ∷ arrival 1 ∷ start 1 ∷ finish 0 x ∷ start 0 ∷ arrival 3 ∷ []) (read 0) .value ≡ x
+    reads-own-arrival : A .reply (pair d false) (finish 0 y ∷ start 0 ∷ arrival 1 ∷ start 1 ∷ finish 0 x ∷ start 0 ∷ arrival 3 ∷ []) (read 0) .value ≡ x
     unfolding pair held numbersRead ideals arrivals starts finishes upTo output has
-    reads-own-arrival = first-same (told A D d false (held x y) (held-possible d false x y))
+    reads-own-arrival = cc (told A D d false (held x y) (held-possible d false x y))
 
     -- by a delayed link it reads the default
-    pub reads-default : A .reply (pair d true) (start 1 ∷ finish 0 x ∷ start 0 ∷ arrival 3 ∷ []) (read 0) .value ≡ d
+    reads-default : A .reply (pair d true) (start 1 ∷ finish 0 x ∷ start 0 ∷ arrival 3 ∷ []) (read 0) .value ≡ d
     unfolding pair both numbersRead ideals arrivals starts finishes upTo output has
-    reads-default = first-same (told A D d true (both x) (both-possible d true x y))
+    reads-default = cc (told A D d true (both x) (both-possible d true x y))
 
     -- the reader's first arrival settled on the default, its second on the output x
-    pub reads-anew : (A .reply (pair d false) alone (read 0) .value ≡ d) × (A .reply (pair d false) (again x y) (read 0) .value ≡ x)
+    reads-anew : (A .reply (pair d false) alone (read 0) .value ≡ d) × (A .reply (pair d false) (again x y) (read 0) .value ≡ x)
     unfolding pair again alone numbersRead ideals arrivals starts finishes upTo output has AllPossible
     reads-anew =
         let P : AllPossible (pair d false) (urgent (pair d false)) (read 0 ∷ again x y) = again-possible d false x y in
-        (first-same (told A D d false (read 0 ∷ alone) (P .1 .1 .1 .1 .1 .1)), first-same (told A D d false (read 0 ∷ again x y) P))
+        (cc (told A D d false (read 0 ∷ alone) (P .1 .1 .1 .1 .1 .1)), cc (told A D d false (read 0 ∷ again x y) P))
 
   -- ---- what demand 2 excludes
   module _ (A : Answers Val) (D : Demand2 A urgent) (d : Val) where

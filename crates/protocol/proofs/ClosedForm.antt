@@ -34,7 +34,7 @@ module _ {Val : Type 0} (T : Table Val) (out : ℕ → ℕ → Val) where
 
   -- task t's read by link l after the arrivals ms
   abbrev pub entry : List ℕ → ℕ → ℕ → Entry Val
-  entry ms t l = record { task = t; job = seen ms t; link = l; given = told ms l }
+  entry ms t l = record { job = seen ms t; link = l; given = told ms l }
 
   -- task t reads those of the first n links that are its own
   unfoldable pub closed-reads : List ℕ → ℕ → ℕ → List (Entry Val) → List (Entry Val)

@@ -6,12 +6,12 @@ use Prim.Native.Nat.{ℕ}
 use Rattle.protocol.specs.Event.{Event, arrival, start, read, finish}
 use Rattle.protocol.specs.Table.{Table, Lawful}
 use Rattle.protocol.specs.Schedule.{Policy, Fair, AllPossible}
-use Rattle.protocol.specs.ZeroTime.{ideals, Settled}
-use Rattle.protocol.specs.Published.{Free, Lowest, Run}
+use Rattle.protocol.specs.ZeroTime.{ideals}
+use Rattle.protocol.specs.Published.{Lowest, Run}
 use Rattle.protocol.specs.Published as published
 use Rattle.protocol.specs.Instant.{Order, theres}
 use Rattle.protocol.specs.Demand.{Answers, boxesAfter, numbersRead, Demand2, Demand3}
-use Rattle.protocol.proofs.Theorem.{weaken, zero-time, settled}
+use Rattle.protocol.proofs.Theorem.{lowest-only, zero-time}
 use Rattle.protocol.proofs.ZeroRun.{ideals-read, theres-same}
 
 module _ {Val : Type 0} (policy : Table Val → Policy Val) (A : Answers Val) (D : Demand2 A policy) (T : Table Val) (L : Lawful T) where
@@ -21,9 +21,6 @@ module _ {Val : Type 0} (policy : Table Val → Policy Val) (A : Answers Val) (D
   answers-run [] P = published.fresh (D .fresh T L)
   answers-run (e ∷ h) P = published.next e (answers-run h (P .1)) (P .0) (D .step T L h (P .1) e (P .0))
 
-  free-run : (h : List (Event Val)) → AllPossible T (policy T) h → Run T (policy T) (Free T) (boxesAfter A T h) h
-  free-run h P = weaken T (policy T) (λ s t p c. c .free) (answers-run h P)
-
   module _ (F : Fair T (policy T)) where
     -- every number read is the closed form's
     pub answers-ideals : (h : List (Event Val)) → AllPossible T (policy T) h → numbersRead A T h ≡ ideals T h
@@ -32,12 +29,8 @@ module _ {Val : Type 0} (policy : Table Val → Policy Val) (A : Answers Val) (D
     answers-ideals (arrival m ∷ h) P = answers-ideals h (P .1)
     answers-ideals (start t ∷ h) P = answers-ideals h (P .1)
     answers-ideals (read l ∷ h) P =
-        rw (D .number T L h (P .1) l (P .0), zero-time T (policy T) L F (free-run h (P .1)) (P .0) .0, answers-ideals h (P .1))
+        rw (D .number T L h (P .1) l (P .0), zero-time T (policy T) L F (lowest-only T) (answers-run h (P .1)) (P .0) .0, answers-ideals h (P .1))
     answers-ideals (finish t v ∷ h) P = answers-ideals h (P .1)
-
-    -- and the output of an unfinished run is never read
-    pub answers-settled : (h : List (Event Val)) → AllPossible T (policy T) h → Settled T h
-    answers-settled h P = settled T (policy T) L F (free-run h P)
 
 -- demand 3, for every policy that keeps Turn and every type of values
 pub demand-3 : {Val : Type 0} (policy : Table Val → Policy Val) → ((T : Table Val) → Fair T (policy T)) → (A : Answers Val) → Demand2 A policy → Demand3 A policy

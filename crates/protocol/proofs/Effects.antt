@@ -12,7 +12,7 @@ use Rattle.protocol.specs.Table.{Table, behind}
 use Rattle.protocol.specs.Published.{Boxes, Choice, Arrived, Finished}
 
 module _ {Val : Type 0} (T : Table Val) where
-  module _ {choice : Choice T} {m : ℕ} {s s′ : Boxes Val} (A : Arrived T choice m s s′) where
+  module _ {choice : Choice Val} {m : ℕ} {s s′ : Boxes Val} (A : Arrived T choice m s s′) where
     -- who arrives has for its previous position what was its newest
     pub previous-in : (t : ℕ) → has m t ≡ true → s′ .previous t ≡ s .newest t
     previous-in t e = rw (A .previous t, e)

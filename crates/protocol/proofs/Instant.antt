@@ -2,7 +2,7 @@
 -- Assumes nothing.
 use mathlib.Core.Path.{_≡_, refl, ap, sym, _∙_}
 use mathlib.Core.Logic.{_≢_}
-use mathlib.Core.Bool.{Bool, true, false, cond, _&&_, true≢false}
+use mathlib.Core.Bool.{Bool, true, false, cond, _&&_, and-false, true≢false}
 use mathlib.Core.List.{List, [], _∷_}
 use Prim.Native.Nat.{ℕ, zero, suc, pred, _≤_, _<_}
 use native.Mathlib.Omega.{arith}
@@ -15,11 +15,6 @@ use Rattle.protocol.specs.History.{tick}
 use Rattle.protocol.specs.ZeroTime.{runOf}
 use Rattle.protocol.specs.Instant.{there, missing, Entry, Moment, ask, readLinks, whole, work, come, carried, mem, Sorted, Order, find, AllThere}
 use Rattle.protocol.proofs.ClosedForm.{seen, Known, result, told, entry, closed-reads, closed-work, closed}
-
--- anything and no is no
-and-no : (a : Bool) → a && false ≡ false
-and-no true = refl
-and-no false = refl
 
 -- the first of a list is in it
 mem-here : (t : ℕ) (ts : List ℕ) → mem t (t ∷ ts) ≡ true
@@ -64,7 +59,7 @@ module _ {Val : Type 0} (s : Moment Val) (m t : ℕ) (ts : List ℕ) (M : Mid m 
 
 module _ {Val : Type 0} (T : Table Val) (out : ℕ → ℕ → Val) where
   -- the outputs produced so far are those of the runs so far, and the default
-  abbrev pub Made : Moment Val → Type 0
+  abbrev Made : Moment Val → Type 0
   Made s = (w k : ℕ) → s .made w k ≡ cond (leb k (s .runs w)) (there (result T out w k)) missing
 
   -- the run that link l asks for has been
@@ -72,7 +67,7 @@ module _ {Val : Type 0} (T : Table Val) (out : ℕ → ℕ → Val) where
   Ready s l = runOf (T .delayed l) (s .arrived (T .writer l)) ≤ s .runs (T .writer l)
 
   -- what a link asks for is there
-  ask-there : (s : Moment Val) (l : ℕ) → Made s → Ready s l → ask T out s l ≡ there (result T out (T .writer l) (runOf (T .delayed l) (s .arrived (T .writer l))))
+  ask-there : (s : Moment Val) (l : ℕ) → Made s → Ready s l → ask T s l ≡ there (result T out (T .writer l) (runOf (T .delayed l) (s .arrived (T .writer l))))
   unfolding ask
   ask-there s l D q = D (T .writer l) (runOf (T .delayed l) (s .arrived (T .writer l))) ∙ rw (le-leb (runOf (T .delayed l) (s .arrived (T .writer l))) (s .runs (T .writer l)) q)
 
@@ -101,13 +96,13 @@ module _ {Val : Type 0} (T : Table Val) (out : ℕ → ℕ → Val) where
   -- a task that runs reads what the closed form says
   reads-closed : (ms : List ℕ) (es : List (Entry Val)) (s : Moment Val) (t : ℕ) → Made s → s .log ≡ es → ((u : ℕ) → s .arrived u ≡ seen ms u)
       → suc (s .runs t) ≡ seen ms t → ((l : ℕ) → l < T .links → T .reader l ≡ t → Ready s l) → (n : ℕ) → n ≤ T .links
-      → readLinks T out s t n ≡ closed-reads T out ms t n es
+      → readLinks T s t n ≡ closed-reads T out ms t n es
   unfolding readLinks closed-reads
   reads-closed ms es s t D g a j p zero q = g
   reads-closed ms es s t D g a j p (suc l) q = go (eqb (T .reader l) t) refl (reads-closed ms es s t D g a j p l (omega arith))
     where
-      go : (b : Bool) → eqb (T .reader l) t ≡ b → readLinks T out s t l ≡ closed-reads T out ms t l es
-          → cond b (record { task = t; job = suc (s .runs t); link = l; given = ask T out s l } ∷ readLinks T out s t l) (readLinks T out s t l)
+      go : (b : Bool) → eqb (T .reader l) t ≡ b → readLinks T s t l ≡ closed-reads T out ms t l es
+          → cond b (record { job = suc (s .runs t); link = l; given = ask T s l } ∷ readLinks T s t l) (readLinks T s t l)
           ≡ cond b (entry T out ms t l ∷ closed-reads T out ms t l es) (closed-reads T out ms t l es)
       go true e i = rw (ask-there s l D (p l (omega arith) (eqb-true (T .reader l) t e)), j, a (T .writer l), i)
       go false e i = i
@@ -136,14 +131,14 @@ module _ {Val : Type 0} (T : Table Val) (out : ℕ → ℕ → Val) where
         go : (b : Bool) → T .delayed l ≡ b → runOf b (s .arrived (T .writer l)) ≤ s .runs (T .writer l)
         go true d = rw (M (T .writer l)) (pred-tick (has m (T .writer l) && mem (T .writer l) (t ∷ ts)) (s .runs (T .writer l)))
         go false d =
-            let e : s .arrived (T .writer l) ≡ s .runs (T .writer l) = rw (direct-done t ts first l q r d (mem (T .writer l) (t ∷ ts)) refl, and-no (has m (T .writer l))) at (M (T .writer l)) in
+            let e : s .arrived (T .writer l) ≡ s .runs (T .writer l) = rw (direct-done t ts first l q r d (mem (T .writer l) (t ∷ ts)) refl, and-false (has m (T .writer l))) at (M (T .writer l)) in
             omega arith
 
     -- the tasks of a set, one after the other, read what the closed form says
     work-closed : (ms : List ℕ) (m : ℕ) (ts : List ℕ) (es : List (Entry Val)) (s : Moment Val) → Sorted (T .ahead) ts → Mid m ts s → Made s → s .log ≡ es
         → ((u : ℕ) → s .arrived u ≡ seen ms u) → Done ms (closed-work T out ms m ts es) (work T out m ts s)
     unfolding work closed-work Sorted mem whole
-    work-closed ms m [] es s S M D g a = record { log = g; arrived = a; runs = λ u. sym (rw (and-no (has m u)) at (M u)) ∙ a u; made = D }
+    work-closed ms m [] es s S M D g a = record { log = g; arrived = a; runs = λ u. sym (rw (and-false (has m u)) at (M u)) ∙ a u; made = D }
     work-closed ms m (t ∷ ts) es s S M D g a = go (has m t) refl (λ es s. work-closed ms m ts es s (S .2))
       where
         go : (b : Bool) → has m t ≡ b
@@ -161,9 +156,9 @@ module _ {Val : Type 0} (T : Table Val) (out : ℕ → ℕ → Val) where
     carried-closed order O [] K = record { log = refl; arrived = λ u. refl; runs = λ u. refl; made = made-fresh }
     carried-closed order O (m ∷ ms) K =
         let D = carried-closed order O ms (K .1) in
-        work-closed (m ∷ ms) m order (closed T out order ms) (come T out m (carried T out order ms)) (O .sorted) (begun D) (D .made) (D .log) (λ u. ap (tick (has m u)) (D .arrived u))
+        work-closed (m ∷ ms) m order (closed T out order ms) (come m (carried T out order ms)) (O .sorted) (begun D) (D .made) (D .log) (λ u. ap (tick (has m u)) (D .arrived u))
       where
-        begun : Done ms (closed T out order ms) (carried T out order ms) → Mid m order (come T out m (carried T out order ms))
+        begun : Done ms (closed T out order ms) (carried T out order ms) → Mid m order (come m (carried T out order ms))
         begun D u = go (has m u) refl
           where
             go : (b : Bool) → has m u ≡ b → tick b (carried T out order ms .arrived u) ≡ tick (b && mem u order) (carried T out order ms .runs u)
@@ -212,7 +207,7 @@ module _ {Val : Type 0} (T : Table Val) (out : ℕ → ℕ → Val) where
   find-reads ms t es l j x (suc k) = go (eqb (T .reader k) t) refl (find-reads ms t es l j x k)
     where
       miss : eqb (T .reader k) t ≡ true → Dec (k ≡ l) → eqb k l && eqb (seen ms t) j ≡ false
-      miss e (yes y) = rw (ne-eqb (seen ms t) j (x (rw y at (eqb-true (T .reader k) t e)))) (and-no (eqb k l))
+      miss e (yes y) = rw (ne-eqb (seen ms t) j (x (rw y at (eqb-true (T .reader k) t e)))) (and-false (eqb k l))
       miss e (no y) = rw (ne-eqb k l y)
 
       go : (b : Bool) → eqb (T .reader k) t ≡ b → find l j (closed-reads T out ms t k es) ≡ find l j es
@@ -232,7 +227,7 @@ module _ {Val : Type 0} (T : Table Val) (out : ℕ → ℕ → Val) where
       go false e = refl
 
   -- the last run of l's reader read by l what the closed form says
-  abbrev pub Read : List ℕ → ℕ → List (Entry Val) → Type 0
+  abbrev Read : List ℕ → ℕ → List (Entry Val) → Type 0
   Read ms l es = find l (seen ms (T .reader l)) es ≡ told T out ms l
 
   -- the reader's own reads hold it

@@ -26,7 +26,7 @@ runOf-le false n = let q : n ≤ n = omega arith in q
 
 module _ {Val : Type 0} where
   -- task t is active, as a statement on numbers
-  abbrev pub Active : List (Event Val) → ℕ → Type 0
+  abbrev Active : List (Event Val) → ℕ → Type 0
   Active h t = finishes h t < arrivals h t
 
   -- each task has finished as often as it arrived, or once less
@@ -34,11 +34,11 @@ module _ {Val : Type 0} where
   Bounded h = (t : ℕ) → (finishes h t ≤ arrivals h t) × (arrivals h t ≤ suc (finishes h t))
 
   -- so it is in every run
-  pub bounded : {T : Table Val} {may : Policy Val} {choice : Choice T} {s : Boxes Val} {h : List (Event Val)} → Run T may choice s h → Bounded h
+  pub bounded : {T : Table Val} {may : Policy Val} {choice : Choice Val} {s : Boxes Val} {h : List (Event Val)} → Run T may choice s h → Bounded h
   bounded {T} {may} {h = h} r t = omega (arith, counted T may h (run-possible T may r) t)
 
   -- a running task has not finished its last run
-  pub unfinished : {T : Table Val} {may : Policy Val} {choice : Choice T} {s : Boxes Val} {h : List (Event Val)} → Run T may choice s h → (t : ℕ) → running h t ≡ true → arrivals h t ≡ suc (finishes h t)
+  pub unfinished : {T : Table Val} {may : Policy Val} {choice : Choice Val} {s : Boxes Val} {h : List (Event Val)} → Run T may choice s h → (t : ℕ) → running h t ≡ true → arrivals h t ≡ suc (finishes h t)
   unfinished {T} {may} {h = h} r t q = omega (arith, ltb-true (finishes h t) (starts h t) q, counted T may h (run-possible T may r) t)
 
 module _ {Val : Type 0} (T : Table Val) where
@@ -52,8 +52,8 @@ module _ {Val : Type 0} (T : Table Val) where
   pub record LinkOk (h : List (Event Val)) (s : Boxes Val) (l : ℕ) : Type 0 where
     -- the run wanted is finished: the pointer has its output
     pub have : wanted T h l ≤ finishes h (T .writer l) → s .cell (T .writer l) (s .pointer l) ≡ ideal T h l
-    -- it is not: the pointer is where it will go, and the reader has to wait for it
-    pub wait : finishes h (T .writer l) < wanted T h l → (behind T l ≡ true) × (s .pointer l ≡ s .newest (T .writer l))
+    -- it is not: the pointer is where it will go
+    pub wait : finishes h (T .writer l) < wanted T h l → s .pointer l ≡ s .newest (T .writer l)
     -- what the writer is about to write at the pointer is the run wanted, or the reader goes first
     pub guard : Active h (T .writer l) → s .pointer l ≡ s .newest (T .writer l)
         → (wanted T h l ≡ arrivals h (T .writer l)) ⊎ ((T .ahead (T .reader l) (T .writer l) ≡ true) × (stamp h (T .reader l) ≤ stamp h (T .writer l)))
@@ -63,13 +63,9 @@ module _ {Val : Type 0} (T : Table Val) where
     pub tasks : (t : ℕ) → TaskOk h s t
     pub links : (l : ℕ) → l < T .links → Active h (T .reader l) → LinkOk h s l
 
-  -- the run wanted had arrived when the reader did
-  pub wanted-seen : (h : List (Event Val)) (l : ℕ) → wanted T h l ≤ arrivals (upTo h (T .reader l)) (T .writer l)
-  wanted-seen h l = runOf-le (T .delayed l) (arrivals (upTo h (T .reader l)) (T .writer l))
-
-  -- so it has arrived
+  -- the run wanted has arrived
   wanted-le : (h : List (Event Val)) (l : ℕ) → wanted T h l ≤ arrivals h (T .writer l)
-  wanted-le h l = omega (arith, wanted-seen h l, arrivals-upTo h (T .reader l) (T .writer l))
+  wanted-le h l = omega (arith, runOf-le (T .delayed l) (arrivals (upTo h (T .reader l)) (T .writer l)), arrivals-upTo h (T .reader l) (T .writer l))
 
   -- at the beginning
   inv-fresh : {s : Boxes Val} → Fresh T s → Inv [] s
@@ -112,14 +108,13 @@ module _ {Val : Type 0} (T : Table Val) where
         go false e = task-out t e k
 
     -- the reader arrives: its pointer is set, after the writers' part
-    link-direct : (l : ℕ) → l < T .links → T .delayed l ≡ false → behind T l ≡ true → has m (T .reader l) ≡ true
-        → TaskOk (arrival m ∷ h) s′ (T .writer l) → LinkOk (arrival m ∷ h) s′ l
-    link-direct l k d b e w =
+    link-direct : (l : ℕ) → l < T .links → T .delayed l ≡ false → has m (T .reader l) ≡ true → TaskOk (arrival m ∷ h) s′ (T .writer l) → LinkOk (arrival m ∷ h) s′ l
+    link-direct l k d e w =
         let u : wanted T (arrival m ∷ h) l ≡ arrivals (arrival m ∷ h) (T .writer l) = rw (d, upTo-in h m (T .reader l) e) in
         let p : s′ .pointer l ≡ s′ .newest (T .writer l) = pointer-direct T A l k e d in
         record {
           have = rw (u, p) (λ q. w .latest (omega (arith, B (T .writer l))));
-          wait = λ q. (b, p);
+          wait = λ q. p;
           guard = λ q n. inl u;
         }
 
@@ -178,7 +173,7 @@ module _ {Val : Type 0} (T : Table Val) where
 
         go : (x : Bool) → has m (T .reader l) ≡ x → (y : Bool) → T .delayed l ≡ y → (z : Bool) → has m (T .writer l) ≡ z → LinkOk (arrival m ∷ h) s′ l
         go true e true d z f = link-delayed l k d e w′
-        go true e false d z f = link-direct l k d (L .direct l k d) e w′
+        go true e false d z f = link-direct l k d e w′
         go false e y d true f = link-writer l k L e f (o (rw (arrivals-out h m (T .reader l) e) at q))
         go false e y d false f = link-neither l e f (o (rw (arrivals-out h m (T .reader l) e) at q))
 
@@ -233,7 +228,7 @@ module _ {Val : Type 0} (T : Table Val) where
       -- it writes elsewhere
       off : s .pointer l ≢ s .newest (T .writer l) → Dec (wanted T h l ≤ finishes h (T .writer l)) → s .cell (T .writer l) (s .pointer l) ≡ due
       off e (yes d) = rw (output-old h (T .default (T .writer l)) (T .writer l) v (wanted T h l) d) (o .have d)
-      off e (no d) = absurd (e (o .wait (omega arith) .1))
+      off e (no d) = absurd (e (o .wait (omega arith)))
 
       go : Dec (s .pointer l ≡ s .newest (T .writer l)) → s′ .cell (T .writer l) (s .pointer l) ≡ due
       go (yes e) = rw (e, cell-new T F) (at (o .guard (omega arith) e))

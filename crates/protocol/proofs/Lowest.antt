@@ -6,12 +6,12 @@ use mathlib.Core.Bool.{Bool, true, false, cond, true≢false}
 use mathlib.Core.List.{List, [], _∷_}
 use Prim.Native.Nat.{ℕ, _+_, _≤_, _<_}
 use native.Mathlib.Omega.{arith}
-use borrow.Author.Tests.{eqb-true, eqb-false, eq-eqb, ne-eqb, leb-true, leb-false}
-use lib.Dec.{eqb, leb}
+use borrow.Author.Tests.{eqb-true, eqb-false, eq-eqb, ne-eqb}
+use lib.Dec.{eqb}
 use Rattle.lists.specs.Lists.{first}
 use Rattle.lists.proofs.Bools.{or-left, or-right, and-left, and-right}
 use Rattle.lists.proofs.Lists.{some-not, some-of-none}
-use Rattle.lists.proofs.Search.{lowest-in-range, lowest-is-free, first-least}
+use Rattle.lists.proofs.Search.{lowest-in-range, lowest-is-free, first-below}
 use Rattle.protocol.specs.Event.{Event, arrival, start, read, finish}
 use Rattle.protocol.specs.Table.{Table, toBehind, behind, N}
 use Rattle.protocol.specs.Schedule.{Policy, Possible, AllPossible, judged}
@@ -24,7 +24,7 @@ use Rattle.protocol.proofs.Schedule.{judged-possible, possible-judged}
 
 module _ {Val : Type 0} (T : Table Val) (s : Boxes Val) (t : ℕ) where
   -- p is taken: the test that the search makes
-  abbrev pub gone : ℕ → Bool
+  abbrev gone : ℕ → Bool
   gone p = taken (T .ahead) (T .writer) (T .reader) (s .pointer) (T .links) t (s .newest t) p
 
   -- link l's pointer holds p, and l is one of t's links to readers behind
@@ -34,7 +34,7 @@ module _ {Val : Type 0} (T : Table Val) (s : Boxes Val) (t : ℕ) where
       rw (eq-eqb (T .writer l) t w, rw w at ours) (eq-eqb (s .pointer l) p (sym e))
 
   -- what the test lets through, within 1 to N + 2, is free
-  pub not-gone-free : (p : ℕ) → 1 ≤ p → p ≤ N T t + 2 → gone p ≡ false → Free T s t p
+  not-gone-free : (p : ℕ) → 1 ≤ p → p ≤ N T t + 2 → gone p ≡ false → Free T s t p
   not-gone-free p low high g = record {
     low = low;
     high = high;
@@ -43,7 +43,7 @@ module _ {Val : Type 0} (T : Table Val) (s : Boxes Val) (t : ℕ) where
   }
 
   -- and what is free it lets through
-  pub free-not-gone : (p : ℕ) → Free T s t p → gone p ≡ false
+  free-not-gone : (p : ℕ) → Free T s t p → gone p ≡ false
   free-not-gone p F = rw (ne-eqb (s .newest t) p (λ e. F .apart (sym e))) (some-of-none _ (T .links) (λ l k. clear l k (holds (T .ahead) (T .writer) (T .reader) (s .pointer) t p l) refl))
     where
       clear : (l : ℕ) → l < T .links → (b : Bool) → holds (T .ahead) (T .writer) (T .reader) (s .pointer) t p l ≡ b → b ≡ false
@@ -58,15 +58,11 @@ module _ {Val : Type 0} (T : Table Val) (s : Boxes Val) (t : ℕ) where
   pub search-lowest : (m : ℕ) → N T t < m → Lowest T s t (first gone m 1)
   search-lowest m few = record {
     free = not-gone-free (first gone m 1) (range .0) (range .1) (lowest-is-free (toBehind (T .ahead) (T .writer) (T .reader) t) (s .pointer) m (T .links) (s .newest t) few);
-    least = λ q F. below q F (leb (first gone m 1) q) refl;
+    least = λ q F. first-below gone m 1 q (F .low) (free-not-gone q F);
   }
     where
       range : (1 ≤ first gone m 1) × (first gone m 1 ≤ N T t + 2)
       range = lowest-in-range (toBehind (T .ahead) (T .writer) (T .reader) t) (s .pointer) m (T .links) (s .newest t) few
-
-      below : (q : ℕ) → Free T s t q → (b : Bool) → leb (first gone m 1) q ≡ b → first gone m 1 ≤ q
-      below q F true e = leb-true _ _ e
-      below q F false e = absurd (true≢false (sym (first-least gone m 1 q (F .low) (leb-false _ _ e)) ∙ free-not-gone q F))
 
   -- a free position always exists, and the lowest lies in 1 to N + 2
   pub lowest-exists : Lowest T s t (lowest T s t)
@@ -74,14 +70,14 @@ module _ {Val : Type 0} (T : Table Val) (s : Boxes Val) (t : ℕ) where
 
 module _ {Val : Type 0} (T : Table Val) where
   -- the function does what the published protocol allows, with the lowest free position
-  pub next-step : (e : Event Val) (s : Boxes Val) → Step T (Lowest T) e s (nextBoxes T e s)
+  next-step : (e : Event Val) (s : Boxes Val) → Step T (Lowest T) e s (nextBoxes T e s)
   unfolding Step
   next-step (arrival m) s = record { previous = λ t. refl; chosen = λ t i. rw i (lowest-exists T s t); kept = λ t i. rw i; pointer = λ l. refl; cell = λ t p. refl }
   next-step (start t) s = refl
   next-step (read l) s = refl
   next-step (finish t v) s = record { newest = λ u. refl; previous = λ u. refl; pointer = λ l. refl; cell = λ u p. refl }
 
-  pub fresh-fresh : Fresh T (freshBoxes T)
+  fresh-fresh : Fresh T (freshBoxes T)
   fresh-fresh = record { newest = λ t. refl; previous = λ t. refl; pointer = λ l. refl; cell = λ t p. refl }
 
   -- so every possible history leads to one of its runs
@@ -92,18 +88,18 @@ module _ {Val : Type 0} (T : Table Val) where
 
 -- the two ways of an answer
 module _ {Val : Type 0} (policy : Table Val → Policy Val) (zero : Val) (T : Table Val) (h : List (Event Val)) (e : Event Val) where
-  abbrev pub answer : Reply Val
+  abbrev answer : Reply Val
   answer = lowestAnswers policy zero .reply T h e
 
-  pub answer-yes : Possible T (policy T) h e → answer ≡ record { refusal = 0; value = valueThen T zero (boxesOf T h) e; boxes = nextBoxes T e (boxesOf T h) }
+  answer-yes : Possible T (policy T) h e → answer ≡ record { refusal = 0; value = valueThen T zero (boxesOf T h) e; boxes = nextBoxes T e (boxesOf T h) }
   unfolding lowestAnswers
   answer-yes p = rw (possible-judged T (policy T) h e p)
 
-  pub answer-no : judged T (policy T) h e ≢ 0 → answer ≡ record { refusal = judged T (policy T) h e; value = zero; boxes = boxesOf T h }
+  answer-no : judged T (policy T) h e ≢ 0 → answer ≡ record { refusal = judged T (policy T) h e; value = zero; boxes = boxesOf T h }
   unfolding lowestAnswers
   answer-no n = let z : eqb (judged T (policy T) h e) 0 ≡ false = ne-eqb _ 0 n in rw z
 
-  pub answer-refusal : answer .refusal ≡ judged T (policy T) h e
+  answer-refusal : answer .refusal ≡ judged T (policy T) h e
   unfolding lowestAnswers
   answer-refusal = go (eqb (judged T (policy T) h e) 0) refl
     where
@@ -113,7 +109,7 @@ module _ {Val : Type 0} (policy : Table Val → Policy Val) (zero : Val) (T : Ta
       go false i = refl
 
 -- the boxes after a possible history are those of the protocol
-pub boxes-after : {Val : Type 0} (policy : Table Val → Policy Val) (zero : Val) (T : Table Val) (h : List (Event Val)) → AllPossible T (policy T) h → boxesAfter (lowestAnswers policy zero) T h ≡ boxesOf T h
+boxes-after : {Val : Type 0} (policy : Table Val → Policy Val) (zero : Val) (T : Table Val) (h : List (Event Val)) → AllPossible T (policy T) h → boxesAfter (lowestAnswers policy zero) T h ≡ boxesOf T h
 unfolding boxesAfter boxesOf AllPossible lowestAnswers
 boxes-after policy zero T [] A = refl
 boxes-after policy zero T (e ∷ h) A = ap (λ (r : Reply _). r .boxes) (answer-yes policy zero T h e (A .0))

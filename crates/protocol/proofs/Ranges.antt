@@ -12,6 +12,7 @@ use Rattle.protocol.specs.Table.{Table, N, behind}
 use Rattle.protocol.specs.History.{arrivals, finishes, active}
 use Rattle.protocol.specs.Schedule.{Policy, Possible}
 use Rattle.protocol.specs.Published.{Boxes, Fresh, Free, Arrived, leaves, Finished, Step, Run, fresh, next}
+use Rattle.protocol.specs.Ranges.{Position, Ranged}
 use Rattle.protocol.proofs.Counts.{arrivals-in, arrivals-out, finishes-same, finishes-other}
 use Rattle.protocol.proofs.Effects.{previous-in, previous-out, pointer-direct, pointer-delayed, pointer-out, pointer-other, pointer-gone}
 use Rattle.protocol.proofs.Invariant.{Bounded, bounded, unfinished}
@@ -22,33 +23,21 @@ cleared-le true p n q = let z : 0 ≤ n = omega arith in z
 cleared-le false p n q = q
 
 module _ {Val : Type 0} (T : Table Val) where
-  -- p is one of task t's positions
-  abbrev pub Position : ℕ → ℕ → Type 0
-  Position t p = (1 ≤ p) × (p ≤ N T t + 2)
-
-  -- the boxes s after the history h are in range
-  pub record Ranged (h : List (Event Val)) (s : Boxes Val) : Type 0 where
-    pub newest : (t : ℕ) → Position t (s .newest t)
-    pub previous : (t : ℕ) → Position t (s .previous t)
-    pub pointer : (l : ℕ) → l < T .links → s .pointer l ≤ N T (T .writer l) + 2
-    pub present : (l : ℕ) → l < T .links → active h (T .reader l) ≡ true → 1 ≤ s .pointer l
-    pub absent : (l : ℕ) → l < T .links → behind T l ≡ true → active h (T .reader l) ≡ false → s .pointer l ≡ 0
-
   -- what it says of link l, by whether the reader is active, and the pointer p
   abbrev Pointed : ℕ → Bool → ℕ → Type 0
   Pointed l a p = (p ≤ N T (T .writer l) + 2) × (a ≡ true → 1 ≤ p) × (behind T l ≡ true → a ≡ false → p ≡ 0)
 
   -- it says that of every link
-  links-of : {h : List (Event Val)} {s : Boxes Val} → Ranged h s → (l : ℕ) → l < T .links → Pointed l (active h (T .reader l)) (s .pointer l)
+  links-of : {h : List (Event Val)} {s : Boxes Val} → Ranged T h s → (l : ℕ) → l < T .links → Pointed l (active h (T .reader l)) (s .pointer l)
   links-of R l k = (R .pointer l k, R .present l k, R .absent l k)
 
   -- and nothing else of links
-  ranged-of : {h : List (Event Val)} {s : Boxes Val} → ((t : ℕ) → Position t (s .newest t)) → ((t : ℕ) → Position t (s .previous t))
-      → ((l : ℕ) → l < T .links → Pointed l (active h (T .reader l)) (s .pointer l)) → Ranged h s
+  ranged-of : {h : List (Event Val)} {s : Boxes Val} → ((t : ℕ) → Position T t (s .newest t)) → ((t : ℕ) → Position T t (s .previous t))
+      → ((l : ℕ) → l < T .links → Pointed l (active h (T .reader l)) (s .pointer l)) → Ranged T h s
   ranged-of n p q = record { newest = n; previous = p; pointer = λ l k. q l k .0; present = λ l k. q l k .1; absent = λ l k. q l k .2 }
 
   -- at the beginning
-  ranged-fresh : {s : Boxes Val} → Fresh T s → Ranged [] s
+  ranged-fresh : {s : Boxes Val} → Fresh T s → Ranged T [] s
   unfolding arrivals finishes
   ranged-fresh f = record {
     newest = λ t. rw (f .newest t) (omega arith);
@@ -59,56 +48,56 @@ module _ {Val : Type 0} (T : Table Val) where
   }
 
   -- an event that leaves the boxes and the active tasks
-  ranged-quiet : {h h′ : List (Event Val)} {s : Boxes Val} → ((t : ℕ) → active h′ t ≡ active h t) → Ranged h s → Ranged h′ s
+  ranged-quiet : {h h′ : List (Event Val)} {s : Boxes Val} → ((t : ℕ) → active h′ t ≡ active h t) → Ranged T h s → Ranged T h′ s
   ranged-quiet e R = ranged-of (R .newest) (R .previous) (λ l k. rw (e (T .reader l)) (links-of R l k))
 
   -- an arrival
   module _ {s s′ : Boxes Val} {m : ℕ} (A : Arrived T (Free T) m s s′) where
     -- newest stays a position
-    newest-arrive : (t : ℕ) → Position t (s .newest t) → Position t (s′ .newest t)
+    newest-arrive : (t : ℕ) → Position T t (s .newest t) → Position T t (s′ .newest t)
     newest-arrive t i = go (has m t) refl
       where
-        go : (b : Bool) → has m t ≡ b → Position t (s′ .newest t)
+        go : (b : Bool) → has m t ≡ b → Position T t (s′ .newest t)
         go true e = (A .chosen t e .low, A .chosen t e .high)
         go false e = rw (A .kept t e) i
 
     -- previous stays a position
-    previous-arrive : (t : ℕ) → Position t (s .newest t) → Position t (s .previous t) → Position t (s′ .previous t)
+    previous-arrive : (t : ℕ) → Position T t (s .newest t) → Position T t (s .previous t) → Position T t (s′ .previous t)
     previous-arrive t n i = go (has m t) refl
       where
-        go : (b : Bool) → has m t ≡ b → Position t (s′ .previous t)
+        go : (b : Bool) → has m t ≡ b → Position T t (s′ .previous t)
         go true e = rw (previous-in T A t e) n
         go false e = rw (previous-out T A t e) i
 
     -- an arriving reader's pointer is a position of the writer
-    pointer-in : (l : ℕ) → l < T .links → has m (T .reader l) ≡ true → Position (T .writer l) (s′ .newest (T .writer l)) → Position (T .writer l) (s′ .previous (T .writer l))
-        → Position (T .writer l) (s′ .pointer l)
+    pointer-in : (l : ℕ) → l < T .links → has m (T .reader l) ≡ true → Position T (T .writer l) (s′ .newest (T .writer l)) → Position T (T .writer l) (s′ .previous (T .writer l))
+        → Position T (T .writer l) (s′ .pointer l)
     pointer-in l k e n i = go (T .delayed l) refl
       where
-        go : (b : Bool) → T .delayed l ≡ b → Position (T .writer l) (s′ .pointer l)
+        go : (b : Bool) → T .delayed l ≡ b → Position T (T .writer l) (s′ .pointer l)
         go true d = rw (pointer-delayed T A l k e d) i
         go false d = rw (pointer-direct T A l k e d) n
 
     -- so an arrival keeps all in range
-    ranged-arrive : {h : List (Event Val)} → Bounded h → Ranged h s → Ranged (arrival m ∷ h) s′
+    ranged-arrive : {h : List (Event Val)} → Bounded h → Ranged T h s → Ranged T (arrival m ∷ h) s′
     unfolding finishes
     ranged-arrive {h} B R = ranged-of newest previous (λ l k. link l k (has m (T .reader l)) refl)
       where
-        newest : (t : ℕ) → Position t (s′ .newest t)
+        newest : (t : ℕ) → Position T t (s′ .newest t)
         newest t = newest-arrive t (R .newest t)
 
-        previous : (t : ℕ) → Position t (s′ .previous t)
+        previous : (t : ℕ) → Position T t (s′ .previous t)
         previous t = previous-arrive t (R .newest t) (R .previous t)
 
         link : (l : ℕ) → l < T .links → (b : Bool) → has m (T .reader l) ≡ b → Pointed l (active (arrival m ∷ h) (T .reader l)) (s′ .pointer l)
         link l k true e =
             let a : active (arrival m ∷ h) (T .reader l) ≡ true = rw (arrivals-in h m (T .reader l) e) (lt-ltb (finishes h (T .reader l)) (suc (arrivals h (T .reader l))) (omega (arith, B (T .reader l)))) in
-            let p : Position (T .writer l) (s′ .pointer l) = pointer-in l k e (newest (T .writer l)) (previous (T .writer l)) in
+            let p : Position T (T .writer l) (s′ .pointer l) = pointer-in l k e (newest (T .writer l)) (previous (T .writer l)) in
             rw a (p .1, λ x. p .0, λ b x. absurd (true≢false x))
         link l k false e = rw (arrivals-out h m (T .reader l) e, pointer-out T A l e) (links-of R l k)
 
   -- a finish of task t, which was active
-  ranged-finish : {h : List (Event Val)} {s s′ : Boxes Val} {t : ℕ} {v : Val} → Finished T t v s s′ → arrivals h t ≡ suc (finishes h t) → Ranged h s → Ranged (finish t v ∷ h) s′
+  ranged-finish : {h : List (Event Val)} {s s′ : Boxes Val} {t : ℕ} {v : Val} → Finished T t v s s′ → arrivals h t ≡ suc (finishes h t) → Ranged T h s → Ranged T (finish t v ∷ h) s′
   unfolding arrivals
   ranged-finish {h} {s} {s′} {t} {v} F c R =
       ranged-of (λ u. rw (F .newest u) (R .newest u)) (λ u. rw (F .previous u) (R .previous u)) (λ l k. link l k (ℕ-discrete (T .reader l) t))
@@ -121,7 +110,7 @@ module _ {Val : Type 0} (T : Table Val) where
 
   module _ (may : Policy Val) where
     -- in range after every run
-    pub ranged : {s : Boxes Val} {h : List (Event Val)} → Run T may (Free T) s h → Ranged h s
+    pub ranged : {s : Boxes Val} {h : List (Event Val)} → Run T may (Free T) s h → Ranged T h s
     unfolding Step Possible arrivals finishes
     ranged (fresh f) = ranged-fresh f
     ranged (next (arrival m) r p A) = ranged-arrive A (bounded r) (ranged r)

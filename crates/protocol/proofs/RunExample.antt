@@ -1,18 +1,17 @@
--- A long example carried out where tasks take no time, and what a wrong order of tasks comes to.
+-- The arrivals of document 01's long example carried out where tasks take no time, and what a wrong order of tasks comes to.
 -- Assumes nothing.
 use mathlib.Core.Path.{_≡_, refl}
+use mathlib.Core.Bool.{cond}
 use mathlib.Core.List.{List, [], _∷_}
 use Prim.Native.Nat.{ℕ, zero, suc, _+_}
 use lib.Dec.{eqb, ltb}
-use Rattle.protocol.specs.Event.{Event, arrival, start, read, finish, has}
+use Rattle.protocol.specs.Event.{has}
 use Rattle.protocol.specs.Table.{Table}
-use Rattle.protocol.specs.History.{arrivals, finishes, upTo, output}
-use Rattle.protocol.specs.ZeroTime.{ideals}
-use Rattle.protocol.specs.Instant.{Given, there, missing, Entry, ask, readLinks, whole, work, come, carried, upward, sets, zeroRun, find, looked, theres}
+use Rattle.protocol.specs.Instant.{Given, there, missing, Entry, ask, readLinks, whole, work, come, carried, upward}
 
--- task 1 writes; task 0, more urgent, reads it delayed; tasks 2 and 3 read it directly
+-- the station of that example: task 1 writes; task 0, more urgent, reads it delayed; tasks 2 and 3 read it directly
 unfoldable pub four : Table ℕ
-four = record { tasks = 4; links = 3; default = λ t. 100; writer = λ l. 1; reader = reader; delayed = λ l. eqb l 0; ahead = ltb }
+four = record { tasks = 4; links = 3; default = λ t. cond (eqb t 1) 100 0; writer = λ l. 1; reader = reader; delayed = λ l. eqb l 0; ahead = ltb }
   where
     reader : ℕ → ℕ
     reader zero = 0
@@ -34,21 +33,3 @@ right-order = refl
 pub wrong-order : givens (carried four (λ t k. 100 + k) (3 ∷ 2 ∷ 1 ∷ 0 ∷ []) (15 ∷ []) .log) ≡ there 100 ∷ missing ∷ missing ∷ []
 unfolding givens four carried work come whole readLinks ask has
 wrong-order = refl
-
--- the same arrivals on a processor, the last event first: task 3 is held up while task 1 runs twice more, and reads its first number nevertheless
-unfoldable pub held : List (Event ℕ)
-held =
-    finish 3 0 ∷ read 2 ∷ start 3 ∷ finish 0 0 ∷ read 0 ∷ start 0 ∷ arrival 9
-    ∷ finish 3 0 ∷ read 2 ∷ finish 1 103 ∷ start 1 ∷ finish 0 0 ∷ read 0 ∷ start 0 ∷ arrival 3
-    ∷ finish 2 0 ∷ read 1 ∷ start 2 ∷ arrival 4 ∷ finish 1 102 ∷ start 1 ∷ finish 0 0 ∷ read 0 ∷ start 0 ∷ arrival 3
-    ∷ start 3 ∷ finish 2 0 ∷ read 1 ∷ start 2 ∷ finish 1 101 ∷ start 1 ∷ finish 0 0 ∷ read 0 ∷ start 0 ∷ arrival 15 ∷ []
-
--- the numbers that it reads in closed form
-pub held-ideals : ideals four held ≡ 103 ∷ 102 ∷ 101 ∷ 102 ∷ 102 ∷ 101 ∷ 101 ∷ 100 ∷ []
-unfolding four held ideals arrivals finishes upTo output has
-held-ideals = refl
-
--- and in the run
-pub held-looked : looked four (zeroRun four (upward 0 4) held) held ≡ theres (103 ∷ 102 ∷ 101 ∷ 102 ∷ 102 ∷ 101 ∷ 101 ∷ 100 ∷ [])
-unfolding four held arrivals finishes output has carried work come whole readLinks ask upward sets find looked theres
-held-looked = refl

@@ -2,21 +2,15 @@
 -- Assumes nothing.
 use mathlib.Core.Path.{_≡_, refl, sym, ap, _∙_}
 use mathlib.Core.Bool.{Bool, true, false}
-use mathlib.Core.List.{List, [], _∷_}
+use mathlib.Core.List.{List}
 use Prim.Native.Nat.{ℕ}
 use native.Mathlib.Nat.{le-antisymm}
 use Rattle.protocol.specs.Event.{Event, arrival, start, read, finish, has}
 use Rattle.protocol.specs.Table.{Table, Lawful}
 use Rattle.protocol.specs.Schedule.{Policy, Possible, AllPossible}
-use Rattle.protocol.specs.Published.{Boxes, Fresh, Free, Lowest, Arrived, Finished, Step}
+use Rattle.protocol.specs.Published.{Boxes, Same, Fresh, Free, Lowest, Arrived, Finished, number, Step, Run, fresh, next}
 use Rattle.protocol.specs.Demand.{Answers, ReadsNothing, boxesAfter, Demand1, Demand2}
-
--- boxes that nobody can tell apart
-pub record Same {Val : Type 0} (s r : Boxes Val) : Type 0 where
-  pub newest : (t : ℕ) → s .newest t ≡ r .newest t
-  pub previous : (t : ℕ) → s .previous t ≡ r .previous t
-  pub pointer : (l : ℕ) → s .pointer l ≡ r .pointer l
-  pub cell : (t p : ℕ) → s .cell t p ≡ r .cell t p
+use Rattle.protocol.proofs.Demands.{answers-run}
 
 module _ {Val : Type 0} (T : Table Val) where
   fresh-same : {s r : Boxes Val} → Fresh T s → Fresh T r → Same s r
@@ -33,6 +27,10 @@ module _ {Val : Type 0} (T : Table Val) where
 
     free-back : {t p : ℕ} → Free T r t p → Free T s t p
     free-back {t} F = record { low = F .low; high = F .high; apart = λ e. F .apart (e ∙ S .newest t); unused = λ l k w b e. F .unused l k w b (e ∙ S .pointer l) }
+
+    -- each link reads the same number
+    pub number-same : (l : ℕ) → number T s l ≡ number T r l
+    number-same l = S .cell (T .writer l) (s .pointer l) ∙ ap (r .cell (T .writer l)) (S .pointer l)
 
     -- there is one lowest free position
     lowest-same : {t p q : ℕ} → Lowest T s t p → Lowest T r t q → p ≡ q
@@ -65,25 +63,27 @@ module _ {Val : Type 0} (T : Table Val) where
         cell = λ u p. F .cell u p ∙ rw (S .newest t, S .cell u p) (sym (G .cell u p));
       }
 
-      step-same : (e : Event Val) → Step T (Lowest T) e s s′ → Step T (Lowest T) e r r′ → Same s′ r′
+      -- one event more
+      pub step-same : (e : Event Val) → Step T (Lowest T) e s s′ → Step T (Lowest T) e r r′ → Same s′ r′
       unfolding Step
       step-same (arrival m) A B = arrived-same A B
       step-same (start t) A B = rw (A, B) S
       step-same (read l) A B = rw (A, B) S
       step-same (finish t v) A B = finished-same A B
 
+  -- two runs over one history end in the same boxes
+  pub runs-same : {may : Policy Val} {s r : Boxes Val} {h : List (Event Val)} → Run T may (Lowest T) s h → Run T may (Lowest T) r h → Same s r
+  runs-same (fresh f) (fresh g) = fresh-same f g
+  runs-same (next e a p x) (next _ b q y) = step-same (runs-same a b) e x y
+
 module _ {Val : Type 0} (policy : Table Val → Policy Val) (A B : Answers Val) (DA : Demand2 A policy) (DB : Demand2 B policy) (T : Table Val) (L : Lawful T) where
   -- the same boxes after every history
   pub same-boxes : (h : List (Event Val)) → AllPossible T (policy T) h → Same (boxesAfter A T h) (boxesAfter B T h)
-  unfolding boxesAfter AllPossible
-  same-boxes [] P = fresh-same T (DA .fresh T L) (DB .fresh T L)
-  same-boxes (e ∷ h) P = step-same T (same-boxes h (P .1)) e (DA .step T L h (P .1) e (P .0)) (DB .step T L h (P .1) e (P .0))
+  same-boxes h P = runs-same T (answers-run policy A DA T L h P) (answers-run policy B DB T L h P)
 
   -- the same number at every read
   pub same-number : (h : List (Event Val)) → AllPossible T (policy T) h → (l : ℕ) → Possible T (policy T) h (read l) → A .reply T h (read l) .value ≡ B .reply T h (read l) .value
-  same-number h P l p =
-      let S = same-boxes h P in
-      DA .number T L h P l p ∙ S .cell (T .writer l) (boxesAfter A T h .pointer l) ∙ ap (boxesAfter B T h .cell (T .writer l)) (S .pointer l) ∙ sym (DB .number T L h P l p)
+  same-number h P l p = DA .number T L h P l p ∙ number-same T (same-boxes h P) l ∙ sym (DB .number T L h P l p)
 
   -- the same refusal to every event
   pub same-refusal : {zero : Val} → Demand1 A policy zero → Demand1 B policy zero → (h : List (Event Val)) → AllPossible T (policy T) h → (e : Event Val)

@@ -4,19 +4,19 @@
 use mathlib.Core.Path.{_≡_, refl, ap, sym, _∙_}
 use mathlib.Core.Bool.{Bool, true, false, cond}
 use mathlib.Core.List.{List, [], _∷_}
-use Prim.Native.Nat.{ℕ, zero, suc, pred, _≤_, _<_}
+use Prim.Native.Nat.{ℕ, zero, suc, _≤_, _<_}
 use native.Mathlib.Omega.{arith}
-use native.Mathlib.Decide.{decLe}
-use borrow.Author.Tests.{ltb-true, lt-ltb, ne-eqb}
+use borrow.Author.Tests.{ltb-true, ne-eqb}
 use lib.Dec.{eqb}
 use Rattle.protocol.specs.Event.{Event, arrival, start, read, finish, has}
 use Rattle.protocol.specs.Table.{Table, Lawful}
-use Rattle.protocol.specs.History.{tick, arrivals, starts, finishes, upTo, output}
+use Rattle.protocol.specs.History.{tick, Goes, same, more, arrivals, starts, finishes, upTo, output}
 use Rattle.protocol.specs.Schedule.{Policy, Fair, Possible, AllPossible}
-use Rattle.protocol.specs.ZeroTime.{runOf, wanted, ideal, ideals}
+use Rattle.protocol.specs.ZeroTime.{wanted, ideal, ideals}
 use Rattle.protocol.specs.Instant.{Given, there, missing, Order, sets, zeroRun, find, looked, AllThere, theres}
-use Rattle.protocol.proofs.Counts.{arrivals-out, upTo-in, upTo-out, arrivals-upTo, stamp-seen}
+use Rattle.protocol.proofs.Counts.{arrivals-out, upTo-in, upTo-out}
 use Rattle.protocol.proofs.Schedule.{has-below, counted}
+use Rattle.protocol.proofs.Theorem.{finished-then}
 use Rattle.protocol.proofs.ClosedForm.{seen, Known, result, closed}
 use Rattle.protocol.proofs.Instant.{carried-closed, always-there, find-new, find-old}
 
@@ -44,11 +44,6 @@ tick-le : (b : Bool) (n : ℕ) → n ≤ tick b n
 tick-le true n = let q : n ≤ suc n = omega arith in q
 tick-le false n = let q : n ≤ n = omega arith in q
 
--- a history and one that goes on from it
-pub data Goes {Val : Type 0} : List (Event Val) → List (Event Val) → Type 0 where
-  same : {h : List (Event Val)} → Goes h h
-  more : {h H : List (Event Val)} (e : Event Val) → Goes h H → Goes h (e ∷ H)
-
 module _ {Val : Type 0} where
   -- what goes on from an event goes on from before it
   onward : {h H : List (Event Val)} (e : Event Val) → Goes (e ∷ h) H → Goes h H
@@ -64,31 +59,26 @@ module _ {Val : Type 0} where
   arrivals-seen (read l ∷ h) t = arrivals-seen h t
   arrivals-seen (finish u v ∷ h) t = arrivals-seen h t
 
-  -- arrivals never fall
-  arrivals-one : (e : Event Val) (h : List (Event Val)) (t : ℕ) → arrivals h t ≤ arrivals (e ∷ h) t
+  -- no event lowers a task's arrivals
+  arrivals-one : (t : ℕ) (e : Event Val) (h : List (Event Val)) → arrivals h t ≤ arrivals (e ∷ h) t
   unfolding arrivals
-  arrivals-one (arrival m) h t = tick-le (has m t) (arrivals h t)
-  arrivals-one (start u) h t = omega arith
-  arrivals-one (read k) h t = omega arith
-  arrivals-one (finish u v) h t = omega arith
+  arrivals-one t (arrival m) h = tick-le (has m t) (arrivals h t)
+  arrivals-one t (start u) h = omega arith
+  arrivals-one t (read k) h = omega arith
+  arrivals-one t (finish u v) h = omega arith
 
-  -- over many events
-  arrivals-more : {h H : List (Event Val)} (t : ℕ) → Goes h H → arrivals h t ≤ arrivals H t
-  arrivals-more t same = omega arith
-  arrivals-more t (more {H = H} e g) = omega (arith, arrivals-more t g, arrivals-one e H t)
-
-  -- finishes never fall
-  finishes-one : (e : Event Val) (h : List (Event Val)) (w : ℕ) → finishes h w ≤ finishes (e ∷ h) w
+  -- nor its finishes
+  finishes-one : (w : ℕ) (e : Event Val) (h : List (Event Val)) → finishes h w ≤ finishes (e ∷ h) w
   unfolding finishes
-  finishes-one (arrival m) h w = omega arith
-  finishes-one (start u) h w = omega arith
-  finishes-one (read l) h w = omega arith
-  finishes-one (finish u v) h w = tick-le (eqb u w) (finishes h w)
+  finishes-one w (arrival m) h = omega arith
+  finishes-one w (start u) h = omega arith
+  finishes-one w (read l) h = omega arith
+  finishes-one w (finish u v) h = tick-le (eqb u w) (finishes h w)
 
-  -- over many events
-  finishes-more : {h H : List (Event Val)} (w : ℕ) → Goes h H → finishes h w ≤ finishes H w
-  finishes-more w same = omega arith
-  finishes-more w (more {H = H} e g) = omega (arith, finishes-more w g, finishes-one e H w)
+  -- a count that no event lowers is lowered by none of many
+  never-falls : (f : List (Event Val) → ℕ) → ((e : Event Val) (h : List (Event Val)) → f h ≤ f (e ∷ h)) → {h H : List (Event Val)} → Goes h H → f h ≤ f H
+  never-falls f one same = omega arith
+  never-falls f one (more {H = H} e g) = omega (arith, never-falls f one g, one e H)
 
   -- what was finished stays
   output-one : (e : Event Val) (d : Val) (h : List (Event Val)) (w k : ℕ) → k ≤ finishes h w → output d (e ∷ h) w k ≡ output d h w k
@@ -101,7 +91,7 @@ module _ {Val : Type 0} where
   -- over many events
   output-more : {h H : List (Event Val)} (d : Val) (w k : ℕ) → k ≤ finishes h w → Goes h H → output d H w k ≡ output d h w k
   output-more d w k q same = refl
-  output-more d w k q (more {H = H} e g) = output-one e d H w k (omega (arith, finishes-more w g)) ∙ output-more d w k q g
+  output-more d w k q (more {H = H} e g) = output-one e d H w k (omega (arith, never-falls (λ h. finishes h w) (finishes-one w) g)) ∙ output-more d w k q g
 
   -- number 0 is the default
   output-zero : (d : Val) (h : List (Event Val)) (w : ℕ) → output d h w 0 ≡ d
@@ -143,7 +133,7 @@ module _ {Val : Type 0} (T : Table Val) where
     find-more : {h H : List (Event Val)} (l : ℕ) → Goes h H
         → find l (arrivals h (T .reader l)) (closed T out order (sets H)) ≡ find l (arrivals h (T .reader l)) (closed T out order (sets h))
     find-more l same = refl
-    find-more {h} l (more {H = H} e g) = find-one e H l (arrivals h (T .reader l)) (arrivals-more (T .reader l) g) ∙ find-more l g
+    find-more {h} l (more {H = H} e g) = find-one e H l (arrivals h (T .reader l)) (never-falls (λ h. arrivals h (T .reader l)) (arrivals-one (T .reader l)) g) ∙ find-more l g
 
     -- what the reader's last run reads by link l, for any outputs
     abbrev Last : List (Event Val) → ℕ → Type 0
@@ -167,21 +157,6 @@ module _ {Val : Type 0} (T : Table Val) where
     last-read O (finish u v ∷ h) l K q a = last-read O h l K q a
 
 module _ {Val : Type 0} (T : Table Val) (may : Policy Val) (L : Lawful T) (F : Fair T may) (order : List ℕ) (O : Order T order) where
-  -- what a link is to read is finished, when the reader may run
-  pub finished-then : (h : List (Event Val)) (l : ℕ) → AllPossible T may h → l < T .links → may h (T .reader l) ≡ true → wanted T h l ≤ finishes h (T .writer l)
-  finished-then h l P q turn = go (T .delayed l) refl (decLe seenThen (finishes h (T .writer l))) (arrivals-upTo h (T .reader l) (T .writer l)) (counted T may h P (T .writer l) .2)
-    where
-      seenThen : ℕ
-      seenThen = arrivals (upTo h (T .reader l)) (T .writer l)
-
-      go : (b : Bool) → T .delayed l ≡ b → Dec (seenThen ≤ finishes h (T .writer l)) → seenThen ≤ arrivals h (T .writer l) → arrivals h (T .writer l) ≤ suc (finishes h (T .writer l))
-          → runOf b seenThen ≤ finishes h (T .writer l)
-      go true d x i j = let p : pred seenThen ≤ finishes h (T .writer l) = omega arith in p
-      go false d (yes x) i j = x
-      go false d (no x) i j =
-          absurd (F h (T .reader l) turn (T .writer l) (L .writer l q) (L .direct l q d) (lt-ltb (finishes h (T .writer l)) (arrivals h (T .writer l)) (omega arith))
-          (stamp-seen h (T .reader l) (T .writer l) (omega arith)))
-
   -- a read reads `ideal`, in the run of all that happened by any later time
   read-ideal : {H : List (Event Val)} (h : List (Event Val)) (l : ℕ) → AllPossible T may (read l ∷ h) → Goes h H → AllPossible T may H
       → find l (arrivals h (T .reader l)) (zeroRun T order H) ≡ there (ideal T h l)
@@ -192,7 +167,7 @@ module _ {Val : Type 0} (T : Table Val) (may : Policy Val) (L : Lawful T) (F : F
       rw (carried-closed T (outputs T H) L order O (sets H) (sets-known T may H Q) .log)
       (find-more T (outputs T H) order l g ∙ last-read T (outputs T H) order O h l (sets-known T may h (P .1)) q arrived
       ∙ ap there (result-output T H (T .writer l) (wanted T h l)
-      ∙ output-more (T .default (T .writer l)) (T .writer l) (wanted T h l) (finished-then h l (P .1) q turn) g))
+      ∙ output-more (T .default (T .writer l)) (T .writer l) (wanted T h l) (finished-then T may L F h l (P .1) q turn) g))
 
   -- the reads of a part of the history, in the run of all of it
   ideals-part : {H : List (Event Val)} (h : List (Event Val)) → AllPossible T may h → Goes h H → AllPossible T may H → theres (ideals T h) ≡ looked T (zeroRun T order H) h

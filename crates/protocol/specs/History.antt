@@ -1,6 +1,6 @@
 -- A history is the list of accepted events, the last one first. What it says by itself: counts, who is active, outputs.
 -- Assumes nothing.
-use mathlib.Core.Bool.{Bool, true, false, cond}
+use mathlib.Core.Bool.{Bool, cond}
 use mathlib.Core.List.{List, [], _∷_}
 use Prim.Native.Nat.{ℕ, suc}
 use lib.Dec.{eqb, ltb}
@@ -10,8 +10,7 @@ use Rattle.protocol.specs.Table.{Table}
 
 -- one more if the test passes
 abbrev pub tick : Bool → ℕ → ℕ
-tick true n = suc n
-tick false n = n
+tick b n = cond b (suc n) n
 
 -- the four counts that an answer carries: arrivals task by task, starts, reads, finishes
 pub record Counts : Type 0 where
@@ -19,6 +18,11 @@ pub record Counts : Type 0 where
   pub starts : ℕ
   pub reads : ℕ
   pub finishes : ℕ
+
+-- a history and one that goes on from it
+pub data Goes {Val : Type 0} : List (Event Val) → List (Event Val) → Type 0 where
+  same : {h : List (Event Val)} → Goes h h
+  more : {h H : List (Event Val)} (e : Event Val) → Goes h H → Goes h (e ∷ H)
 
 module _ {Val : Type 0} where
   -- how often task t arrived

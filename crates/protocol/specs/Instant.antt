@@ -15,9 +15,8 @@ pub data Given (Val : Type 0) : Type 0 where
   there : Val → Given Val
   missing : Given Val
 
--- one read: by link `link`, in run number `job` of task `task`
+-- one read: by link `link`, in run number `job` of its reader
 pub record Entry (Val : Type 0) : Type 0 where
-  pub task : ℕ
   pub job : ℕ
   pub link : ℕ
   pub given : Given Val
@@ -29,8 +28,11 @@ pub record Moment (Val : Type 0) : Type 0 where
   pub made : ℕ → ℕ → Given Val
   pub log : List (Entry Val)
 
--- `out w k`: what run number k of task w gives
-module _ {Val : Type 0} (T : Table Val) (out : ℕ → ℕ → Val) where
+-- the tasks of the set m arrive, all at once
+unfoldable pub come : {Val : Type 0} → ℕ → Moment Val → Moment Val
+come m s = record { arrived = λ t. tick (has m t) (s .arrived t); runs = s .runs; made = s .made; log = s .log }
+
+module _ {Val : Type 0} (T : Table Val) where
   -- what link l gives: of the outputs produced so far, that of its writer's last run, or of the one before it
   unfoldable pub ask : Moment Val → ℕ → Given Val
   ask s l = s .made (T .writer l) (runOf (T .delayed l) (s .arrived (T .writer l)))
@@ -39,25 +41,23 @@ module _ {Val : Type 0} (T : Table Val) (out : ℕ → ℕ → Val) where
   unfoldable pub readLinks : Moment Val → ℕ → ℕ → List (Entry Val)
   readLinks s t zero = s .log
   readLinks s t (suc l) =
-      cond (eqb (T .reader l) t) (record { task = t; job = suc (s .runs t); link = l; given = ask s l } ∷ readLinks s t l) (readLinks s t l)
+      cond (eqb (T .reader l) t) (record { job = suc (s .runs t); link = l; given = ask s l } ∷ readLinks s t l) (readLinks s t l)
 
+-- `out w k`: what run number k of task w gives
+module _ {Val : Type 0} (T : Table Val) (out : ℕ → ℕ → Val) where
   -- task t runs whole: it reads its links, then its output is there
   unfoldable pub whole : ℕ → Moment Val → Moment Val
   whole t s = record {
     arrived = s .arrived;
     runs = λ u. tick (eqb t u) (s .runs u);
     made = λ u k. cond (eqb t u && eqb k (suc (s .runs u))) (there (out u k)) (s .made u k);
-    log = readLinks s t (T .links);
+    log = readLinks T s t (T .links);
   }
 
   -- of the tasks listed, those of the set m run, one after the other
   unfoldable pub work : ℕ → List ℕ → Moment Val → Moment Val
   work m [] s = s
   work m (t ∷ ts) s = work m ts (cond (has m t) (whole t s) s)
-
-  -- the tasks of the set m arrive, all at once
-  unfoldable pub come : ℕ → Moment Val → Moment Val
-  come m s = record { arrived = λ t. tick (has m t) (s .arrived t); runs = s .runs; made = s .made; log = s .log }
 
   -- the arrival sets, the last one first; `order`: the tasks, most urgent first. At the beginning there are the defaults only
   unfoldable pub carried : List ℕ → List ℕ → Moment Val
@@ -114,6 +114,7 @@ unfoldable pub AllThere : {Val : Type 0} → List (Entry Val) → Type 0
 AllThere [] = Unit {0}
 AllThere (e ∷ es) = (e .given ≡ missing → ⊥) × AllThere es
 
+-- each number, as an output that was there
 unfoldable pub theres : {Val : Type 0} → List Val → List (Given Val)
 theres [] = []
 theres (v ∷ vs) = there v ∷ theres vs

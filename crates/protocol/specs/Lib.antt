@@ -5,6 +5,7 @@ pub mod History
 pub mod Schedule
 pub mod ZeroTime
 pub mod Published
+pub mod Ranges
 pub mod Free
 pub mod Lowest
 pub mod Instant

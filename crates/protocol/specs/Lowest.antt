@@ -16,13 +16,15 @@ module _ {Val : Type 0} (T : Table Val) where
   abbrev pub lowest : Boxes Val → ℕ → ℕ
   lowest s t = lowestOf (T .ahead) (T .writer) (T .reader) (s .pointer) (N T t + 1) (T .links) t (s .newest t)
 
+  -- fresh boxes, as the published protocol has them
   abbrev pub freshBoxes : Boxes Val
   freshBoxes = record { newest = λ t. 1; previous = λ t. 1; pointer = λ l. 0; cell = λ t p. T .default t }
 
-  -- the writers' part of an arrival
+  -- the writers' part of an arrival: newest becomes the lowest free position
   abbrev pub newestThen : ℕ → Boxes Val → ℕ → ℕ
   newestThen m s t = cond (has m t) (lowest s t) (s .newest t)
 
+  -- and previous becomes newest
   abbrev pub previousThen : ℕ → Boxes Val → ℕ → ℕ
   previousThen m s t = cond (has m t) (s .newest t) (s .previous t)
 
@@ -43,6 +45,7 @@ module _ {Val : Type 0} (T : Table Val) where
     cell = λ u p. cond (eqb u t && eqb p (s .newest t)) v (s .cell u p);
   }
 
+  -- the boxes after a history, each event having been accepted
   unfoldable pub boxesOf : List (Event Val) → Boxes Val
   boxesOf [] = freshBoxes
   boxesOf (e ∷ h) = nextBoxes e (boxesOf h)

@@ -17,6 +17,17 @@ pub record Boxes (Val : Type 0) : Type 0 where
   pub pointer : ℕ → ℕ
   pub cell : ℕ → ℕ → Val
 
+-- boxes that nobody can tell apart
+pub record Same {Val : Type 0} (s r : Boxes Val) : Type 0 where
+  pub newest : (t : ℕ) → s .newest t ≡ r .newest t
+  pub previous : (t : ℕ) → s .previous t ≡ r .previous t
+  pub pointer : (l : ℕ) → s .pointer l ≡ r .pointer l
+  pub cell : (t p : ℕ) → s .cell t p ≡ r .cell t p
+
+-- which positions an arriving task may take, by the boxes and the task
+abbrev pub Choice : Type 0 → Type 1
+Choice Val = Boxes Val → ℕ → ℕ → Type 0
+
 module _ {Val : Type 0} (T : Table Val) where
   -- newest and previous at 1, every position holding the task's default, every pointer absent
   pub record Fresh (s : Boxes Val) : Type 0 where
@@ -37,9 +48,9 @@ module _ {Val : Type 0} (T : Table Val) where
     pub free : Free s t p
     pub least : (q : ℕ) → Free s t q → p ≤ q
 
-  -- which positions an arriving task may take
-  abbrev pub Choice : Type 1
-  Choice = Boxes Val → ℕ → ℕ → Type 0
+  -- a choice of free positions only
+  abbrev pub OnlyFree : Choice Val → Type 0
+  OnlyFree choice = (s : Boxes Val) (t p : ℕ) → choice s t p → Free s t p
 
   -- link l's reader is in the set m
   abbrev pub comes : ℕ → ℕ → Bool
@@ -47,7 +58,7 @@ module _ {Val : Type 0} (T : Table Val) where
 
   -- arrival of the set m: first, for every task in it, previous becomes newest and newest a position of the choice;
   -- only then, for every link whose reader is in it, the pointer becomes the writer's newest if direct, previous if delayed
-  pub record Arrived (choice : Choice) (m : ℕ) (s s′ : Boxes Val) : Type 0 where
+  pub record Arrived (choice : Choice Val) (m : ℕ) (s s′ : Boxes Val) : Type 0 where
     pub previous : (t : ℕ) → s′ .previous t ≡ cond (has m t) (s .newest t) (s .previous t)
     pub chosen : (t : ℕ) → has m t ≡ true → choice s t (s′ .newest t)
     pub kept : (t : ℕ) → has m t ≡ false → s′ .newest t ≡ s .newest t
@@ -70,13 +81,21 @@ module _ {Val : Type 0} (T : Table Val) where
   number s l = s .cell (T .writer l) (s .pointer l)
 
   -- what an accepted event makes of the boxes; a start and a read leave them
-  unfoldable pub Step : Choice → Event Val → Boxes Val → Boxes Val → Type 0
+  unfoldable pub Step : Choice Val → Event Val → Boxes Val → Boxes Val → Type 0
   Step choice (arrival m) s s′ = Arrived choice m s s′
   Step choice (start t) s s′ = s′ ≡ s
   Step choice (read l) s s′ = s′ ≡ s
   Step choice (finish t v) s s′ = Finished t v s s′
 
   -- the boxes that a history can lead to, from fresh ones, each event possible in its turn
-  pub data Run (may : Policy Val) (choice : Choice) : Boxes Val → List (Event Val) → Type 0 where
+  pub data Run (may : Policy Val) (choice : Choice Val) : Boxes Val → List (Event Val) → Type 0 where
     fresh : {s : Boxes Val} → Fresh s → Run may choice s []
     next : {s s′ : Boxes Val} {h : List (Event Val)} (e : Event Val) → Run may choice s h → Possible T may h e → Step choice e s s′ → Run may choice s′ (e ∷ h)
+
+  -- the numbers that a run reads, the last one first
+  unfoldable pub numbers : {may : Policy Val} {choice : Choice Val} {s : Boxes Val} {h : List (Event Val)} → Run may choice s h → List Val
+  numbers (fresh f) = []
+  numbers (next (arrival m) r p q) = numbers r
+  numbers (next (start t) r p q) = numbers r
+  numbers (next {s = s} (read l) r p q) = number s l ∷ numbers r
+  numbers (next (finish t v) r p q) = numbers r

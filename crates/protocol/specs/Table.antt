@@ -34,8 +34,8 @@ module _ {Val : Type 0} (T : Table Val) where
   abbrev pub N : ℕ → ℕ
   N t = behinds (T .ahead) (T .writer) (T .reader) t (T .links)
 
-  -- the table rules that demand 3 rests on: links join tasks of the table (4), and a direct one goes to a reader behind (7).
-  -- A link from a task to itself is neither behind nor ahead, hence delayed
+  -- what demand 3 rests on: links join tasks of the table (rule 4), a direct one goes to a reader behind (rule 7), and of a link's two tasks one is
+  -- ahead of the other (`other`: no rule of a table, but what an order of tasks is). A link from a task to itself is neither behind nor ahead, hence delayed
   pub record Lawful : Type 0 where
     pub writer : (l : ℕ) → l < T .links → T .writer l < T .tasks
     pub reader : (l : ℕ) → l < T .links → T .reader l < T .tasks

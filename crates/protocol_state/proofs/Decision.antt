@@ -2,7 +2,7 @@
 -- Assumes nothing.
 use mathlib.Core.Path.{_≡_, refl, sym, ap, _∙_}
 use mathlib.Core.Bool.{Bool, true, false, cond, true≢false}
-use Prim.Native.Nat.{ℕ, _+_, _*_, _/_, _%_, _≤_, _<_}
+use Prim.Native.Nat.{ℕ, _+_, _*_, _/_, _%_, _≤_, _<_, min}
 use native.Mathlib.Omega.{arith}
 use borrow.Author.Tests.{eqb-true, leb-true}
 use lib.Dec.{eqb, leb}
@@ -24,12 +24,12 @@ pub decided-rule : (k p : ℕ) → k < 4 → p < 3 → decided k p ≡ rule k p
 unfolding decided right
 decided-rule k p hk hp =
     let ek : k % 4 ≡ k = omega arith in
-    let ep : p % 3 ≡ p = omega arith in
+    let ep : min p 2 ≡ p = omega arith in
     let dk : (k * 3 + p) / 3 ≡ k = omega arith in
     let dp : (k * 3 + p) % 3 ≡ p = omega arith in
     let e : getD decisions (k * 3 + p) 0 ≡ rule ((k * 3 + p) / 3) ((k * 3 + p) % 3) =
     eqb-true _ _ (every-at right 12 (k * 3 + p) all-right (omega arith)) in
-    ap (λ (i : ℕ). getD decisions (i * 3 + p % 3) 0) ek ∙ ap (λ (i : ℕ). getD decisions (k * 3 + i) 0) ep ∙ e
+    ap (λ (i : ℕ). getD decisions (i * 3 + min p 2) 0) ek ∙ ap (λ (i : ℕ). getD decisions (k * 3 + i) 0) ep ∙ e
     ∙ ap (λ (i : ℕ). rule i ((k * 3 + p) % 3)) dk ∙ ap (rule k) dp
 
 small : every (λ i. leb (getD decisions i 0) 15) 12 ≡ true
@@ -39,7 +39,7 @@ small = refl
 -- no entry is above 15
 pub decided-small : (k p : ℕ) → decided k p ≤ 15
 unfolding decided
-decided-small k p = leb-true _ 15 (every-at (λ i. leb (getD decisions i 0) 15) 12 (k % 4 * 3 + p % 3) small (omega arith))
+decided-small k p = leb-true _ 15 (every-at (λ i. leb (getD decisions i 0) 15) 12 (k % 4 * 3 + min p 2) small (omega arith))
 
 -- an entry that is a phase in phase a only, and allows, stands in phase a
 only-in : (d p a y z : ℕ) → d ≡ cond (eqb p a) y z → allows z ≡ false → allows d ≡ true → (p ≡ a) × (d ≡ y)

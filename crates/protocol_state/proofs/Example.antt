@@ -19,7 +19,7 @@ use Rattle.protocol_state.specs.Fresh.{freshOf}
 use Rattle.protocol_state.specs.Give.{Outcome, settled, begin, after, replay}
 
 -- four tasks with defaults 0, 100, 0, 0; links 1 to 0 delayed, 1 to 2 direct, 1 to 3 direct
-abbrev pub station : Saved
+abbrev station : Saved
 station = freshOf base 4 3 (0 ∷ 100 ∷ 0 ∷ 0 ∷ []) (1 ∷ 1 ∷ 1 ∷ []) (0 ∷ 2 ∷ 3 ∷ []) (1 ∷ 0 ∷ 0 ∷ [])
 
 -- the 35 events, up to just after the first arrival, the second, the third arrival of task 1, and the rest
@@ -47,27 +47,19 @@ three = replay ltb base two third-part
 abbrev all : Outcome
 all = replay ltb base three last-part
 
--- newest of task 1 goes 2, 1, 3
-pub newest-goes : (at (one .state .newest) 1 ≡ 2) × (at (two .state .newest) 1 ≡ 1) × (at (three .state .newest) 1 ≡ 3) × (at (all .state .newest) 1 ≡ 3)
-unfolding upto every some count first leading has fault judgedTable decided judgedArrival judgedTask judgedRead newestAfter previousAfter pointerAfter phaseAfter soundParts freshOf settled after replay
-newest-goes = (refl, refl, refl, refl)
+abbrev newest-of-1 : Outcome → ℕ
+newest-of-1 o = at (o .state .newest) 1
 
 -- the eight numbers, the last one first
-pub numbers-read : all .numbers ≡ 103 ∷ 102 ∷ 101 ∷ 102 ∷ 102 ∷ 101 ∷ 101 ∷ 100 ∷ []
-unfolding upto every some count first leading has fault judgedTable decided judgedArrival judgedTask judgedRead newestAfter previousAfter pointerAfter phaseAfter soundParts freshOf settled after replay
-numbers-read = refl
+abbrev eight : List ℕ
+eight = 103 ∷ 102 ∷ 101 ∷ 102 ∷ 102 ∷ 101 ∷ 101 ∷ 100 ∷ []
 
--- the same in closed form
-pub closed-form : ideals (table ltb station) (all .history) ≡ 103 ∷ 102 ∷ 101 ∷ 102 ∷ 102 ∷ 101 ∷ 101 ∷ 100 ∷ []
-unfolding upto every some count first leading has fault judgedTable decided judgedArrival judgedTask judgedRead newestAfter previousAfter pointerAfter phaseAfter soundParts freshOf settled after replay arrivals finishes upTo output ideals
-closed-form = refl
-
--- and in the run carried out
-pub carried-out : looked (table ltb station) (zeroRun (table ltb station) (upward 0 4) (all .history)) (all .history) ≡ theres (103 ∷ 102 ∷ 101 ∷ 102 ∷ 102 ∷ 101 ∷ 101 ∷ 100 ∷ [])
-unfolding upto every some count first leading has fault judgedTable decided judgedArrival judgedTask judgedRead newestAfter previousAfter pointerAfter phaseAfter soundParts freshOf settled after replay arrivals finishes output ask readLinks whole work come carried upward sets find looked theres
-carried-out = refl
-
--- counts 11, 11, 8, 11
-pub counted : counts (table ltb station) (all .history) ≡ record { arrivals = 11; starts = 11; reads = 8; finishes = 11 }
-unfolding upto every some count first leading sum has fault judgedTable decided judgedArrival judgedTask judgedRead newestAfter previousAfter pointerAfter phaseAfter soundParts freshOf settled after replay arrivals starts reads finishes
-counted = refl
+-- newest of task 1 goes 2, 1, 3; the machine reads the eight numbers, the closed form says them, the run carried out has them; counts 11, 11, 8, 11
+pub long-example :
+    (newest-of-1 one ≡ 2) × (newest-of-1 two ≡ 1) × (newest-of-1 three ≡ 3) × (newest-of-1 all ≡ 3)
+    × (all .numbers ≡ eight)
+    × (ideals (table ltb station) (all .history) ≡ eight)
+    × (looked (table ltb station) (zeroRun (table ltb station) (upward 0 4) (all .history)) (all .history) ≡ theres eight)
+    × (counts (table ltb station) (all .history) ≡ record { arrivals = 11; starts = 11; reads = 8; finishes = 11 })
+unfolding upto every some count first leading sum has fault judgedTable decided judgedArrival judgedTask judgedRead newestAfter previousAfter pointerAfter phaseAfter soundParts freshOf settled after replay arrivals starts reads finishes upTo output ideals ask readLinks whole work come carried upward sets find looked theres
+long-example = (refl, refl, refl, refl, refl, refl, refl, refl)

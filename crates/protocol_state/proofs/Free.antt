@@ -16,7 +16,7 @@ use Rattle.protocol_state.specs.Saved.{Size, Saved, Shape, at, table, bo
 use Rattle.protocol_state.specs.Sound.{behindsOf, Position}
 
 -- within a list it is all one what stands past its end
-pub inside : (xs : List ℕ) (k d : ℕ) → k < length xs → getD xs k d ≡ at xs k
+inside : (xs : List ℕ) (k d : ℕ) → k < length xs → getD xs k d ≡ at xs k
 inside [] k d l = absurd (not-suc-le-zero l)
 inside (x ∷ xs) zero d l = refl
 inside (x ∷ xs) (suc k) d l = inside xs k d (le-of-suc-le-suc l)

@@ -6,9 +6,9 @@ use mathlib.Core.List.{List, []}
 use Prim.Native.Nat.{ℕ, _*_, _/_, _≤_, _<_}
 use native.Mathlib.Omega.{arith}
 use native.Mathlib.Decide.{decLe}
-use borrow.Author.Tests.{eqb-true}
+use borrow.Author.Tests.{eqb-true, eqb-false}
 use lib.Dec.{eqb}
-use lib.ListN.{getD, length, replicate, length-replicate, getD-replicate, List·getD-eq-default}
+use lib.ListN.{length, replicate, length-replicate, List·getD-eq-default}
 use Rattle.lists.proofs.Lists.{upto-at, length-upto}
 use Rattle.protocol.specs.Table.{toBehind}
 use Rattle.protocol.specs.History.{arrivals, starts, finishes}
@@ -17,11 +17,10 @@ use Rattle.protocol_state.specs.Saved.{Size, Shape, at, cellOf, isPositi
 use Rattle.protocol_state.specs.Rules.{joins, faultOf, fault, judgedTable}
 use Rattle.protocol_state.specs.Sound.{isSound, Sound}
 use Rattle.protocol_state.specs.Fresh.{copied, filled, freshOf, single, Made, made}
-use Rattle.protocol_state.proofs.Places.{replicated, zeros, some-same, count-same, leading-same}
+use Rattle.protocol_state.specs.Reached.{Agrees}
+use Rattle.protocol_state.proofs.Places.{replicated, repeated, zeros, between, some-same, count-same, leading-same}
 use Rattle.protocol_state.proofs.Rules as rules
 use Rattle.protocol_state.proofs.Sound.{says-sound}
-use Rattle.protocol_state.proofs.Steps.{position-is}
-use Rattle.protocol_state.proofs.Phases.{Agrees}
 
 -- ---- tables that agree link by link
 same-fault : (ahead : ℕ → ℕ → Bool) (T : ℕ) {w w′ r r′ k k′ n n′ : ℕ} {b b′ : Bool} → w ≡ w′ → r ≡ r′ → k ≡ k′ → b ≡ b′ → n ≡ n′
@@ -38,7 +37,7 @@ module _ (ahead : ℕ → ℕ → Bool) (T L : ℕ) (W W′ R R′ K K′ : ℕ 
       (count-same (toBehind ahead W R (W l)) (toBehind ahead W′ R′ (W′ l)) l (λ j i. rw (sameW j (omega arith), sameR j (omega arith), sameW l h)))
 
   -- so the tables earn one refusal
-  pub judged-same : (size : Size) → judgedTable ahead T W R K size L ≡ judgedTable ahead T W′ R′ K′ size L
+  judged-same : (size : Size) → judgedTable ahead T W R K size L ≡ judgedTable ahead T W′ R′ K′ size L
   unfolding judgedTable
   judged-same size = rw (leading-same (fault ahead T W R K) (fault ahead T W′ R′ K′) L fault-same)
 
@@ -61,12 +60,6 @@ filled-at size D e t p h = go (decLe size t) where
       let d : cellOf t p / 10 ≡ t = omega (arith, h .0, h .1) in
       upto-at (λ i x. at D (i / 10)) (size * 10) (replicate (size * 10) 0) (cellOf t p) 0 (omega (arith, h .0, h .1)) (omega (arith, h .0, h .1, length-replicate {A = ℕ} (size * 10) 0))
       ∙ ap (at D) d
-
-ones : (n k : ℕ) → getD {A = ℕ} (replicate n 1) k 1 ≡ 1
-ones n k = go (decLe n k) where
-  go : Dec (n ≤ k) → getD {A = ℕ} (replicate n 1) k 1 ≡ 1
-  go (yes l) = List·getD-eq-default (replicate {A = ℕ} n 1) 1 (rw (length-replicate {A = ℕ} n 1) l)
-  go (no l) = getD-replicate {A = ℕ} n k 1 1 (omega arith)
 
 module _ (size : Size) (T L : ℕ) (D W R K : List ℕ) where
   -- the fresh state has its shape
@@ -93,40 +86,54 @@ module _ (size : Size) (T L : ℕ) (D W R K : List ℕ) where
   pub fresh-boxes : (ahead : ℕ → ℕ → Bool) → Fresh (table ahead (freshOf size T L D W R K)) (boxes (freshOf size T L D W R K))
   unfolding freshOf
   fresh-boxes ahead = record {
-    newest = ones (size .tasks);
-    previous = ones (size .tasks);
+    newest = repeated (size .tasks) 1;
+    previous = repeated (size .tasks) 1;
     pointer = zeros (size .links);
     cell = λ t p. cell t p (isPosition p) refl;
   }
     where
       cell : (t p : ℕ) (b : Bool) → isPosition p ≡ b → cond b (at (filled (size .tasks) (copied (size .tasks) T D)) (cellOf t p)) (at (copied (size .tasks) T D) t) ≡ at (copied (size .tasks) T D) t
-      cell t p true e = filled-at (size .tasks) (copied (size .tasks) T D) (copied-length (size .tasks) T D) t p (position-is p e)
+      cell t p true e = filled-at (size .tasks) (copied (size .tasks) T D) (copied-length (size .tasks) T D) t p (between 10 p e)
       cell t p false e = refl
 
   module _ (ahead : ℕ → ℕ → Bool) (ok : judgedTable ahead T (at W) (at R) (at K) size L ≡ 0) where
-    counts : (1 ≤ T) × (T ≤ size .tasks) × (L ≤ size .links)
-    counts = rules.counts ahead T (at W) (at R) (at K) size L ok
+    fits : (T ≤ size .tasks) × (L ≤ size .links)
+    fits = rules.room ahead T (at W) (at R) (at K) size L ok
 
     -- the fresh state of a table that earns no refusal is sound
     pub fresh-sound : Sound ahead size (freshOf size T L D W R K)
     unfolding freshOf
     fresh-sound = record {
       rules = judged-same ahead T L (at (copied (size .links) L W)) (at W) (at (copied (size .links) L R)) (at R) (at (copied (size .links) L K)) (at K)
-          (copied-at (size .links) L W (counts .2)) (copied-at (size .links) L R (counts .2)) (copied-at (size .links) L K (counts .2)) size ∙ ok;
+          (copied-at (size .links) L W (fits .1)) (copied-at (size .links) L R (fits .1)) (copied-at (size .links) L K (fits .1)) size ∙ ok;
       phase = λ t l. omega (arith, zeros (size .tasks) t);
-      newest = λ t l. omega (arith, replicated (size .tasks) 1 t (omega (arith, counts .1)));
-      previous = λ t l. omega (arith, replicated (size .tasks) 1 t (omega (arith, counts .1)));
+      newest = λ t l. omega (arith, replicated (size .tasks) 1 t (omega (arith, fits .0)));
+      previous = λ t l. omega (arith, replicated (size .tasks) 1 t (omega (arith, fits .0)));
       pointer = λ l h. omega (arith, zeros (size .links) l);
       present = λ l h n. absurd (n (zeros (size .tasks) (at (copied (size .links) L R) l)));
       absent = λ l h a z. zeros (size .links) l;
     }
 
--- what a table of numbers makes is sound, whether it earns a refusal or not
+-- what a table makes, by whether it earns no refusal
+abbrev makes : (ℕ → ℕ → Bool) → Size → ℕ → ℕ → List ℕ → List ℕ → List ℕ → List ℕ → Bool → Made
+makes ahead size T L D W R K b =
+    cond b (record { refusal = 0; state = freshOf size T L D W R K }) (record { refusal = judgedTable ahead T (at W) (at R) (at K) size L; state = single size })
+
+-- it is sound, whether it earns a refusal or not
 pub made-sound : (ahead : ℕ → ℕ → Bool) (size : Size) → 1 ≤ size .tasks → (T L : ℕ) (D W R K : List ℕ) → isSound ahead size (made ahead size T L D W R K .state) ≡ true
 unfolding made
 made-sound ahead size room T L D W R K = go (eqb (judgedTable ahead T (at W) (at R) (at K) size L) 0) refl where
-  go : (b : Bool) → eqb (judgedTable ahead T (at W) (at R) (at K) size L) 0 ≡ b
-      → isSound ahead size (cond {A = Made} b (record { refusal = 0; state = freshOf size T L D W R K }) (record { refusal = judgedTable ahead T (at W) (at R) (at K) size L; state = single size }) .state) ≡ true
+  go : (b : Bool) → eqb (judgedTable ahead T (at W) (at R) (at K) size L) 0 ≡ b → isSound ahead size (makes ahead size T L D W R K b .state) ≡ true
   go true e = says-sound ahead size (freshOf size T L D W R K) (fresh-sound size T L D W R K ahead (eqb-true _ 0 e))
   go false e = says-sound ahead size (single size) (fresh-sound size 1 0 (replicate 1 0) (replicate 0 0) (replicate 0 0) (replicate 0 0) ahead
       (rules.no-refusal ahead 1 (at (replicate 0 0)) (at (replicate 0 0)) (at (replicate 0 0)) size 0 (omega arith) room (omega arith) (λ l h. absurd (omega arith))))
+
+-- and where it earns none, the table is judged 0 and the state is its fresh one
+pub made-fresh : (ahead : ℕ → ℕ → Bool) (size : Size) (T L : ℕ) (D W R K : List ℕ) → made ahead size T L D W R K .refusal ≡ 0
+    → (judgedTable ahead T (at W) (at R) (at K) size L ≡ 0) × (made ahead size T L D W R K .state ≡ freshOf size T L D W R K)
+unfolding made
+made-fresh ahead size T L D W R K z = go (eqb (judgedTable ahead T (at W) (at R) (at K) size L) 0) refl z where
+  go : (b : Bool) → eqb (judgedTable ahead T (at W) (at R) (at K) size L) 0 ≡ b → makes ahead size T L D W R K b .refusal ≡ 0
+      → (judgedTable ahead T (at W) (at R) (at K) size L ≡ 0) × (makes ahead size T L D W R K b .state ≡ freshOf size T L D W R K)
+  go true e i = (eqb-true _ 0 e, refl)
+  go false e i = absurd (eqb-false _ 0 e i)

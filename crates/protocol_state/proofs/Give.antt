@@ -41,7 +41,7 @@ abbrev pub Ways : Bool → ℕ → Saved → Saved → ℕ → Reply → Type 0
 Ways sound r q q′ v a = ((sound ≡ true) × (r ≡ 0) × (a ≡ reply q′ 0 v)) ⊎ ((a .state ≡ q) × (a .refusal ≢ 0) × (a .value ≡ 0))
 
 -- an answer goes one of them
-pub ways : (sound : Bool) (r : ℕ) (q q′ : Saved) (v : ℕ) → Ways sound r q q′ v (settled sound r q q′ v)
+ways : (sound : Bool) (r : ℕ) (q q′ : Saved) (v : ℕ) → Ways sound r q q′ v (settled sound r q q′ v)
 unfolding settled
 ways false r q q′ v = inr (refl, (λ z. omega arith), refl)
 ways true r q q′ v = go (eqb r 0) refl where
@@ -57,7 +57,7 @@ module _ (ahead : ℕ → ℕ → Bool) where
       (cond-small (allows (decided k (ph t))) (cond-small (preempted ahead t T ph) (omega arith) (omega arith)) (omega (arith, decided-small k (ph t))))
 
   -- no event is judged above 16
-  pub judged-small : (q : Saved) (e : Event ℕ) → judgedOn ahead q e ≤ 16
+  judged-small : (q : Saved) (e : Event ℕ) → judgedOn ahead q e ≤ 16
   unfolding judgedArrival judgedRead
   judged-small q (arrival m) =
       cond-small (eqb m 0 || leb (2 ^ (q .tasks)) m) (omega arith) (cond-small (every (mayArrive m (at (q .phase))) (q .tasks)) (omega arith) (omega arith))
@@ -70,16 +70,28 @@ module _ (ahead : ℕ → ℕ → Bool) where
     pub give-ways : Ways (isSound ahead size q) (judgedOn ahead q e) q (next ahead q e) (valueOf q e) (give ahead size q e)
     give-ways = ways (isSound ahead size q) (judgedOn ahead q e) q (next ahead q e) (valueOf q e)
 
+    -- an unsound state is answered 19
+    pub give-unsound : isSound ahead size q ≡ false → give ahead size q e ≡ reply q 19 0
+    give-unsound = unsound (judgedOn ahead q e) q (next ahead q e) (valueOf q e)
+
+    -- a refusal leaves a sound state and gives 0
+    pub give-refused : isSound ahead size q ≡ true → judgedOn ahead q e ≢ 0 → give ahead size q e ≡ reply q (judgedOn ahead q e) 0
+    give-refused = refused (judgedOn ahead q e) q (next ahead q e) (valueOf q e)
+
+    -- and otherwise the event is done
+    pub give-done : isSound ahead size q ≡ true → judgedOn ahead q e ≡ 0 → give ahead size q e ≡ reply (next ahead q e) 0 (valueOf q e)
+    give-done = done (judgedOn ahead q e) q (next ahead q e) (valueOf q e)
+
     -- the refusal of a sound state
     pub give-refusal : isSound ahead size q ≡ true → give ahead size q e .refusal ≡ judgedOn ahead q e
     give-refusal s = go (eqb (judgedOn ahead q e) 0) refl where
       go : (b : Bool) → eqb (judgedOn ahead q e) 0 ≡ b → give ahead size q e .refusal ≡ judgedOn ahead q e
-      go true i = ap (λ (a : Reply). a .refusal) (done (judgedOn ahead q e) q (next ahead q e) (valueOf q e) s (eqb-true _ 0 i)) ∙ sym (eqb-true _ 0 i)
-      go false i = ap (λ (a : Reply). a .refusal) (refused (judgedOn ahead q e) q (next ahead q e) (valueOf q e) s (eqb-false _ 0 i))
+      go true i = ap (λ (a : Reply). a .refusal) (give-done s (eqb-true _ 0 i)) ∙ sym (eqb-true _ 0 i)
+      go false i = ap (λ (a : Reply). a .refusal) (give-refused s (eqb-false _ 0 i))
 
     -- 19 exactly where the state is not sound
     pub nineteen : (give ahead size q e .refusal ≡ 19 → isSound ahead size q ≡ false) × (isSound ahead size q ≡ false → give ahead size q e ≡ reply q 19 0)
-    nineteen = (go (isSound ahead size q) refl, λ s. unsound (judgedOn ahead q e) q (next ahead q e) (valueOf q e) s) where
+    nineteen = (go (isSound ahead size q) refl, give-unsound) where
       go : (b : Bool) → isSound ahead size q ≡ b → give ahead size q e .refusal ≡ 19 → isSound ahead size q ≡ false
       go false s i = s
       go true s i = absurd (omega (arith, judged-small q e, give-refusal s))

@@ -10,33 +10,24 @@ use borrow.Author.Tests.{ne-eqb}
 use lib.Dec.{eqb}
 use Rattle.protocol.specs.Event.{Event, arrival, start, read, finish}
 use Rattle.protocol.specs.Table.{Table}
-use Rattle.protocol.specs.Schedule.{urgent, Possible, judged}
-use Rattle.protocol.specs.Published.{Lowest, Step, Run, number}
+use Rattle.protocol.specs.Schedule.{urgent, Possible, AllPossible, judged}
+use Rattle.protocol.specs.Published.{Lowest, Step, number, numbers}
 use Rattle.protocol.specs.Published as published
-use Rattle.protocol.proofs.Schedule.{judged-possible}
-use Rattle.protocol.proofs.Theorem.{numbers}
-use Rattle.protocol_state.specs.Saved.{Size, Saved, Shape, at, table, boxes}
+use Rattle.protocol.proofs.Schedule.{judged-possible, run-possible}
+use Rattle.protocol_state.specs.Saved.{Size, Saved, at, table, boxes}
 use Rattle.protocol_state.specs.Rules.{judgedTable}
 use Rattle.protocol_state.specs.Judge.{judgedOn}
 use Rattle.protocol_state.specs.Next.{next, valueOf}
-use Rattle.protocol_state.specs.Sound.{isSound, Sound}
+use Rattle.protocol_state.specs.Sound.{isSound}
 use Rattle.protocol_state.specs.Fresh.{freshOf}
-use Rattle.protocol_state.specs.Give.{Reply, reply, note, Outcome, begin, give, after, replay}
+use Rattle.protocol_state.specs.Give.{reply, note, Outcome, begin, give, after, replay}
+pub use Rattle.protocol_state.specs.Reached.{Reached}
 use Rattle.protocol_state.proofs.Sound.{says-sound}
 use Rattle.protocol_state.proofs.Keeps.{table-same, next-shape, next-sound}
-use Rattle.protocol_state.proofs.Give.{Ways, give-ways, give-refusal, done}
+use Rattle.protocol_state.proofs.Give.{Ways, give-ways, give-refusal}
 use Rattle.protocol_state.proofs.Steps.{step, number-read}
-use Rattle.protocol_state.proofs.Phases.{Agrees, agrees-next, judged-by-history}
+use Rattle.protocol_state.proofs.Phases.{agrees-next, judged-by-history}
 use Rattle.protocol_state.proofs.Freshes as freshes
-
--- what holds of an outcome that the state q₀ came to
-pub record Reached (ahead : ℕ → ℕ → Bool) (size : Size) (q₀ : Saved) (o : Outcome) : Type 0 where
-  pub shape : Shape size (o .state)
-  pub sound : Sound ahead size (o .state)
-  pub same : table ahead (o .state) ≡ table ahead q₀
-  pub agrees : Agrees (o .history) (o .state)
-  pub run : Run (table ahead q₀) (urgent (table ahead q₀)) (Lowest (table ahead q₀)) (boxes (o .state)) (o .history)
-  pub read : o .numbers ≡ numbers (table ahead q₀) (urgent (table ahead q₀)) run
 
 module _ {ahead : ℕ → ℕ → Bool} {size : Size} {q₀ : Saved} {o : Outcome} (r : Reached ahead size q₀ o) where
   -- the state passes the test, so 19 never comes up
@@ -51,24 +42,26 @@ module _ {ahead : ℕ → ℕ → Bool} {size : Size} {q₀ : Saved} {o : Outcom
   pub reached-refusal : (e : Event ℕ) → give ahead size (o .state) e .refusal ≡ judged (table ahead q₀) (urgent (table ahead q₀)) (o .history) e
   reached-refusal e = give-refusal ahead size (o .state) e reached-sound ∙ judged-history e
 
-  value-read : (l : ℕ) → judgedOn ahead (o .state) (read l) ≡ 0 → valueOf (o .state) (read l) ≡ number (table ahead q₀) (boxes (o .state)) l
-  value-read l ok = number-read (o .state) (r .shape) (r .sound) l ok ∙ ap (λ (T : Table ℕ). number T (boxes (o .state)) l) (r .same)
+  -- the accepted events could happen, each in its turn
+  pub reached-possible : AllPossible (table ahead q₀) (urgent (table ahead q₀)) (o .history)
+  reached-possible = run-possible (table ahead q₀) (urgent (table ahead q₀)) (r .run)
 
-  -- the value of a read that is not refused is the number of the published protocol
-  pub reached-number : (l : ℕ) → give ahead size (o .state) (read l) .refusal ≡ 0 → give ahead size (o .state) (read l) .value ≡ number (table ahead q₀) (boxes (o .state)) l
-  reached-number l z =
-      let ok : judgedOn ahead (o .state) (read l) ≡ 0 = sym (give-refusal ahead size (o .state) (read l) reached-sound) ∙ z in
-      ap (λ (a : Reply). a .value) (done (judgedOn ahead (o .state) (read l)) (o .state) (next ahead (o .state) (read l)) (valueOf (o .state) (read l)) reached-sound ok)
-      ∙ value-read l ok
+  -- an allowed event is a step of the published protocol
+  pub reached-step : (e : Event ℕ) → judgedOn ahead (o .state) e ≡ 0 → Step (table ahead q₀) (Lowest (table ahead q₀)) e (boxes (o .state)) (boxes (next ahead (o .state) e))
+  reached-step e ok = subst (λ (T : Table ℕ). Step T (Lowest T) e (boxes (o .state)) (boxes (next ahead (o .state) e))) (r .same) (step (o .state) (r .shape) (r .sound) e ok)
+
+  -- and an allowed read gives its number
+  pub reached-number : (l : ℕ) → judgedOn ahead (o .state) (read l) ≡ 0 → valueOf (o .state) (read l) ≡ number (table ahead q₀) (boxes (o .state)) l
+  reached-number l ok = number-read (o .state) (r .shape) (r .sound) l ok ∙ ap (λ (T : Table ℕ). number T (boxes (o .state)) l) (r .same)
 
   -- the numbers of a run that is one event longer
   noted : (e : Event ℕ) → judgedOn ahead (o .state) e ≡ 0 → (p : Possible (table ahead q₀) (urgent (table ahead q₀)) (o .history) e)
       (t : Step (table ahead q₀) (Lowest (table ahead q₀)) e (boxes (o .state)) (boxes (next ahead (o .state) e)))
-      → note e (valueOf (o .state) e) (o .numbers) ≡ numbers (table ahead q₀) (urgent (table ahead q₀)) (published.next e (r .run) p t)
+      → note e (valueOf (o .state) e) (o .numbers) ≡ numbers (table ahead q₀) (published.next e (r .run) p t)
   unfolding numbers
   noted (arrival m) ok p t = r .read
   noted (start u) ok p t = r .read
-  noted (read l) ok p t = rw (value-read l ok, r .read)
+  noted (read l) ok p t = rw (reached-number l ok, r .read)
   noted (finish u v) ok p t = r .read
 
 after-done : (ahead : ℕ → ℕ → Bool) (size : Size) (o : Outcome) (e : Event ℕ) (q : Saved) (v : ℕ) → give ahead size (o .state) e ≡ reply q 0 v
@@ -91,8 +84,7 @@ reached-after {ahead} {size} {q₀} {o} r e = go (give-ways ahead size (o .state
   go (inl w) =
       let p : Possible (table ahead q₀) (urgent (table ahead q₀)) (o .history) e =
       judged-possible (table ahead q₀) (urgent (table ahead q₀)) (o .history) e (sym (judged-history r e) ∙ w .1) in
-      let t : Step (table ahead q₀) (Lowest (table ahead q₀)) e (boxes (o .state)) (boxes (next ahead (o .state) e)) =
-      subst (λ (T : Table ℕ). Step T (Lowest T) e (boxes (o .state)) (boxes (next ahead (o .state) e))) (r .same) (step (o .state) (r .shape) (r .sound) e (w .1)) in
+      let t = reached-step r e (w .1) in
       rw (after-done ahead size o e (next ahead (o .state) e) (valueOf (o .state) e) (w .2))
       (record {
         shape = next-shape ahead (r .shape) e;
@@ -104,7 +96,7 @@ reached-after {ahead} {size} {q₀} {o} r e = go (give-ways ahead size (o .state
       })
 
 -- any number of events more
-pub reached-replay : {ahead : ℕ → ℕ → Bool} {size : Size} {q₀ : Saved} (es : List (Event ℕ)) {o : Outcome} → Reached ahead size q₀ o → Reached ahead size q₀ (replay ahead size o es)
+reached-replay : {ahead : ℕ → ℕ → Bool} {size : Size} {q₀ : Saved} (es : List (Event ℕ)) {o : Outcome} → Reached ahead size q₀ o → Reached ahead size q₀ (replay ahead size o es)
 unfolding replay
 reached-replay [] r = r
 reached-replay (e ∷ es) r = reached-replay es (reached-after r e)

@@ -79,6 +79,10 @@ module _ {ahead : ℕ → ℕ → Bool} {size : Size} (q : Saved) (G : Sound ahe
   pub counts : (1 ≤ q .tasks) × (q .tasks ≤ size .tasks) × (q .links ≤ size .links)
   counts = rules.counts ahead (q .tasks) (at (q .writer)) (at (q .reader)) (at (q .kind)) size (q .links) (G .rules)
 
+  -- there is room for them
+  pub room : (q .tasks ≤ size .tasks) × (q .links ≤ size .links)
+  room = (counts .1, counts .2)
+
   -- and no task has more than 8 links to readers behind
   pub few : (t : ℕ) → behindsOf ahead q t ≤ 8
   few = rules.few ahead (q .tasks) (at (q .writer)) (at (q .reader)) (at (q .kind)) size (q .links) (G .rules)
@@ -95,20 +99,20 @@ module _ {ahead : ℕ → ℕ → Bool} {size : Size} (q : Saved) (G : Sound ahe
       were-idle t e =
           let k : t < q .tasks = has-below s (q .tasks) t small e in
           let i = arrives-idle (at (q .phase) t) (G .phase t k) (arrival-allowed s (q .tasks) (at (q .phase)) ok .1 t k e) in
-          (i .0, phase-at ahead q S s small (counts .1) t ∙ rw e (i .1))
+          (i .0, phase-at ahead q S s small (room .0) t ∙ rw e (i .1))
 
       -- the others are in the phase that they were in
       pub phase-kept : (t : ℕ) → has s t ≡ false → at (phaseAfter ahead s q) t ≡ at (q .phase) t
-      phase-kept t e = phase-at ahead q S s small (counts .1) t ∙ rw e
+      phase-kept t e = phase-at ahead q S s small (room .0) t ∙ rw e
 
       newest-good : (t : ℕ) → t < q .tasks → Position ahead q t (at (newestAfter ahead s q) t)
-      newest-good t l = rw (newest-at ahead q S s small (counts .1) t 0) (go (has s t)) where
+      newest-good t l = rw (newest-at ahead q S s small (room .0) t 0) (go (has s t)) where
         go : (b : Bool) → Position ahead q t (cond b (lowestAt ahead q t (at (q .newest) t)) (at (q .newest) t))
         go true = lowest-position ahead q t (at (q .newest) t) (few t)
         go false = G .newest t l
 
       previous-good : (t : ℕ) → t < q .tasks → Position ahead q t (at (previousAfter ahead s q) t)
-      previous-good t l = rw (previous-at ahead q S s small (counts .1) t 0) (go (has s t)) where
+      previous-good t l = rw (previous-at ahead q S s small (room .0) t 0) (go (has s t)) where
         go : (b : Bool) → Position ahead q t (cond b (at (q .newest) t) (at (q .previous) t))
         go true = G .newest t l
         go false = G .previous t l
@@ -126,10 +130,10 @@ module _ {ahead : ℕ → ℕ → Bool} {size : Size} (q : Saved) (G : Sound ahe
         go false = newest-good (at (q .writer) l) (obeys l h .writer)
 
       aimed : (l : ℕ) → l < q .links → has s (at (q .reader) l) ≡ true → at (pointerAfter ahead s q) l ≡ aim ahead s q l
-      aimed l h e = pointer-at ahead q S s (counts .2) l ∙ rw (lt-ltb l (q .links) h, e)
+      aimed l h e = pointer-at ahead q S s (room .1) l ∙ rw (lt-ltb l (q .links) h, e)
 
       stays : (l : ℕ) → l < q .links → has s (at (q .reader) l) ≡ false → at (pointerAfter ahead s q) l ≡ at (q .pointer) l
-      stays l h e = pointer-at ahead q S s (counts .2) l ∙ rw (lt-ltb l (q .links) h, e)
+      stays l h e = pointer-at ahead q S s (room .1) l ∙ rw (lt-ltb l (q .links) h, e)
 
       arrived-sound : Sound ahead size (arrived ahead s q)
       arrived-sound = record {
@@ -158,7 +162,7 @@ module _ {ahead : ℕ → ℕ → Bool} {size : Size} (q : Saved) (G : Sound ahe
     -- ---- task t comes to phase y
     module _ (t y : ℕ) (l : t < q .tasks) where
       phase-same : at (set (q .phase) t y) t ≡ y
-      phase-same = getD-set-same (q .phase) t y 0 (omega (arith, S .phase, counts .1))
+      phase-same = getD-set-same (q .phase) t y 0 (omega (arith, S .phase, room .0))
 
       phases-good : y < 3 → (u : ℕ) → u < q .tasks → at (set (q .phase) t y) u < 3
       phases-good h u k = go (ℕ-discrete u t) where
@@ -202,7 +206,7 @@ module _ {ahead : ℕ → ℕ → Bool} {size : Size} (q : Saved) (G : Sound ahe
     module _ (t v : ℕ) where
       -- the pointers by which t reads from writers ahead become absent, and no other
       pub freed-at : (l : ℕ) → at (finished ahead t v q .pointer) l ≡ cond (leaves (table ahead q) t l) 0 (at (q .pointer) l)
-      freed-at l = changed (λ i. eqb (at (q .reader) i) t && ahead (at (q .writer) i) t) (λ i x. 0) (q .links) (q .pointer) (omega (arith, S .pointer, counts .2)) l 0
+      freed-at l = changed (λ i. eqb (at (q .reader) i) t && ahead (at (q .writer) i) t) (λ i x. 0) (q .links) (q .pointer) (omega (arith, S .pointer, room .1)) l 0
 
       others-stay : (l : ℕ) → l < q .links → (at (q .reader) l ≡ t → ⊥) → at (finished ahead t v q .pointer) l ≡ at (q .pointer) l
       others-stay l h n = freed-at l ∙ rw (lt-ltb l (q .links) h, ne-eqb (at (q .reader) l) t n)

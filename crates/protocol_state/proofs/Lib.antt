@@ -15,6 +15,7 @@ pub mod Phases
 pub mod Freshes
 pub mod History
 pub mod Numbers
+pub mod Demanded
 pub mod Aside
 pub mod Totals
 pub mod Example

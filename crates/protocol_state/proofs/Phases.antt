@@ -3,7 +3,7 @@
 use mathlib.Core.Path.{_≡_, refl, sym}
 use mathlib.Core.Bool.{Bool, true, false, cond, not, _&&_, _||_}
 use mathlib.Core.List.{List, _∷_}
-use Prim.Native.Nat.{ℕ, suc, _+_, _^_, _≤_, _<_}
+use Prim.Native.Nat.{ℕ, suc, _^_, _<_}
 use native.Mathlib.Omega.{arith}
 use native.Mathlib.Decide.{ℕ-discrete}
 use borrow.Author.Tests.{lt-ltb, le-ltb, lt-leb, leb-false, eqb-true, eqb-false}
@@ -19,20 +19,10 @@ use Rattle.protocol_state.specs.Decision.{decided}
 use Rattle.protocol_state.specs.Judge.{allows, mayArrive, judgedArrival, preempted, judgedTask, judgedRead, judgedOn}
 use Rattle.protocol_state.specs.Next.{next}
 use Rattle.protocol_state.specs.Sound.{Sound}
+use Rattle.protocol_state.specs.Reached.{Stands, Agrees}
 use Rattle.protocol_state.proofs.Decision.{decided-rule}
 use Rattle.protocol_state.proofs.Places.{some-same, every-none-fails}
 use Rattle.protocol_state.proofs.Keeps.{obeys, were-idle, phase-kept, was-waiting, was-running}
-
--- a task in phase p that arrived a times, started s times and finished f times: 0 if all are one, 1 if one arrival is ahead, 2 if its start is too
-pub record Stands (p a s f : ℕ) : Type 0 where
-  pub begun : f ≤ s
-  pub come : s ≤ a
-  pub once : a ≤ suc f
-  pub phase : p + (f + f) ≡ a + s
-
--- every task stands as the history says
-abbrev pub Agrees : List (Event ℕ) → Saved → Type 0
-Agrees h q = (t : ℕ) → Stands (at (q .phase) t) (arrivals h t) (starts h t) (finishes h t)
 
 -- ---- a step of one task
 arrives : {a s f : ℕ} → Stands 0 a s f → Stands 1 (suc a) s f
@@ -78,14 +68,14 @@ module _ {p a s f : ℕ} (c : Stands p a s f) where
     go false e = lt-ltb f a (omega (arith, eqb-false p 0 e))
 
   -- waiting by the history exactly in phase 1
-  pub waiting-is : ltb s a ≡ eqb p 1
+  waiting-is : ltb s a ≡ eqb p 1
   waiting-is = go (eqb p 1) refl where
     go : (b : Bool) → eqb p 1 ≡ b → ltb s a ≡ b
     go true e = lt-ltb s a (omega (arith, eqb-true p 1 e))
     go false e = le-ltb s a (omega (arith, eqb-false p 1 e))
 
   -- running by the history exactly in phase 2
-  pub running-is : ltb f s ≡ eqb p 2
+  running-is : ltb f s ≡ eqb p 2
   running-is = go (eqb p 2) refl where
     go : (b : Bool) → eqb p 2 ≡ b → ltb f s ≡ b
     go true e = lt-ltb f s (omega (arith, eqb-true p 2 e))

@@ -5,11 +5,11 @@ use mathlib.Core.Bool.{Bool, true, false, cond, not, _&&_, _||_, true≢false}
 use mathlib.Core.List.{List}
 use Prim.Native.Nat.{ℕ, zero, suc, _^_, _≤_, _<_}
 use native.Mathlib.Omega.{arith}
-use borrow.Author.Tests.{ltb-true, ltb-false, leb-false}
+use borrow.Author.Tests.{ltb-true, ltb-false, leb-true, leb-false, le-leb}
 use lib.Dec.{eqb, ltb, leb}
-use lib.ListN.{getD, length, replicate, length-replicate, getD-replicate, List·getD-eq-default}
+use lib.ListN.{getD, length, replicate, getD-replicate}
 use Rattle.lists.specs.Lists.{upto, every, some, count, leading}
-use Rattle.lists.proofs.Bools.{or-right, cond-zero, else-zero}
+use Rattle.lists.proofs.Bools.{and-left, and-right, and-both, or-right, cond-zero, else-zero}
 use Rattle.lists.proofs.Lists.{upto-at, upto-past, every-at}
 use Rattle.protocol.specs.Event.{has}
 use Rattle.protocol_state.specs.Saved.{at}
@@ -29,12 +29,23 @@ changed c g n xs room k d = go (ltb k n) refl where
 pub replicated : (n a k : ℕ) → k < n → at (replicate n a) k ≡ a
 replicated n a k l = getD-replicate {A = ℕ} n k a 0 l
 
+-- past its end too, where that is what stands there
+pub repeated : (n a k : ℕ) → getD (replicate n a) k a ≡ a
+repeated zero a k = refl
+repeated (suc n) a zero = refl
+repeated (suc n) a (suc k) = repeated n a k
+
 -- a list of zeros is 0 at every place
 pub zeros : (n k : ℕ) → at (replicate n 0) k ≡ 0
-zeros n k = go (ltb k n) refl where
-  go : (b : Bool) → ltb k n ≡ b → at (replicate n 0) k ≡ 0
-  go true e = replicated n 0 k (ltb-true k n e)
-  go false e = List·getD-eq-default (replicate {A = ℕ} n 0) 0 (rw (length-replicate {A = ℕ} n 0) (ltb-false k n e))
+zeros n k = repeated n 0 k
+
+-- ---- tests
+-- y is one of 1 to m: where the test passes, and where it is so
+pub between : (m y : ℕ) → (leb 1 y && leb y m) ≡ true → (1 ≤ y) × (y ≤ m)
+between m y e = (leb-true 1 y (and-left (leb 1 y) _ e), leb-true y m (and-right (leb 1 y) _ e))
+
+pub is-between : (m y : ℕ) → (1 ≤ y) × (y ≤ m) → (leb 1 y && leb y m) ≡ true
+is-between m y h = and-both (le-leb 1 y (h .0)) (le-leb y m (h .1))
 
 -- who is asked passes
 pub or-not : (a b : Bool) → (not a || b) ≡ true → a ≡ true → b ≡ true

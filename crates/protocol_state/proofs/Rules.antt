@@ -5,7 +5,7 @@ use mathlib.Core.Logic.{_≢_}
 use mathlib.Core.Bool.{Bool, true, false, cond, _&&_, _||_}
 use Prim.Native.Nat.{ℕ, zero, suc, _+_, _≤_, _<_}
 use native.Mathlib.Omega.{arith}
-use borrow.Author.Tests.{lt-leb, leb-false, lt-ltb, le-ltb, ltb-true, ltb-false, eqb-true, eqb-false, eq-eqb, ne-eqb}
+use borrow.Author.Tests.{lt-leb, leb-false, lt-ltb, le-ltb, ltb-false, eqb-true, eqb-false, eq-eqb, ne-eqb}
 use lib.Dec.{eqb, ltb, leb}
 use Rattle.lists.specs.Lists.{some, count, leading}
 use Rattle.lists.proofs.Bools.{and-left, and-right, and-not, and-if, or-left, or-right, cond-zero}
@@ -19,7 +19,6 @@ use Rattle.protocol_state.proofs.Places.{leading-none-other}
 pub ltb-ranks : Ranks ltb
 ltb-ranks = record {
   either = λ u t d e. lt-ltb t u (omega (arith, ltb-false u t e));
-  never = λ u t e. le-ltb t u (omega (arith, ltb-true u t e));
 }
 
 module _ (ahead : ℕ → ℕ → Bool) (T : ℕ) (W R K : ℕ → ℕ) where
@@ -74,6 +73,10 @@ module _ (ahead : ℕ → ℕ → Bool) (T : ℕ) (W R K : ℕ → ℕ) where
       counts =
           let some-task : T ≢ 0 = eqb-false T 0 (or-left (eqb T 0) _ (parts .0)) in
           (omega arith, ltb-false (size .tasks) T (or-right (eqb T 0) _ (parts .0)), ltb-false (size .links) L (parts .1))
+
+      -- there is room for them
+      pub room : (T ≤ size .tasks) × (L ≤ size .links)
+      room = (counts .1, counts .2)
 
       -- each of its links obeys the rules
       pub obeyed : (l : ℕ) → l < L → Obeys ahead T W R K l

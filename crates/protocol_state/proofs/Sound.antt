@@ -11,13 +11,7 @@ use Rattle.lists.proofs.Lists.{every-at, every-of}
 use Rattle.protocol_state.specs.Saved.{Size, Saved, at}
 use Rattle.protocol_state.specs.Rules.{judgedTable}
 use Rattle.protocol_state.specs.Sound.{within, taskOk, pointerOk, soundParts, isSound, behindsOf, Sound}
-use Rattle.protocol_state.proofs.Places.{or-not}
-
-within-is : (N y : ℕ) → within N y ≡ true → (1 ≤ y) × (y ≤ N + 2)
-within-is N y e = (leb-true 1 y (and-left (leb 1 y) _ e), leb-true y (N + 2) (and-right (leb 1 y) _ e))
-
-is-within : (N y : ℕ) → (1 ≤ y) × (y ≤ N + 2) → within N y ≡ true
-is-within N y h = and-both (le-leb 1 y (h .0)) (le-leb y (N + 2) (h .1))
+use Rattle.protocol_state.proofs.Places.{between, is-between, or-not}
 
 -- what a pointer y must be: absent at an idle reader, if the writer is ahead; present at an active one
 present-is : (b a : Bool) (y : ℕ) → b ≡ false → cond b (not a || eqb y 0) (leb 1 y) ≡ true → 1 ≤ y
@@ -53,9 +47,9 @@ module _ (ahead : ℕ → ℕ → Bool) (size : Size) (q : Saved) where
       record {
         rules = eqb-true judgement 0 (and-left (eqb judgement 0) _ e);
         phase = λ t l. ltb-true (at (q .phase) t) 3 (and-left (ltb (at (q .phase) t) 3) _ (tasks t l));
-        newest = λ t l. within-is (behindsOf ahead q t) (at (q .newest) t)
+        newest = λ t l. between (behindsOf ahead q t + 2) (at (q .newest) t)
             (and-left (within (behindsOf ahead q t) (at (q .newest) t)) _ (and-right (ltb (at (q .phase) t) 3) _ (tasks t l)));
-        previous = λ t l. within-is (behindsOf ahead q t) (at (q .previous) t)
+        previous = λ t l. between (behindsOf ahead q t + 2) (at (q .previous) t)
             (and-right (within (behindsOf ahead q t) (at (q .newest) t)) _ (and-right (ltb (at (q .phase) t) 3) _ (tasks t l)));
         pointer = λ l h. leb-true (at (q .pointer) l) _ (and-left (leb (at (q .pointer) l) _) _ (pointers l h));
         present = λ l h n. present-is _ (ahead (at (q .writer) l) (at (q .reader) l)) (at (q .pointer) l) (ne-eqb _ 0 n) (and-right (leb (at (q .pointer) l) _) _ (pointers l h));
@@ -68,7 +62,7 @@ module _ (ahead : ℕ → ℕ → Bool) (size : Size) (q : Saved) where
   says-sound G =
       and-both (eq-eqb judgement 0 (G .rules))
       (and-both
-      (every-of aTask (q .tasks) (λ t l. and-both (lt-ltb _ 3 (G .phase t l)) (and-both (is-within _ _ (G .newest t l)) (is-within _ _ (G .previous t l)))))
+      (every-of aTask (q .tasks) (λ t l. and-both (lt-ltb _ 3 (G .phase t l)) (and-both (is-between _ _ (G .newest t l)) (is-between _ _ (G .previous t l)))))
       (every-of aPointer (q .links) (λ l h. and-both (le-leb _ _ (G .pointer l h))
       (pointer-is (eqb (at (q .phase) (at (q .reader) l)) 0) (ahead (at (q .writer) l) (at (q .reader) l)) (at (q .pointer) l)
       (λ n. G .present l h (eqb-false _ 0 n)) (λ z a. G .absent l h a (eqb-true _ 0 z))))))

@@ -6,11 +6,11 @@ use mathlib.Core.List.{List}
 use Prim.Native.Nat.{ℕ, _^_, _≤_, _<_}
 use native.Mathlib.Omega.{arith}
 use native.Mathlib.Decide.{ℕ-discrete}
-use borrow.Author.Tests.{leb-true, le-leb, ltb-true, eq-eqb, ne-eqb}
-use lib.Dec.{eqb, ltb, leb}
+use borrow.Author.Tests.{ltb-true, eq-eqb, ne-eqb}
+use lib.Dec.{eqb, ltb}
 use lib.ListN.{getD, length, set}
 use lib.Seq.{getD-set-same, getD-set-other}
-use Rattle.lists.proofs.Bools.{and-left, and-right, and-both}
+use Rattle.lists.proofs.Bools.{and-left}
 use Rattle.protocol.specs.Event.{Event, arrival, start, read, finish, has}
 use Rattle.protocol.specs.Published.{Lowest, Arrived, Finished, Step, comes, number}
 use Rattle.protocol.proofs.Schedule.{has-below}
@@ -19,17 +19,10 @@ use Rattle.protocol_state.specs.Judge.{judgedArrival, judgedTask, judged
 use Rattle.protocol_state.specs.Next.{newestAfter, previousAfter, arrived, finished, next, valueOf}
 use Rattle.protocol_state.specs.Sound.{Position, Sound}
 use Rattle.protocol_state.proofs.Decision.{reads-running}
-use Rattle.protocol_state.proofs.Places.{task-allowed, read-allowed}
+use Rattle.protocol_state.proofs.Places.{between, is-between, task-allowed, read-allowed}
 use Rattle.protocol_state.proofs.Free.{boxes-inside, lowest-free}
 use Rattle.protocol_state.proofs.Arrivals.{newest-at, previous-at, aim, pointer-at}
 use Rattle.protocol_state.proofs.Keeps as keeps
-
--- a position is one of ten
-pub position-is : (p : ℕ) → isPosition p ≡ true → (1 ≤ p) × (p ≤ 10)
-position-is p e = (leb-true 1 p (and-left (leb 1 p) _ e), leb-true p 10 (and-right (leb 1 p) _ e))
-
-is-position : (p : ℕ) → (1 ≤ p) × (p ≤ 10) → isPosition p ≡ true
-is-position p h = and-both (le-leb 1 p (h .0)) (le-leb p 10 (h .1))
 
 -- positions of one task, or of two, do not share a cell
 cell-apart : (u p t y : ℕ) → (1 ≤ p) × (p ≤ 10) → (1 ≤ y) × (y ≤ 10) → cellOf u p ≡ cellOf t y → (u ≡ t) × (p ≡ y)
@@ -43,12 +36,12 @@ stored xs t y v d u p b l = go (ℕ-discrete u t) (ℕ-discrete p y) where
       → cond (isPosition p) (at (set xs (cellOf t y) v) (cellOf u p)) d ≡ cond (eqb u t && eqb p y) v (cond (isPosition p) (at xs (cellOf u p)) d)
   other n e = rw e (two (isPosition p) refl) where
     two : (c : Bool) → isPosition p ≡ c → cond c (at (set xs (cellOf t y) v) (cellOf u p)) d ≡ cond c (at xs (cellOf u p)) d
-    two true i = getD-set-other xs (cellOf t y) (cellOf u p) v 0 (λ k. n (cell-apart u p t y (position-is p i) b k))
+    two true i = getD-set-other xs (cellOf t y) (cellOf u p) v 0 (λ k. n (cell-apart u p t y (between 10 p i) b k))
     two false i = refl
 
   go : Dec (u ≡ t) → Dec (p ≡ y)
       → cond (isPosition p) (at (set xs (cellOf t y) v) (cellOf u p)) d ≡ cond (eqb u t && eqb p y) v (cond (isPosition p) (at xs (cellOf u p)) d)
-  go (yes i) (yes k) = rw (i, k, is-position y b, eq-eqb t t refl, eq-eqb y y refl) (getD-set-same xs (cellOf t y) v 0 l)
+  go (yes i) (yes k) = rw (i, k, is-between 10 y b, eq-eqb t t refl, eq-eqb y y refl) (getD-set-same xs (cellOf t y) v 0 l)
   go (yes i) (no k) = other (λ h. k (h .1)) (rw (eq-eqb u t i) (ne-eqb p y k))
   go (no i) k = other (λ h. i (h .0)) (rw (ne-eqb u t i))
 
@@ -57,7 +50,7 @@ module _ {ahead : ℕ → ℕ → Bool} {size : Size} (q : Saved) (S : Shape siz
   place t y h = omega (arith, keeps.few q G t, h .0, h .1)
 
   has-room : (t : ℕ) → t < q .tasks → t < size .tasks
-  has-room t l = omega (arith, keeps.counts q G .1)
+  has-room t l = omega (arith, keeps.room q G .0)
 
   newest-inside : (t : ℕ) → t < q .tasks → getD (q .newest) t 1 ≡ at (q .newest) t
   newest-inside t l = boxes-inside S t (has-room t l) .0
@@ -66,9 +59,9 @@ module _ {ahead : ℕ → ℕ → Bool} {size : Size} (q : Saved) (S : Shape siz
   arrived-step : (s : ℕ) → judgedArrival s (q .tasks) (at (q .phase)) ≡ 0 → Arrived (table ahead q) (Lowest (table ahead q)) s (boxes q) (boxes (arrived ahead s q))
   arrived-step s ok = record {
     previous = λ t. previous t (has s t) refl;
-    chosen = λ t e. rw (newest-at ahead q S s small (keeps.counts q G .1) t 1, e) (lowest-free ahead q t (keeps.few q G t));
-    kept = λ t e. newest-at ahead q S s small (keeps.counts q G .1) t 1 ∙ rw e;
-    pointer = λ l. pointer-at ahead q S s (keeps.counts q G .2) l ∙ pointer l (comes (table ahead q) s l) refl;
+    chosen = λ t e. rw (newest-at ahead q S s small (keeps.room q G .0) t 1, e) (lowest-free ahead q t (keeps.few q G t));
+    kept = λ t e. newest-at ahead q S s small (keeps.room q G .0) t 1 ∙ rw e;
+    pointer = λ l. pointer-at ahead q S s (keeps.room q G .1) l ∙ pointer l (comes (table ahead q) s l) refl;
     cell = λ t p. refl;
   }
     where
@@ -79,8 +72,8 @@ module _ {ahead : ℕ → ℕ → Bool} {size : Size} (q : Saved) (S : Shape siz
       after = keeps.next-shape ahead S (arrival s)
 
       previous : (t : ℕ) (b : Bool) → has s t ≡ b → getD (previousAfter ahead s q) t 1 ≡ cond b (getD (q .newest) t 1) (getD (q .previous) t 1)
-      previous t true e = previous-at ahead q S s small (keeps.counts q G .1) t 1 ∙ rw e (sym (newest-inside t (has-below s (q .tasks) t small e)))
-      previous t false e = previous-at ahead q S s small (keeps.counts q G .1) t 1 ∙ rw e
+      previous t true e = previous-at ahead q S s small (keeps.room q G .0) t 1 ∙ rw e (sym (newest-inside t (has-below s (q .tasks) t small e)))
+      previous t false e = previous-at ahead q S s small (keeps.room q G .0) t 1 ∙ rw e
 
       pointer : (l : ℕ) (b : Bool) → comes (table ahead q) s l ≡ b → cond b (aim ahead s q l) (at (q .pointer) l)
           ≡ cond b (cond (delayedKind (at (q .kind) l)) (getD (previousAfter ahead s q) (at (q .writer) l) 1) (getD (newestAfter ahead s q) (at (q .writer) l) 1)) (at (q .pointer) l)
@@ -117,4 +110,4 @@ module _ {ahead : ℕ → ℕ → Bool} {size : Size} (q : Saved) (S : Shape siz
       let a = task-allowed ahead 2 (at (q .reader) l) (q .tasks) (at (q .phase)) (k .1) in
       let w = reads-running (at (q .phase) (at (q .reader) l)) (G .phase (at (q .reader) l) (a .0)) (a .1) in
       let p = place (at (q .writer) l) (at (q .pointer) l) (G .present l (k .0) (λ z. omega (arith, w .0)), G .pointer l (k .0)) in
-      rw (is-position (at (q .pointer) l) p)
+      rw (is-between 10 (at (q .pointer) l) p)

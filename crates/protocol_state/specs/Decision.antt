@@ -2,7 +2,7 @@
 -- Assumes nothing.
 use mathlib.Core.Bool.{cond}
 use mathlib.Core.List.{List, [], _∷_}
-use Prim.Native.Nat.{ℕ, zero, suc, _+_, _*_, _%_}
+use Prim.Native.Nat.{ℕ, zero, suc, _+_, _*_, _%_, min}
 use lib.Dec.{eqb}
 use lib.ListN.{getD}
 
@@ -10,9 +10,9 @@ use lib.ListN.{getD}
 abbrev pub decisions : List ℕ
 decisions = 1 ∷ 13 ∷ 13 ∷ 14 ∷ 2 ∷ 14 ∷ 15 ∷ 15 ∷ 2 ∷ 15 ∷ 15 ∷ 0 ∷ []
 
--- the entry for an event of kind k in phase p; the remainders only keep the index inside the table
+-- the entry for an event of kind k in phase p; the remainder and the bound only keep the index inside the table
 unfoldable pub decided : ℕ → ℕ → ℕ
-decided k p = getD decisions (k % 4 * 3 + p % 3) 0
+decided k p = getD decisions (k % 4 * 3 + min p 2) 0
 
 -- its rule: arrival needs idle, start waiting, read and finish running
 abbrev pub rule : ℕ → ℕ → ℕ

@@ -42,6 +42,7 @@ pub record Made : Type 0 where
   pub refusal : ℕ
   pub state : Saved
 
+-- which of the two: rules 2 to 9
 unfoldable pub made : (ℕ → ℕ → Bool) → Size → ℕ → ℕ → List ℕ → List ℕ → List ℕ → List ℕ → Made
 made ahead size T L D W R K =
     cond (eqb (judgedTable ahead T (at W) (at R) (at K) size L) 0)

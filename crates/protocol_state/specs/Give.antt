@@ -1,5 +1,6 @@
 -- One event given to a state, and events given one after the other.
 -- Assumes nothing.
+use mathlib.Core.Path.{_≡_}
 use mathlib.Core.Bool.{Bool, cond}
 use mathlib.Core.List.{List, [], _∷_}
 use Prim.Native.Nat.{ℕ}
@@ -10,11 +11,13 @@ use Rattle.protocol_state.specs.Judge.{judgedOn}
 use Rattle.protocol_state.specs.Next.{next, valueOf}
 use Rattle.protocol_state.specs.Sound.{isSound}
 
+-- the answer to an event: the state handed back, the refusal (0: accepted), the value
 pub record Reply : Type 0 where
   pub state : Saved
   pub refusal : ℕ
   pub value : ℕ
 
+-- its three parts
 abbrev pub reply : Saved → ℕ → ℕ → Reply
 reply q r v = record { state = q; refusal = r; value = v }
 
@@ -35,10 +38,12 @@ pub record Outcome : Type 0 where
   pub history : List (Event ℕ)
   pub numbers : List ℕ
 
+-- before any event
 abbrev pub begin : Saved → Outcome
 begin q = record { state = q; history = []; numbers = [] }
 
 module _ (ahead : ℕ → ℕ → Bool) (size : Size) where
+  -- an event given to a state: 19 first, then 12 to 16
   abbrev pub give : Saved → Event ℕ → Reply
   give q e = settled (isSound ahead size q) (judgedOn ahead q e) q (next ahead q e) (valueOf q e)
 
@@ -49,6 +54,7 @@ module _ (ahead : ℕ → ℕ → Bool) (size : Size) where
       (record { state = give (o .state) e .state; history = e ∷ o .history; numbers = note e (give (o .state) e .value) (o .numbers) })
       o
 
+  -- events one after the other
   unfoldable pub replay : Outcome → List (Event ℕ) → Outcome
   replay o [] = o
   replay o (e ∷ es) = replay (after o e) es
@@ -57,3 +63,8 @@ module _ (ahead : ℕ → ℕ → Bool) (size : Size) where
   unfoldable pub accepted : Outcome → List (Event ℕ) → List (Event ℕ)
   accepted o [] = []
   accepted o (e ∷ es) = cond (eqb (give (o .state) e .refusal) 0) (e ∷ accepted (after o e) es) (accepted o es)
+
+  -- each of the events is accepted in its turn
+  unfoldable pub AllAccepted : Outcome → List (Event ℕ) → Type 0
+  AllAccepted o [] = Unit {0}
+  AllAccepted o (e ∷ es) = (give (o .state) e .refusal ≡ 0) × AllAccepted (after o e) es

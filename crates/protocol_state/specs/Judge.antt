@@ -8,7 +8,7 @@ use Rattle.protocol.specs.Event.{Event, arrival, start, read, finish, has}
 use Rattle.protocol_state.specs.Saved.{Saved, at}
 use Rattle.protocol_state.specs.Decision.{decided}
 
--- a decision is a phase, and no refusal
+-- a decision is the next phase (0 to 2), and no refusal (13 to 15)
 abbrev pub allows : ℕ → Bool
 allows d = ltb d 12
 
@@ -16,6 +16,7 @@ allows d = ltb d 12
 abbrev pub mayArrive : ℕ → (ℕ → ℕ) → ℕ → Bool
 mayArrive s ph t = not (has s t) || allows (decided 0 (ph t))
 
+-- an arrival: 12 for an empty set or a task not in the table, 13 for an active task
 unfoldable pub judgedArrival : ℕ → ℕ → (ℕ → ℕ) → ℕ
 judgedArrival s T ph = cond (eqb s 0 || leb (2 ^ T) s) 12 (cond (every (mayArrive s ph) T) 0 13)
 
@@ -24,20 +25,22 @@ module _ (ahead : ℕ → ℕ → Bool) where
   abbrev pub preempted : ℕ → ℕ → (ℕ → ℕ) → Bool
   preempted t T ph = some (λ u. ahead u t && not (eqb (ph u) 0)) T
 
-  -- an event of kind k by task t
+  -- an event of kind k by task t: 12 for no such task, 14 or 15 as its phase decides, 16 while a more urgent task is active
   unfoldable pub judgedTask : ℕ → ℕ → ℕ → (ℕ → ℕ) → ℕ
   judgedTask k t T ph =
       cond (leb T t) 12 (cond (allows (decided k (ph t))) (cond (preempted t T ph) 16 0) (decided k (ph t)))
 
-  -- a read by link l: its reader is the task that reads
+  -- a read by link l: 12 for no such link; its reader is the task that reads
   unfoldable pub judgedRead : ℕ → ℕ → ℕ → (ℕ → ℕ) → (ℕ → ℕ) → ℕ
   judgedRead l T L R ph = cond (leb L l) 12 (judgedTask 2 (R l) T ph)
 
+  -- the refusal of an event
   abbrev pub judgedEvent : Event ℕ → ℕ → ℕ → (ℕ → ℕ) → (ℕ → ℕ) → ℕ
   judgedEvent (arrival s) T L R ph = judgedArrival s T ph
   judgedEvent (start t) T L R ph = judgedTask 1 t T ph
   judgedEvent (read l) T L R ph = judgedRead l T L R ph
   judgedEvent (finish t v) T L R ph = judgedTask 3 t T ph
 
+  -- of one given to a saved state
   abbrev pub judgedOn : Saved → Event ℕ → ℕ
   judgedOn q e = judgedEvent e (q .tasks) (q .links) (at (q .reader)) (at (q .phase))

@@ -7,3 +7,5 @@ pub mod Next
 pub mod Sound
 pub mod Fresh
 pub mod Give
+pub mod Reached
+pub mod Alike

@@ -31,10 +31,11 @@ withParts q ph n p C x = record {
 abbrev pub previousAt : ℕ → (ℕ → ℕ) → ℕ → ℕ → ℕ
 previousAt s newest t y = cond (has s t) (newest t) y
 
--- the readers' part: the pointer x of a link from w to r of kind k
+-- the readers' part: the pointer x of a link from w to r of kind k becomes the writer's newest if direct, previous if delayed
 abbrev pub aimed : ℕ → ℕ → ℕ → ℕ → (ℕ → ℕ) → (ℕ → ℕ) → ℕ → ℕ
 aimed s w r k newest previous x = cond (has s r) (cond (delayedKind k) (previous w) (newest w)) x
 
+-- that of link l
 abbrev pub pointerAt : ℕ → (ℕ → ℕ) → (ℕ → ℕ) → (ℕ → ℕ) → (ℕ → ℕ) → (ℕ → ℕ) → ℕ → ℕ → ℕ
 pointerAt s W R K newest previous l x = aimed s (W l) (R l) (K l) newest previous x
 
@@ -59,34 +60,42 @@ module _ (ahead : ℕ → ℕ → Bool) where
   abbrev pub freed : ℕ → ℕ → ℕ → ℕ → ℕ
   freed t w r x = cond (eqb r t && ahead w t) 0 x
 
+  -- that of link l
   abbrev pub freedAt : ℕ → (ℕ → ℕ) → (ℕ → ℕ) → ℕ → ℕ → ℕ
   freedAt t W R l x = freed t (W l) (R l) x
 
+  -- the newest positions after the arrival of the set s
   unfoldable pub newestAfter : ℕ → Saved → List ℕ
   newestAfter s q = upto (newestAt s (at (q .writer)) (at (q .reader)) (at (q .pointer)) (q .links)) (q .tasks) (q .newest)
 
+  -- the previous positions
   unfoldable pub previousAfter : ℕ → Saved → List ℕ
   previousAfter s q = upto (previousAt s (at (q .newest))) (q .tasks) (q .previous)
 
-  -- only after the writers' part
+  -- the pointers, set only after the writers' part
   unfoldable pub pointerAfter : ℕ → Saved → List ℕ
   pointerAfter s q =
       upto (pointerAt s (at (q .writer)) (at (q .reader)) (at (q .kind)) (at (newestAfter s q)) (at (previousAfter s q))) (q .links) (q .pointer)
 
+  -- the phases
   unfoldable pub phaseAfter : ℕ → Saved → List ℕ
   phaseAfter s q = upto (phaseAt s) (q .tasks) (q .phase)
 
+  -- arrival of the set s: no mailbox changes
   abbrev pub arrived : ℕ → Saved → Saved
   arrived s q = withParts q (phaseAfter s q) (newestAfter s q) (previousAfter s q) (q .cells) (pointerAfter s q)
 
+  -- start: the task is running, and nothing else changes
   abbrev pub started : ℕ → Saved → Saved
   started t q = withParts q (phasesAfter 1 t (q .phase)) (q .newest) (q .previous) (q .cells) (q .pointer)
 
+  -- finish: the value goes to the newest position, pointers from writers ahead become absent, the task is idle
   abbrev pub finished : ℕ → ℕ → Saved → Saved
   finished t v q =
       withParts q (phasesAfter 3 t (q .phase)) (q .newest) (q .previous) (set (q .cells) (cellOf t (at (q .newest) t)) v)
       (upto (freedAt t (at (q .writer)) (at (q .reader))) (q .links) (q .pointer))
 
+  -- what an accepted event makes of the state; a read leaves it
   abbrev pub next : Saved → Event ℕ → Saved
   next q (arrival s) = arrived s q
   next q (start t) = started t q
@@ -100,5 +109,6 @@ valueBy (start t) W P C = 0
 valueBy (read l) W P C = numberOf l W P C
 valueBy (finish t v) W P C = 0
 
+-- that of an event given to a saved state
 abbrev pub valueOf : Saved → Event ℕ → ℕ
 valueOf q e = valueBy e (at (q .writer)) (at (q .pointer)) (at (q .cells))

@@ -9,10 +9,9 @@ use Rattle.lists.specs.Lists.{some, leading}
 use Rattle.protocol.specs.Table.{behinds}
 use Rattle.protocol_state.specs.Saved.{Size}
 
--- what `ahead` is: of two tasks one is ahead of the other, and never both
+-- what `ahead` is: of two tasks one is ahead of the other
 pub record Ranks (ahead : ℕ → ℕ → Bool) : Type 0 where
   pub either : (u t : ℕ) → u ≢ t → ahead u t ≡ false → ahead t u ≡ true
-  pub never : (u t : ℕ) → ahead u t ≡ true → ahead t u ≡ false
 
 -- link j goes from w to r
 abbrev pub joins : (ℕ → ℕ) → (ℕ → ℕ) → ℕ → ℕ → ℕ → Bool

@@ -1,7 +1,7 @@
 -- A saved state as lists of numbers, and what it says as a table and as the boxes of the published protocol.
 -- Assumes nothing.
 use mathlib.Core.Path.{_≡_}
-use mathlib.Core.Bool.{Bool, cond, _&&_}
+use mathlib.Core.Bool.{Bool, cond, not, _&&_}
 use mathlib.Core.List.{List}
 use Prim.Native.Nat.{ℕ, _+_, _-_, _*_}
 use lib.Dec.{eqb, leb}
@@ -14,6 +14,7 @@ pub record Size : Type 0 where
   pub tasks : ℕ
   pub links : ℕ
 
+-- document 01's room: 16 tasks, 32 links
 abbrev pub base : Size
 base = record { tasks = 16; links = 32 }
 
@@ -55,6 +56,7 @@ pub record Shape (size : Size) (q : Saved) : Type 0 where
   pub kind : length (q .kind) ≡ size .links
   pub pointer : length (q .pointer) ≡ size .links
 
+-- the kind of a delayed link
 abbrev pub delayedKind : ℕ → Bool
 delayedKind k = eqb k 1
 
@@ -69,6 +71,10 @@ table ahead q = record {
   delayed = λ l. delayedKind (at (q .kind) l);
   ahead = ahead;
 }
+
+-- task t is active in it
+abbrev pub busy : Saved → ℕ → Bool
+busy q t = not (eqb (at (q .phase) t) 0)
 
 -- p is one of the positions that a task can have at all
 abbrev pub isPosition : ℕ → Bool

@@ -13,26 +13,29 @@ use Rattle.protocol_state.specs.Rules.{judgedTable}
 abbrev pub within : ℕ → ℕ → Bool
 within N y = leb 1 y && leb y (N + 2)
 
--- a task with this phase, newest and previous, and N links to readers behind
+-- a task with this phase, newest and previous, and N links to readers behind: one of the three phases, both positions in 1 to N + 2
 abbrev pub taskIs : ℕ → ℕ → ℕ → ℕ → Bool
 taskIs ph y z N = ltb ph 3 && (within N y && within N z)
 
 module _ (ahead : ℕ → ℕ → Bool) where
+  -- task t is so
   abbrev pub taskOk : ℕ → (ℕ → ℕ) → (ℕ → ℕ) → (ℕ → ℕ) → (ℕ → ℕ) → (ℕ → ℕ) → ℕ → Bool
   taskOk L W R ph n p t = taskIs (ph t) (n t) (p t) (behinds ahead W R t L)
 
-  -- the pointer y of a link from w to r, a reader with this phase; N: its writer's links to readers behind
+  -- the pointer y of a link from w to r, a reader with this phase: up to N + 2, absent at an idle reader behind its writer, present at an active one
   abbrev pub pointerIs : ℕ → ℕ → ℕ → ℕ → ℕ → Bool
   pointerIs w r y ph N = leb y (N + 2) && cond (eqb ph 0) (not (ahead w r) || eqb y 0) (leb 1 y)
 
+  -- link l's pointer is so
   abbrev pub pointerOk : ℕ → (ℕ → ℕ) → (ℕ → ℕ) → (ℕ → ℕ) → (ℕ → ℕ) → ℕ → Bool
   pointerOk L W R ph x l = pointerIs (W l) (R l) (x l) (ph (R l)) (behinds ahead W R (W l) L)
 
-  -- the test
+  -- the test: the table keeps rules 2 to 9, each task and each pointer is as it must be
   unfoldable pub soundParts : Size → ℕ → ℕ → (ℕ → ℕ) → (ℕ → ℕ) → (ℕ → ℕ) → (ℕ → ℕ) → (ℕ → ℕ) → (ℕ → ℕ) → (ℕ → ℕ) → Bool
   soundParts size T L W R K ph n p x =
       eqb (judgedTable ahead T W R K size L) 0 && (every (taskOk L W R ph n p) T && every (pointerOk L W R ph x) L)
 
+  -- that a saved state passes
   abbrev pub isSound : Size → Saved → Bool
   isSound size q =
       soundParts size (q .tasks) (q .links) (at (q .writer)) (at (q .reader)) (at (q .kind)) (at (q .phase)) (at (q .newest)) (at (q .previous)) (at (q .pointer))
@@ -46,7 +49,8 @@ module _ (ahead : ℕ → ℕ → Bool) where
   Position q t y = (1 ≤ y) × (y ≤ behindsOf q t + 2)
 
   -- document 01's sentence: the table keeps rules 2 to 9, newest and previous lie in 1 to N + 2, each present pointer does so for its writer,
-  -- no pointer of an active reader is absent, and every pointer from a writer ahead of an idle reader is absent
+  -- no pointer of an active reader is absent, and every pointer from a writer ahead of an idle reader is absent. `phase` says besides that a saved
+  -- number is one of the three phases: the document knows no other
   pub record Sound (size : Size) (q : Saved) : Type 0 where
     pub rules : judgedTable ahead (q .tasks) (at (q .writer)) (at (q .reader)) (at (q .kind)) size (q .links) ≡ 0
     pub phase : (t : ℕ) → t < q .tasks → at (q .phase) t < 3

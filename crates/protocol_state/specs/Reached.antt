@@ -1,0 +1,34 @@
+-- What holds of every outcome that the events given to a fresh state come to.
+-- Assumes nothing.
+use mathlib.Core.Path.{_≡_}
+use mathlib.Core.Bool.{Bool}
+use mathlib.Core.List.{List}
+use Prim.Native.Nat.{ℕ, suc, _+_, _≤_}
+use Rattle.protocol.specs.Event.{Event}
+use Rattle.protocol.specs.History.{arrivals, starts, finishes}
+use Rattle.protocol.specs.Schedule.{urgent}
+use Rattle.protocol.specs.Published.{Lowest, Run, numbers}
+use Rattle.protocol_state.specs.Saved.{Size, Saved, Shape, at, table, boxes}
+use Rattle.protocol_state.specs.Sound.{Sound}
+use Rattle.protocol_state.specs.Give.{Outcome}
+
+-- a task in phase p that arrived a times, started s times and finished f times: 0 if all are one, 1 if one arrival is ahead, 2 if its start is too
+pub record Stands (p a s f : ℕ) : Type 0 where
+  pub begun : f ≤ s
+  pub come : s ≤ a
+  pub once : a ≤ suc f
+  pub phase : p + (f + f) ≡ a + s
+
+-- every task stands as the history says
+abbrev pub Agrees : List (Event ℕ) → Saved → Type 0
+Agrees h q = (t : ℕ) → Stands (at (q .phase) t) (arrivals h t) (starts h t) (finishes h t)
+
+-- what holds of an outcome that the state q₀ came to: a sound state of the same table, whose phases are the history's, whose boxes are those of a run of
+-- the published protocol over the accepted events, and whose numbers are those that this run reads
+pub record Reached (ahead : ℕ → ℕ → Bool) (size : Size) (q₀ : Saved) (o : Outcome) : Type 0 where
+  pub shape : Shape size (o .state)
+  pub sound : Sound ahead size (o .state)
+  pub same : table ahead (o .state) ≡ table ahead q₀
+  pub agrees : Agrees (o .history) (o .state)
+  pub run : Run (table ahead q₀) (urgent (table ahead q₀)) (Lowest (table ahead q₀)) (boxes (o .state)) (o .history)
+  pub read : o .numbers ≡ numbers (table ahead q₀) run
