@@ -13,9 +13,9 @@ ghost use Rattle.protocol_state.specs.Fresh.{freshOf, single, made};
 ghost use Rattle.protocol_state.specs.Sound.{isSound};
 ghost use Rattle.mailbox_parts.specs.Plain.{plain};
 ghost use Rattle.mailbox.specs.States.{saved, stateOf, madeOf, given, refusedStep, StaysSound};
+use crate::cells::fill_cells;
 use crate::tables::copy_links;
 use crate::tables::copy_tasks;
-use crate::tables::fill_cells;
 use mailbox_checks::sound::is_sound;
 use mailbox_checks::table::judge_table;
 use mailbox_parts::event::Event;
@@ -23,10 +23,12 @@ use mailbox_parts::event::do_event;
 use mailbox_parts::event::judge;
 use mailbox_parts::event::value_of;
 use mailbox_parts::numbers::CELLS;
+use mailbox_parts::numbers::EVENTS;
 use mailbox_parts::numbers::LINKS;
 use mailbox_parts::numbers::TASKS;
 
-pub mod tables;
+pub mod cells;
+mod tables;
 
 // All that a station has to keep between events. Slots past `tasks` and past `links` are never touched; when fresh they hold 0, newest
 // and previous 1.
@@ -72,7 +74,7 @@ impl State {
 
     pub const LINKS: usize = LINKS;
 
-    pub const EVENTS: usize = 10000;
+    pub const EVENTS: usize = EVENTS;
 
     // The fresh state of a table: so many tasks with these defaults, so many links with these writers, readers and kinds.
     // Refusals: 2 and 3 the counts, 4 to 9 the first link at fault; the state is then that of a single task with default 0.

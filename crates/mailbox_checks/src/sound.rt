@@ -7,7 +7,7 @@ ghost use Rattle.lists.specs.Lists.{every};
 ghost use Rattle.protocol.specs.Table.{behinds};
 ghost use Rattle.protocol_state.specs.Saved.{at, base};
 ghost use Rattle.protocol_state.specs.Sound.{within, taskIs, taskOk, pointerIs, pointerOk, soundParts};
-use crate::table::count_behind;
+use crate::links::count_behind;
 use crate::table::judge_table;
 use mailbox_parts::numbers::LINKS;
 use mailbox_parts::numbers::TASKS;

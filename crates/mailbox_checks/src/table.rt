@@ -1,65 +1,18 @@
 // The rules of a table, refusals 2 to 9.
 ghost use mathlib.Core.Path.{_≡_};
-ghost use mathlib.Core.Bool.{_&&_, cond};
-ghost use Prim.Native.Nat.{_+_, _≤_, _<_};
+ghost use mathlib.Core.Bool.{cond};
+ghost use Prim.Native.Nat.{_≤_, _<_, min};
 ghost use lib.Dec.{eqb, ltb};
 ghost use Rattle.lists.specs.Lists.{some, leading};
 ghost use Rattle.protocol.specs.Table.{behinds};
 ghost use Rattle.protocol_state.specs.Saved.{at, base};
 ghost use Rattle.protocol_state.specs.Rules.{joins, faultOf, fault, judgedTable};
+use crate::links::count_behind;
+use crate::links::has_pair;
 use mailbox_parts::numbers::LINKS;
 use mailbox_parts::numbers::TASKS;
+use mailbox_parts::numbers::few;
 use mailbox_parts::numbers::pick;
-
-// Whether a link from `w0` to `r0` goes from `w` to `r`.
-fn is_pair(w0: u8, r0: u8, w: u8, r: u8) -> bool
-    ensures { λ res. ⌜ res ≡ (eqb w0 w && eqb r0 r) ⌝ }
-{
-    (w0 == w) & (r0 == r)
-}
-
-// Whether one of the first `n` links goes from `w` to `r`.
-fn has_pair(writer: &[u8; LINKS], reader: &[u8; LINKS], n: usize, w: u8, r: u8) -> bool
-    requires { ⌜ n ≤ base .links ⌝ }
-    ensures { λ res. ⌜ res ≡ some (joins (at (now (writer .entry))) (at (now (reader .entry))) w r) n ⌝ }
-{
-    let mut found = false;
-    let mut l = 0;
-    while l < n {
-        found = is_pair(writer[l], reader[l], w, r) | found;
-        l += 1;
-    }
-    found
-}
-
-// Whether a link from `w` to `r` is one of task `t`'s to readers behind.
-fn is_behind(w: u8, r: u8, t: usize) -> bool
-    ensures { λ res. ⌜ res ≡ (eqb w t && ltb t r) ⌝ }
-{
-    (w as usize == t) & (t < r as usize)
-}
-
-// One more where the test holds. There are few links, so the sum fits.
-fn add(b: bool, c: usize) -> usize
-    requires { ⌜ c < base .links ⌝ }
-    ensures { λ r. ⌜ r ≡ cond b (c + 1) c ⌝ }
-{
-    if b { c + 1 } else { c }
-}
-
-// N: how many of the first `n` links are task `t`'s to readers behind.
-pub fn count_behind(writer: &[u8; LINKS], reader: &[u8; LINKS], n: usize, t: usize) -> usize
-    requires { ⌜ n ≤ base .links ⌝ }
-    ensures { λ r. ⌜ (r ≡ behinds ltb (at (now (writer .entry))) (at (now (reader .entry))) t n) × (r ≤ base .links) ⌝ }
-{
-    let mut c = 0;
-    let mut l = 0;
-    while l < n {
-        c = add(is_behind(writer[l], reader[l], t), c);
-        l += 1;
-    }
-    c
-}
 
 // The refusal that a link from `w` to `r` of kind `k` earns, the lowest that applies; `twice` and `n` speak of its writer's earlier links.
 fn fault_of(tasks: usize, w: u8, r: u8, k: u8, twice: bool, n: usize) -> u8
@@ -73,7 +26,7 @@ fn fault_of(tasks: usize, w: u8, r: u8, k: u8, twice: bool, n: usize) -> u8
     pick((tasks <= w as usize) | (tasks <= r as usize), 4, five)
 }
 
-// The refusal that a link from `w` to `r` of kind `k` earns after the first `n` links.
+// The refusal that a link from `w` to `r` of kind `k` earns after the first `n` links, of which there are at most 32.
 pub fn fault_after(
     tasks: usize,
     writer: &[u8; LINKS],
@@ -83,12 +36,20 @@ pub fn fault_after(
     r: u8,
     k: u8,
 ) -> u8
-    requires { ⌜ n ≤ base .links ⌝ }
-    ensures { λ res. ⌜ res ≡ faultOf ltb tasks w r k (some (joins (at (now (writer .entry))) (at (now (reader .entry))) w r) n) (behinds ltb (at (now (writer .entry))) (at (now (reader .entry))) w n) ⌝ }
+    ensures { λ res. ⌜ res ≡ faultOf ltb tasks w r k (some (joins (at (now (writer .entry))) (at (now (reader .entry))) w r) (min n (base .links))) (behinds ltb (at (now (writer .entry))) (at (now (reader .entry))) w (min n (base .links))) ⌝ }
 {
-    let twice = has_pair(writer, reader, n, w, r);
-    let behind = count_behind(writer, reader, n, w as usize);
+    let m = few(n, LINKS);
+    let twice = has_pair(writer, reader, m, w, r);
+    let behind = count_behind(writer, reader, m, w as usize);
     fault_of(tasks, w, r, k, twice, behind)
+}
+
+// N: how many of the first links, of which there are at most 32, are task `t`'s to readers behind.
+pub fn readers_behind(writer: &[u8; LINKS], reader: &[u8; LINKS], links: usize, t: usize) -> usize
+    ensures { λ r. ⌜ (r ≡ behinds ltb (at (now (writer .entry))) (at (now (reader .entry))) t (min links (base .links))) × (r ≤ base .links) ⌝ }
+{
+    let n = few(links, LINKS);
+    count_behind(writer, reader, n, t)
 }
 
 // The refusal that link `l` earns, 0 for none.

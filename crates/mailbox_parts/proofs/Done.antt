@@ -17,7 +17,7 @@ module _ {T L : ℕ} {W R K ph n p C x : List ℕ} where
       {e : Event} {s : ℕ} {ph′ n′ p′ x′ : List ℕ} → e ≡ Arrival s → Arrives s T L W R K ph n p x ph′ n′ p′ x′ →
       Becomes e T L W R K ph n p C x ph′ n′ p′ C x′
   unfolding newestAfter previousAfter pointerAfter phaseAfter
-  becomes-arrival k a = rw (k, a .pointer, a .newest, a .previous, a .phase) (record { state = λ D. refl })
+  becomes-arrival k a = rw (k, a .pointer, a .moved .newest, a .moved .previous, a .moved .phase) (record { state = λ D. refl })
 
   pub becomes-start : {e : Event} {t : ℕ} {ph′ : List ℕ} → e ≡ Start t → ph′ ≡ phasesAfter 1 t ph → Becomes e T L W R K ph n p C x ph′ n p C x
   becomes-start k a = rw (k, a) (record { state = λ D. refl })

@@ -15,12 +15,22 @@ use Rattle.protocol_state.specs.Next.{previousAt, newestAt, pointerAt, phaseAt,
 abbrev pub activeAt : (ℕ → ℕ) → ℕ → Bool
 activeAt ph t = not (eqb (ph t) 0)
 
--- the arrival of the set s: the readers' part comes after the writers'
-pub record Arrives (s T L : ℕ) (W R K ph n p x ph′ n′ p′ x′ : List ℕ) : Type 0 where
+-- the writers' part of the arrival of the set s, for task t: previous, newest and phase move on where it is in the set
+pub record Moves (s t L : ℕ) (W R x ph n p ph′ n′ p′ : List ℕ) : Type 0 where
+  pub previous : p′ ≡ set p t (previousAt s (at n) t (at p t))
+  pub newest : n′ ≡ set n t (newestAt ltb s (at W) (at R) (at x) L t (at n t))
+  pub phase : ph′ ≡ set ph t (phaseAt s t (at ph t))
+
+-- the writers' part for each task of the set s
+pub record Moved (s T L : ℕ) (W R x ph n p ph′ n′ p′ : List ℕ) : Type 0 where
   pub previous : p′ ≡ upto (previousAt s (at n)) T p
   pub newest : n′ ≡ upto (newestAt ltb s (at W) (at R) (at x) L) T n
-  pub pointer : x′ ≡ upto (pointerAt s (at W) (at R) (at K) (at n′) (at p′)) L x
   pub phase : ph′ ≡ upto (phaseAt s) T ph
+
+-- the arrival of the set s: the readers' part comes after the writers'
+pub record Arrives (s T L : ℕ) (W R K ph n p x ph′ n′ p′ x′ : List ℕ) : Type 0 where
+  pub moved : Moved s T L W R x ph n p ph′ n′ p′
+  pub pointer : x′ ≡ upto (pointerAt s (at W) (at R) (at K) (at n′) (at p′)) L x
 
 -- the finish of t with the value v
 pub record Finishes (t v L : ℕ) (W R n ph C x ph′ C′ x′ : List ℕ) : Type 0 where

@@ -1,27 +1,27 @@
 // What an arrival does: the writers' part, then the readers' part, then the phases.
 ghost use mathlib.Core.Path.{_≡_};
 ghost use mathlib.Core.Bool.{_&&_};
-ghost use Prim.Native.Nat.{_≤_};
+ghost use Prim.Native.Nat.{_≤_, _<_, min};
 ghost use lib.Dec.{eqb, ltb};
 ghost use Rattle.lists.specs.Lists.{upto, some};
 ghost use Rattle.protocol_state.specs.Saved.{at, base};
 ghost use Rattle.protocol.specs.Free.{holds, taken, lowestFree};
-ghost use Rattle.protocol_state.specs.Next.{previousAt, newestAt, aimed, pointerAt, phaseAt};
-ghost use Rattle.mailbox_parts.specs.Doing.{Arrives};
+ghost use Rattle.protocol_state.specs.Next.{aimed, pointerAt};
+ghost use Rattle.mailbox_parts.specs.Doing.{Moves, Moved, Arrives};
 use crate::decision::decide;
 use crate::numbers::LINKS;
 use crate::numbers::POSITIONS;
 use crate::numbers::TASKS;
 use crate::numbers::at;
-use crate::numbers::choose;
+use crate::numbers::few;
 use crate::numbers::has;
 use crate::numbers::pick;
 
 // Whether a link with this writer, reader and pointer is one of task `t`'s to readers behind, and its pointer is `p`.
-fn holds_at(w: u8, r: u8, x: u8, t: usize, p: u8) -> bool
+fn holds_at(w: u8, r: u8, x: u8, t: u8, p: u8) -> bool
     ensures { λ res. ⌜ res ≡ ((eqb w t && ltb t r) && eqb x p) ⌝ }
 {
-    (w as usize == t) & (t < r as usize) & (x == p)
+    (w == t) & (t < r) & (x == p)
 }
 
 // Whether one of the links holds position `p` of task `t`.
@@ -30,7 +30,7 @@ fn held(
     reader: &[u8; LINKS],
     pointer: &[u8; LINKS],
     links: usize,
-    t: usize,
+    t: u8,
     p: u8,
 ) -> bool
     requires { ⌜ links ≤ base .links ⌝ }
@@ -51,7 +51,7 @@ fn is_taken(
     reader: &[u8; LINKS],
     pointer: &[u8; LINKS],
     links: usize,
-    t: usize,
+    t: u8,
     x: u8,
     p: u8,
 ) -> bool
@@ -67,7 +67,7 @@ fn lowest_free(
     reader: &[u8; LINKS],
     pointer: &[u8; LINKS],
     links: usize,
-    t: usize,
+    t: u8,
     x: u8,
 ) -> u8
     requires { ⌜ links ≤ base .links ⌝ }
@@ -84,54 +84,59 @@ fn lowest_free(
     p
 }
 
-// The writers' part, first half: each task in the set keeps its newest as its previous.
-fn set_previous(set: u32, tasks: usize, newest: &[u8; TASKS], previous: &mut [u8; TASKS])
-    requires { ⌜ tasks ≤ base .tasks ⌝ }
-    ensures { λ _. ⌜ now (previous .exit) ≡ upto (previousAt set (at (now (newest .entry)))) tasks (now (previous .entry)) ⌝ }
-{
-    let mut t = 0;
-    while t < tasks {
-        previous[t] = choose(set, t, newest[t], previous[t]);
-        t += 1;
-    }
-}
-
-// What becomes of the newest position `x` of task `t`.
-fn newest_at(
+// The writers' part for task `t`, where it is in the set: its newest position becomes its previous, its lowest free one its newest,
+// and it is waiting.
+fn move_task(
     set: u32,
+    t: usize,
+    links: usize,
     writer: &[u8; LINKS],
     reader: &[u8; LINKS],
     pointer: &[u8; LINKS],
-    links: usize,
-    t: usize,
-    x: u8,
-) -> u8
-    requires { ⌜ links ≤ base .links ⌝ }
-    ensures { λ r. ⌜ r ≡ newestAt ltb set (at (now (writer .entry))) (at (now (reader .entry))) (at (now (pointer .entry))) links t x ⌝ }
+    phase: &mut [u8; TASKS],
+    newest: &mut [u8; TASKS],
+    previous: &mut [u8; TASKS],
+)
+    requires { ⌜ (t < base .tasks) × (links ≤ base .links) ⌝ }
+    ensures { λ _. ⌜ Moves set t links (now (writer .entry)) (now (reader .entry)) (now (pointer .entry)) (now (phase .entry)) (now (newest .entry)) (now (previous .entry)) (now (phase .exit)) (now (newest .exit)) (now (previous .exit)) ⌝ }
 {
-    if has(set, t) {
-        lowest_free(writer, reader, pointer, links, t, x)
-    } else {
-        x
+    if !has(set, t) {
+        return;
     }
+    let x = newest[t];
+    previous[t] = x;
+    newest[t] = lowest_free(writer, reader, pointer, links, t as u8, x);
+    phase[t] = decide(0, phase[t]);
 }
 
-// The writers' part, second half: the newest of each task in the set becomes its lowest free position.
-fn set_newest(
+// The writers' part: each task of the set moves.
+fn move_tasks(
     set: u32,
     tasks: usize,
     links: usize,
     writer: &[u8; LINKS],
     reader: &[u8; LINKS],
     pointer: &[u8; LINKS],
+    phase: &mut [u8; TASKS],
     newest: &mut [u8; TASKS],
+    previous: &mut [u8; TASKS],
 )
     requires { ⌜ (tasks ≤ base .tasks) × (links ≤ base .links) ⌝ }
-    ensures { λ _. ⌜ now (newest .exit) ≡ upto (newestAt ltb set (at (now (writer .entry))) (at (now (reader .entry))) (at (now (pointer .entry))) links) tasks (now (newest .entry)) ⌝ }
+    ensures { λ _. ⌜ Moved set tasks links (now (writer .entry)) (now (reader .entry)) (now (pointer .entry)) (now (phase .entry)) (now (newest .entry)) (now (previous .entry)) (now (phase .exit)) (now (newest .exit)) (now (previous .exit)) ⌝ }
 {
     let mut t = 0;
     while t < tasks {
-        newest[t] = newest_at(set, writer, reader, pointer, links, t, newest[t]);
+        move_task(
+            set,
+            t,
+            links,
+            writer,
+            reader,
+            pointer,
+            phase,
+            newest,
+            previous,
+        );
         t += 1;
     }
 }
@@ -148,8 +153,11 @@ fn pointer_at(
 ) -> u8
     ensures { λ res. ⌜ res ≡ aimed set w r k (at (now (newest .entry))) (at (now (previous .entry))) x ⌝ }
 {
-    let seen = pick(k == 1, at(previous, w as usize), at(newest, w as usize));
-    choose(set, r as usize, seen, x)
+    if has(set, r as usize) {
+        pick(k == 1, at(previous, w as usize), at(newest, w as usize))
+    } else {
+        x
+    }
 }
 
 // The readers' part: the pointers of the links whose reader is in the set.
@@ -181,26 +189,7 @@ fn set_pointers(
     }
 }
 
-// What becomes of the phase `x` of task `t`.
-fn phase_at(set: u32, t: usize, x: u8) -> u8
-    ensures { λ r. ⌜ r ≡ phaseAt set t x ⌝ }
-{
-    choose(set, t, decide(0, x), x)
-}
-
-// All tasks in the set are waiting.
-fn set_phases(set: u32, tasks: usize, phase: &mut [u8; TASKS])
-    requires { ⌜ tasks ≤ base .tasks ⌝ }
-    ensures { λ _. ⌜ now (phase .exit) ≡ upto (phaseAt set) tasks (now (phase .entry)) ⌝ }
-{
-    let mut t = 0;
-    while t < tasks {
-        phase[t] = phase_at(set, t, phase[t]);
-        t += 1;
-    }
-}
-
-// An arrival that is allowed. The order matters: previous is taken from newest before that moves, and the readers come after the writers.
+// An arrival that is allowed. The order matters: the readers' part comes after the writers'. Counts above the room are taken as the room.
 pub fn arrive(
     set: u32,
     tasks: usize,
@@ -213,11 +202,19 @@ pub fn arrive(
     previous: &mut [u8; TASKS],
     pointer: &mut [u8; LINKS],
 )
-    requires { ⌜ (tasks ≤ base .tasks) × (links ≤ base .links) ⌝ }
-    ensures { λ _. ⌜ Arrives set tasks links (now (writer .entry)) (now (reader .entry)) (now (kind .entry)) (now (phase .entry)) (now (newest .entry)) (now (previous .entry)) (now (pointer .entry)) (now (phase .exit)) (now (newest .exit)) (now (previous .exit)) (now (pointer .exit)) ⌝ }
+    ensures { λ _. ⌜ Arrives set (min tasks (base .tasks)) (min links (base .links)) (now (writer .entry)) (now (reader .entry)) (now (kind .entry)) (now (phase .entry)) (now (newest .entry)) (now (previous .entry)) (now (pointer .entry)) (now (phase .exit)) (now (newest .exit)) (now (previous .exit)) (now (pointer .exit)) ⌝ }
 {
-    set_previous(set, tasks, newest, previous);
-    set_newest(set, tasks, links, writer, reader, pointer, newest);
-    set_pointers(set, links, writer, reader, kind, newest, previous, pointer);
-    set_phases(set, tasks, phase);
+    let n = few(links, LINKS);
+    move_tasks(
+        set,
+        few(tasks, TASKS),
+        n,
+        writer,
+        reader,
+        pointer,
+        phase,
+        newest,
+        previous,
+    );
+    set_pointers(set, n, writer, reader, kind, newest, previous, pointer);
 }

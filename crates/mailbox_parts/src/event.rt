@@ -1,6 +1,6 @@
-// One event of any kind on the lent parts of a state: judged, and done.
+// One event of any kind on the lent parts of a state: judged, and done. Counts above the room are taken as the room.
 ghost use mathlib.Core.Path.{_≡_};
-ghost use Prim.Native.Nat.{_≤_};
+ghost use Prim.Native.Nat.{min};
 ghost use lib.Dec.{ltb};
 ghost use Rattle.protocol_state.specs.Saved.{at, base};
 ghost use Rattle.protocol_state.specs.Judge.{judgedEvent};
@@ -28,8 +28,7 @@ pub enum Event {
 
 // The refusal that an event earns on a sound state, 0 for none.
 pub fn judge(e: Event, tasks: usize, links: usize, reader: &[u8; LINKS], phase: &[u8; TASKS]) -> u8
-    requires { ⌜ (tasks ≤ base .tasks) × (links ≤ base .links) ⌝ }
-    ensures { λ r. ⌜ r ≡ judgedEvent ltb (plain e) tasks links (at (now (reader .entry))) (at (now (phase .entry))) ⌝ }
+    ensures { λ r. ⌜ r ≡ judgedEvent ltb (plain e) (min tasks (base .tasks)) (min links (base .links)) (at (now (reader .entry))) (at (now (phase .entry))) ⌝ }
 {
     match e {
         Event::Arrival(set) => judge_arrival(set, tasks, phase),
@@ -65,8 +64,7 @@ pub fn do_event(
     cells: &mut [u32; CELLS],
     pointer: &mut [u8; LINKS],
 )
-    requires { ⌜ (tasks ≤ base .tasks) × (links ≤ base .links) ⌝ }
-    ensures { λ _. ⌜ Becomes e tasks links (now (writer .entry)) (now (reader .entry)) (now (kind .entry)) (now (phase .entry)) (now (newest .entry)) (now (previous .entry)) (now (cells .entry)) (now (pointer .entry)) (now (phase .exit)) (now (newest .exit)) (now (previous .exit)) (now (cells .exit)) (now (pointer .exit)) ⌝ }
+    ensures { λ _. ⌜ Becomes e (min tasks (base .tasks)) (min links (base .links)) (now (writer .entry)) (now (reader .entry)) (now (kind .entry)) (now (phase .entry)) (now (newest .entry)) (now (previous .entry)) (now (cells .entry)) (now (pointer .entry)) (now (phase .exit)) (now (newest .exit)) (now (previous .exit)) (now (cells .exit)) (now (pointer .exit)) ⌝ }
 {
     match e {
         Event::Arrival(set) => arrive(

@@ -1,6 +1,6 @@
 // What a start, a read and a finish do.
 ghost use mathlib.Core.Path.{_≡_};
-ghost use Prim.Native.Nat.{_≤_};
+ghost use Prim.Native.Nat.{_≤_, min};
 ghost use lib.Dec.{ltb};
 ghost use Rattle.lists.specs.Lists.{upto};
 ghost use Rattle.protocol_state.specs.Saved.{at, base};
@@ -14,6 +14,7 @@ use crate::numbers::at;
 use crate::numbers::at_link;
 use crate::numbers::cell_at;
 use crate::numbers::cell_of;
+use crate::numbers::few;
 use crate::numbers::pick;
 use crate::numbers::put;
 use crate::numbers::put_number;
@@ -59,7 +60,7 @@ fn free_pointers(
     }
 }
 
-// A finish that is allowed: the value goes to the newest position.
+// A finish that is allowed: the value goes to the newest position. A count above the room is taken as the room.
 pub fn finish(
     t: u8,
     v: u32,
@@ -71,10 +72,9 @@ pub fn finish(
     cells: &mut [u32; CELLS],
     pointer: &mut [u8; LINKS],
 )
-    requires { ⌜ links ≤ base .links ⌝ }
-    ensures { λ _. ⌜ Finishes t v links (now (writer .entry)) (now (reader .entry)) (now (newest .entry)) (now (phase .entry)) (now (cells .entry)) (now (pointer .entry)) (now (phase .exit)) (now (cells .exit)) (now (pointer .exit)) ⌝ }
+    ensures { λ _. ⌜ Finishes t v (min links (base .links)) (now (writer .entry)) (now (reader .entry)) (now (newest .entry)) (now (phase .entry)) (now (cells .entry)) (now (pointer .entry)) (now (phase .exit)) (now (cells .exit)) (now (pointer .exit)) ⌝ }
 {
     put_number(cells, cell_of(t, at(newest, t as usize)), v);
-    free_pointers(t, links, writer, reader, pointer);
+    free_pointers(t, few(links, LINKS), writer, reader, pointer);
     advance(3, t, phase);
 }

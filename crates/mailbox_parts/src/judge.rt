@@ -1,7 +1,7 @@
-// The refusals 12 to 16 of a sound state, tried in rising order; 0 is none.
+// The refusals 12 to 16 of a sound state, tried in rising order; 0 is none. Counts above the room are taken as the room.
 ghost use mathlib.Core.Path.{_≡_};
 ghost use mathlib.Core.Bool.{_||_, not};
-ghost use Prim.Native.Nat.{_≤_};
+ghost use Prim.Native.Nat.{_≤_, min};
 ghost use lib.Dec.{eqb, ltb};
 ghost use Rattle.lists.specs.Lists.{every, some};
 ghost use Rattle.protocol.specs.Event.{has};
@@ -12,6 +12,7 @@ ghost use Rattle.mailbox_parts.specs.Doing.{activeAt};
 use crate::decision::decide;
 use crate::numbers::LINKS;
 use crate::numbers::TASKS;
+use crate::numbers::few;
 use crate::numbers::has;
 use crate::numbers::pick;
 
@@ -19,7 +20,11 @@ use crate::numbers::pick;
 fn may_arrive(set: u32, t: usize, phase: u8) -> bool
     ensures { λ r. ⌜ r ≡ (not (has set t) || allows (decided 0 phase)) ⌝ }
 {
-    !has(set, t) | (decide(0, phase) < 12)
+    if has(set, t) {
+        decide(0, phase) < 12
+    } else {
+        true
+    }
 }
 
 // Whether each task of the set may arrive.
@@ -38,11 +43,11 @@ fn all_may(set: u32, tasks: usize, phase: &[u8; TASKS]) -> bool
 
 // The refusal of an arrival, 0 for none: 12 for the empty set and for a task that is none of the table's.
 pub fn judge_arrival(set: u32, tasks: usize, phase: &[u8; TASKS]) -> u8
-    requires { ⌜ tasks ≤ base .tasks ⌝ }
-    ensures { λ r. ⌜ r ≡ judgedArrival set tasks (at (now (phase .entry))) ⌝ }
+    ensures { λ r. ⌜ r ≡ judgedArrival set (min tasks (base .tasks)) (at (now (phase .entry))) ⌝ }
 {
-    let busy = pick(all_may(set, tasks, phase), 0, 13);
-    pick((set == 0) | (set >> tasks != 0), 12, busy)
+    let n = few(tasks, TASKS);
+    let busy = pick(all_may(set, n, phase), 0, 13);
+    pick((set == 0) | (set >> n != 0), 12, busy)
 }
 
 // Whether a task with this phase is unfinished.
@@ -68,11 +73,10 @@ fn some_before(t: usize, phase: &[u8; TASKS]) -> bool
 
 // The refusal of a start, a read or a finish by task `t`, 0 for none.
 pub fn judge_task(kind: usize, t: u8, tasks: usize, phase: &[u8; TASKS]) -> u8
-    requires { ⌜ tasks ≤ base .tasks ⌝ }
-    ensures { λ r. ⌜ r ≡ judgedTask ltb kind t tasks (at (now (phase .entry))) ⌝ }
+    ensures { λ r. ⌜ r ≡ judgedTask ltb kind t (min tasks (base .tasks)) (at (now (phase .entry))) ⌝ }
 {
     let i = t as usize;
-    if tasks <= i {
+    if few(tasks, TASKS) <= i {
         return 12;
     }
     let next = decide(kind, phase[i]);
@@ -88,11 +92,10 @@ pub fn judge_read(
     reader: &[u8; LINKS],
     phase: &[u8; TASKS],
 ) -> u8
-    requires { ⌜ (tasks ≤ base .tasks) × (links ≤ base .links) ⌝ }
-    ensures { λ r. ⌜ r ≡ judgedRead ltb l tasks links (at (now (reader .entry))) (at (now (phase .entry))) ⌝ }
+    ensures { λ r. ⌜ r ≡ judgedRead ltb l (min tasks (base .tasks)) (min links (base .links)) (at (now (reader .entry))) (at (now (phase .entry))) ⌝ }
 {
     let i = l as usize;
-    if links <= i {
+    if few(links, LINKS) <= i {
         return 12;
     }
     judge_task(2, reader[i], tasks, phase)

@@ -1,15 +1,17 @@
 // Numbers, and what stands in lent arrays of them.
 ghost use mathlib.Core.Path.{_≡_};
 ghost use mathlib.Core.Bool.{cond};
-ghost use Prim.Native.Nat.{_+_, _-_, _*_};
+ghost use Prim.Native.Nat.{_+_, _-_, _*_, min};
 ghost use lib.ListN.{set};
 ghost use Rattle.protocol.specs.Event.{has};
 ghost use Rattle.protocol_state.specs.Saved.{at, cellOf};
 
-// Room for so many tasks and links.
+// At most so many tasks, links and, in a recording, events.
 pub const TASKS: usize = 16;
 
 pub const LINKS: usize = 32;
+
+pub const EVENTS: usize = 10000;
 
 // A task has at most eight links to readers behind, and two positions more.
 pub const POSITIONS: usize = 10;
@@ -20,7 +22,14 @@ pub const CELLS: usize = TASKS * POSITIONS;
 // The bits of a set.
 const BITS: usize = 32;
 
-// `x` or `y`: one value and no branch.
+// A count, no more than there is room for.
+pub fn few(n: usize, room: usize) -> usize
+    ensures { λ r. ⌜ r ≡ min n room ⌝ }
+{
+    if n < room { n } else { room }
+}
+
+// `x` or `y`.
 pub fn pick(b: bool, x: u8, y: u8) -> u8
     ensures { λ r. ⌜ r ≡ cond b x y ⌝ }
 {
@@ -86,11 +95,4 @@ pub fn has(set: u32, t: usize) -> bool
     ensures { λ r. ⌜ r ≡ has set t ⌝ }
 {
     if t < BITS { (set >> t) % 2 == 1 } else { false }
-}
-
-// `x` where task `t` is in the set, else `y`.
-pub fn choose(set: u32, t: usize, x: u8, y: u8) -> u8
-    ensures { λ r. ⌜ r ≡ cond (has set t) x y ⌝ }
-{
-    pick(has(set, t), x, y)
 }

@@ -4,6 +4,9 @@ use borrow.Author.Needs.{needs}
 use Rattle.mailbox_checks.proofs.table.fault_after.Statement.{statement}
 use Rattle.mailbox_checks.proofs.table.fault_after.Tie as tie
 
+few-requires : tie.Need-few-requires
+few-requires c κs = search needs
+
 has-pair-requires : tie.Need-has-pair-requires
 has-pair-requires c κs = search needs
 
@@ -14,8 +17,8 @@ fault-of-requires : tie.Need-fault-of-requires
 fault-of-requires c κs = search needs
 
 returns : tie.Need-returns
-returns c = rw (c .fault-of .ensures, c .before .count-behind .ensures .0, c .before .before .has-pair .ensures)
+returns c = rw (c .fault-of .ensures, c .before .count-behind .ensures .0, c .before .before .has-pair .ensures, c .before .before .before .few .ensures)
 
 pub fault-after-spec : {M : Type 1} → statement M
 fault-after-spec =
-    tie.close (tie.spec has-pair-requires count-behind-requires fault-of-requires returns)
+    tie.close (tie.spec few-requires has-pair-requires count-behind-requires fault-of-requires returns)

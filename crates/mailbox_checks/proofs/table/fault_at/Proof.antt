@@ -1,5 +1,9 @@
 -- `mailbox_checks::table::fault_at` meets its contract: what the call ensures of the link's three numbers.
 -- Assumes nothing.
+use Prim.Native.Nat.{_≤_}
+use native.Mathlib.Nat.{min-eq-left}
+use native.Mathlib.Omega.{arith}
+use Rattle.protocol_state.specs.Saved.{base}
 use Rattle.protocol_state.specs.Rules.{fault}
 use borrow.Author.Needs.{needs}
 use Rattle.mailbox_checks.proofs.table.fault_at.Statement.{statement}
@@ -19,7 +23,9 @@ fault-after-requires c κs = search needs
 
 returns : tie.Need-returns
 unfolding fault
-returns c = c .fault-after .ensures
+returns c =
+    let l : c .before .before .before .before .args .l ≤ base .links = omega (arith, c .before .before .before .before .pre) in
+    rw (min-eq-left l) at (c .fault-after .ensures)
 
 pub fault-at-spec : {M : Type 1} → statement M
 fault-at-spec =

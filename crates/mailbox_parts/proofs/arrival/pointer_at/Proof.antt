@@ -1,8 +1,11 @@
--- `mailbox_parts::arrival::pointer_at` meets its contract: what the four calls ensure, put together.
+-- `mailbox_parts::arrival::pointer_at` meets its contract: by whether the reader is in the set.
 -- Assumes nothing.
 use borrow.Author.Needs.{needs}
 use Rattle.mailbox_parts.proofs.arrival.pointer_at.Statement.{statement}
 use Rattle.mailbox_parts.proofs.arrival.pointer_at.Tie as tie
+
+has-requires : tie.Need-has-requires
+has-requires c κs = search needs
 
 at-requires : tie.Need-at-requires
 at-requires c κs = search needs
@@ -13,12 +16,19 @@ at-requires-2 c κs = search needs
 pick-requires : tie.Need-pick-requires
 pick-requires c κs = search needs
 
-choose-requires : tie.Need-choose-requires
-choose-requires c κs = search needs
-
 returns : tie.Need-returns
-returns c = rw (c .choose .ensures, c .before .pick .ensures, c .before .before .at2 .ensures, c .before .before .before .at .ensures)
+returns c =
+    rw (
+      ← c .before .before .before .before .has .ensures,
+      c .before .before .before .if1 .taken,
+      c .pick .ensures,
+      c .before .at2 .ensures,
+      c .before .before .at .ensures,
+    )
+
+returns-2 : tie.Need-returns-2
+returns-2 c = rw (← c .before .has .ensures, c .if1 .left)
 
 pub pointer-at-spec : {M : Type 1} → statement M
 pointer-at-spec =
-    tie.close (tie.spec at-requires at-requires-2 pick-requires choose-requires returns)
+    tie.close (tie.spec has-requires at-requires at-requires-2 pick-requires returns returns-2)

@@ -13,6 +13,9 @@ cell-of-requires c κs = search needs
 put-number-requires : tie.Need-put-number-requires
 put-number-requires c κs = search needs
 
+few-requires : tie.Need-few-requires
+few-requires c κs = search needs
+
 free-pointers-requires : tie.Need-free-pointers-requires
 free-pointers-requires c κs = search needs
 
@@ -24,11 +27,11 @@ returns c =
     record {
       cells =
           rw (
-            c .before .before .before .before .put-number .ensures,
-            c .before .before .before .before .before .cell-of .ensures,
-            c .before .before .before .before .before .before .at .ensures,
+            c .before .before .before .before .before .put-number .ensures,
+            c .before .before .before .before .before .before .cell-of .ensures,
+            c .before .before .before .before .before .before .before .at .ensures,
           );
-      pointer = c .before .before .free-pointers .ensures;
+      pointer = rw (← c .before .before .before .before .few .ensures) (c .before .before .free-pointers .ensures);
       phase = c .advance .ensures;
     }
 
@@ -39,6 +42,7 @@ finish-spec =
     at-requires
     cell-of-requires
     put-number-requires
+    few-requires
     free-pointers-requires
     advance-requires
     returns)

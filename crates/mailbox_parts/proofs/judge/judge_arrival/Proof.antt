@@ -5,6 +5,9 @@ use borrow.Author.Needs.{needs}
 use Rattle.mailbox_parts.proofs.judge.judge_arrival.Statement.{statement}
 use Rattle.mailbox_parts.proofs.judge.judge_arrival.Tie as tie
 
+few-requires : tie.Need-few-requires
+few-requires c κs = search needs
+
 all-may-requires : tie.Need-all-may-requires
 all-may-requires c κs = search needs
 
@@ -21,8 +24,9 @@ pick-requires-2 : tie.Need-pick-requires-2
 pick-requires-2 c κs = search needs
 
 returns : tie.Need-returns
-returns c = arrival-judged _ _ _ (c .before .before .all-may .ensures) (c .before .pick .ensures) (c .pick2 .ensures)
+returns c =
+    rw (← c .before .before .before .few .ensures) (arrival-judged _ _ _ (c .before .before .all-may .ensures) (c .before .pick .ensures) (c .pick2 .ensures))
 
 pub judge-arrival-spec : {M : Type 1} → statement M
 judge-arrival-spec =
-    tie.close (tie.spec all-may-requires pick-requires cast-pick shr-pick pick-requires-2 returns)
+    tie.close (tie.spec few-requires all-may-requires pick-requires cast-pick shr-pick pick-requires-2 returns)

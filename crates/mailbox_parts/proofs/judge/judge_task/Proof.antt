@@ -5,8 +5,11 @@ use borrow.Author.Needs.{needs}
 use Rattle.mailbox_parts.proofs.judge.judge_task.Statement.{statement}
 use Rattle.mailbox_parts.proofs.judge.judge_task.Tie as tie
 
+few-requires : tie.Need-few-requires
+few-requires c κs = search needs
+
 returns : tie.Need-returns
-returns c = judged-outside _ _ _ _ (c .if1 .taken)
+returns c = rw (← c .before .few .ensures) (judged-outside _ _ _ _ (c .if1 .taken))
 
 element-copy-out-decide : tie.Need-element-copy-out-decide
 element-copy-out-decide c = search needs
@@ -25,13 +28,15 @@ pick-requires-2 c κs = search needs
 
 returns-2 : tie.Need-returns-2
 returns-2 c =
-    judged-inside _ _ _ _ (c .before .before .before .before .before .if1 .left) (c .before .before .before .decide .ensures)
-    (c .before .before .some-before .ensures) (c .before .pick .ensures) (c .pick2 .ensures)
+    rw (← c .before .before .before .before .before .before .few .ensures)
+    (judged-inside _ _ _ _ (c .before .before .before .before .before .if1 .left) (c .before .before .before .decide .ensures)
+    (c .before .before .some-before .ensures) (c .before .pick .ensures) (c .pick2 .ensures))
 
 pub judge-task-spec : {M : Type 1} → statement M
 judge-task-spec =
     tie.close
     (tie.spec
+    few-requires
     returns
     element-copy-out-decide
     decide-requires

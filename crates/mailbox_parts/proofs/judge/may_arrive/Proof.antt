@@ -1,4 +1,4 @@
--- `mailbox_parts::judge::may_arrive` meets its contract: what the two calls ensure, put together.
+-- `mailbox_parts::judge::may_arrive` meets its contract: by whether the task is in the set.
 -- Assumes nothing.
 use borrow.Author.Needs.{needs}
 use Rattle.mailbox_parts.proofs.judge.may_arrive.Statement.{statement}
@@ -11,7 +11,10 @@ decide-requires : tie.Need-decide-requires
 decide-requires c κs = search needs
 
 returns : tie.Need-returns
-returns c = rw (c .decide .ensures, c .before .has .ensures)
+returns c = rw (← c .before .before .has .ensures, c .before .if1 .taken, c .decide .ensures)
+
+returns-2 : tie.Need-returns-2
+returns-2 c = rw (← c .before .has .ensures, c .if1 .left)
 
 pub may-arrive-spec : {M : Type 1} → statement M
-may-arrive-spec = tie.close (tie.spec has-requires decide-requires returns)
+may-arrive-spec = tie.close (tie.spec has-requires decide-requires returns returns-2)

@@ -3,7 +3,7 @@
 use mathlib.Core.Path.{refl, sym}
 use native.Mathlib.Omega.{arith}
 use Rattle.protocol.specs.Event.{has}
-use Rattle.mailbox_parts.proofs.Sets.{has-not}
+use Rattle.protocol.proofs.Schedule.{has-not}
 use borrow.Author.Needs.{needs}
 use Rattle.mailbox_parts.proofs.numbers.has.Statement.{statement}
 use Rattle.mailbox_parts.proofs.numbers.has.Tie as tie

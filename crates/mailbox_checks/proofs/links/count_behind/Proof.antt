@@ -1,0 +1,77 @@
+-- `mailbox_checks::links::count_behind` meets its contract: after l turns `c` counts those of the first l links, at most l.
+-- Assumes nothing.
+use mathlib.Core.Path.{_≡_}
+use Prim.Native.Nat.{_≤_, _-_}
+use native.Mathlib.Omega.{arith}
+use borrow.Author.Needs.{needs}
+use Rattle.lists.specs.Lists.{count}
+use Rattle.lists.proofs.Lists.{count-none, count-more, count-end, count-le}
+use Rattle.protocol.specs.Table.{toBehind}
+use lib.Dec.{ltb}
+use Rattle.protocol_state.specs.Saved.{at}
+use Rattle.mailbox_checks.proofs.links.count_behind.Statement.{statement}
+use Rattle.mailbox_checks.proofs.links.count_behind.Tie as tie
+
+abbrev Inv-loop : tie.InvT-loop
+Inv-loop writer reader n t c₀ l₀ c l =
+    (l ≤ n) × (c ≡ count (toBehind ltb (at writer) (at reader) t) l)
+
+abbrev μ-loop : tie.MeasureT-loop
+μ-loop writer reader n t c₀ l₀ c l = n - l
+
+loop-holds : tie.Need-loop-holds Inv-loop μ-loop
+loop-holds c = (omega arith, count-none _)
+
+element-copy-out-is-behind : tie.Need-element-copy-out-is-behind Inv-loop μ-loop
+element-copy-out-is-behind c = omega arith
+
+element-copy-out-is-behind-2 : tie.Need-element-copy-out-is-behind-2 Inv-loop μ-loop
+element-copy-out-is-behind-2 c = omega arith
+
+is-behind-requires : tie.Need-is-behind-requires Inv-loop μ-loop
+is-behind-requires c κs = search needs
+
+add-requires : tie.Need-add-requires Inv-loop μ-loop
+add-requires c κs =
+    let a = c .before .before .before .before .before .args in
+    omega (
+      arith,
+      count-le (toBehind ltb (at (a .writer .now)) (at (a .reader .now)) (a .t)) (c .before .before .before .before .loop .l),
+      c .before .before .before .before .loop .inv .1,
+    )
+
+add-l : tie.Need-add-l Inv-loop μ-loop
+add-l c = omega arith
+
+loop-less : tie.Need-loop-less Inv-loop μ-loop
+loop-less c = omega arith
+
+loop-again : tie.Need-loop-again Inv-loop μ-loop
+loop-again c =
+    let a = c .before .before .before .before .before .before .args in (
+      omega arith,
+      count-more (toBehind ltb (at (a .writer .now)) (at (a .reader .now)) (a .t)) _
+          (c .before .is-behind .ensures) (c .before .before .before .before .before .loop .inv .1) (c .add .ensures),
+    )
+
+returns : tie.Need-returns Inv-loop μ-loop
+returns c =
+    let a = c .before .before .args in
+    let e = count-end (toBehind ltb (at (a .writer .now)) (at (a .reader .now)) (a .t)) _ _ (c .before .loop .inv .1) (c .before .loop .inv .0) (c .loop-test .left) in
+    (e, omega (arith, count-le (toBehind ltb (at (a .writer .now)) (at (a .reader .now)) (a .t)) (c .before .loop .l), c .before .loop .inv .1))
+
+pub count-behind-spec : {M : Type 1} → statement M
+count-behind-spec =
+    tie.close
+    (tie.spec
+    Inv-loop
+    μ-loop
+    loop-holds
+    element-copy-out-is-behind
+    element-copy-out-is-behind-2
+    is-behind-requires
+    add-requires
+    add-l
+    loop-less
+    loop-again
+    returns)

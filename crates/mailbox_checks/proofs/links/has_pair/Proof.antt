@@ -1,0 +1,63 @@
+-- `mailbox_checks::links::has_pair` meets its contract: after l turns `found` says whether one of the first l links goes from `w` to `r`.
+-- Assumes nothing.
+use mathlib.Core.Path.{_≡_}
+use Prim.Native.Nat.{_≤_, _-_}
+use native.Mathlib.Omega.{arith}
+use borrow.Author.Needs.{needs}
+use Rattle.lists.specs.Lists.{some}
+use Rattle.lists.proofs.Lists.{some-none, some-more, some-end}
+use Rattle.protocol_state.specs.Rules.{joins}
+use Rattle.protocol_state.specs.Saved.{at}
+use Rattle.mailbox_checks.proofs.links.has_pair.Statement.{statement}
+use Rattle.mailbox_checks.proofs.links.has_pair.Tie as tie
+
+abbrev Inv-loop : tie.InvT-loop
+Inv-loop writer reader n w r found₀ l₀ found l =
+    (l ≤ n) × (found ≡ some (joins (at writer) (at reader) w r) l)
+
+abbrev μ-loop : tie.MeasureT-loop
+μ-loop writer reader n w r found₀ l₀ found l = n - l
+
+loop-holds : tie.Need-loop-holds Inv-loop μ-loop
+loop-holds c = (omega arith, some-none _)
+
+element-copy-out-is-pair : tie.Need-element-copy-out-is-pair Inv-loop μ-loop
+element-copy-out-is-pair c = omega arith
+
+element-copy-out-is-pair-2 : tie.Need-element-copy-out-is-pair-2 Inv-loop μ-loop
+element-copy-out-is-pair-2 c = omega arith
+
+is-pair-requires : tie.Need-is-pair-requires Inv-loop μ-loop
+is-pair-requires c κs = search needs
+
+add-l : tie.Need-add-l Inv-loop μ-loop
+add-l c = omega arith
+
+loop-less : tie.Need-loop-less Inv-loop μ-loop
+loop-less c = omega arith
+
+loop-again : tie.Need-loop-again Inv-loop μ-loop
+loop-again c =
+    let a = c .before .before .before .before .before .args in (
+      omega arith,
+      some-more (joins (at (a .writer .now)) (at (a .reader .now)) (a .w) (a .r)) _
+          (c .is-pair .ensures) (c .before .before .before .before .loop .inv .1),
+    )
+
+returns : tie.Need-returns Inv-loop μ-loop
+returns c = some-end _ _ _ (c .before .loop .inv .1) (c .before .loop .inv .0) (c .loop-test .left)
+
+pub has-pair-spec : {M : Type 1} → statement M
+has-pair-spec =
+    tie.close
+    (tie.spec
+    Inv-loop
+    μ-loop
+    loop-holds
+    element-copy-out-is-pair
+    element-copy-out-is-pair-2
+    is-pair-requires
+    add-l
+    loop-less
+    loop-again
+    returns)

@@ -1,0 +1,60 @@
+// What the first links of a table say of one link more, and of a task.
+ghost use mathlib.Core.Path.{_≡_};
+ghost use mathlib.Core.Bool.{_&&_, cond};
+ghost use Prim.Native.Nat.{_+_, _≤_, _<_};
+ghost use lib.Dec.{eqb, ltb};
+ghost use Rattle.lists.specs.Lists.{some};
+ghost use Rattle.protocol.specs.Table.{behinds};
+ghost use Rattle.protocol_state.specs.Saved.{at, base};
+ghost use Rattle.protocol_state.specs.Rules.{joins};
+use mailbox_parts::numbers::LINKS;
+
+// Whether a link from `w0` to `r0` goes from `w` to `r`.
+fn is_pair(w0: u8, r0: u8, w: u8, r: u8) -> bool
+    ensures { λ res. ⌜ res ≡ (eqb w0 w && eqb r0 r) ⌝ }
+{
+    (w0 == w) & (r0 == r)
+}
+
+// Whether one of the first `n` links goes from `w` to `r`.
+pub fn has_pair(writer: &[u8; LINKS], reader: &[u8; LINKS], n: usize, w: u8, r: u8) -> bool
+    requires { ⌜ n ≤ base .links ⌝ }
+    ensures { λ res. ⌜ res ≡ some (joins (at (now (writer .entry))) (at (now (reader .entry))) w r) n ⌝ }
+{
+    let mut found = false;
+    let mut l = 0;
+    while l < n {
+        found = is_pair(writer[l], reader[l], w, r) | found;
+        l += 1;
+    }
+    found
+}
+
+// Whether a link from `w` to `r` is one of task `t`'s to readers behind.
+fn is_behind(w: u8, r: u8, t: usize) -> bool
+    ensures { λ res. ⌜ res ≡ (eqb w t && ltb t r) ⌝ }
+{
+    (w as usize == t) & (t < r as usize)
+}
+
+// One more where the test holds. There are few links, so the sum fits.
+fn add(b: bool, c: usize) -> usize
+    requires { ⌜ c < base .links ⌝ }
+    ensures { λ r. ⌜ r ≡ cond b (c + 1) c ⌝ }
+{
+    if b { c + 1 } else { c }
+}
+
+// N: how many of the first `n` links are task `t`'s to readers behind.
+pub fn count_behind(writer: &[u8; LINKS], reader: &[u8; LINKS], n: usize, t: usize) -> usize
+    requires { ⌜ n ≤ base .links ⌝ }
+    ensures { λ r. ⌜ (r ≡ behinds ltb (at (now (writer .entry))) (at (now (reader .entry))) t n) × (r ≤ base .links) ⌝ }
+{
+    let mut c = 0;
+    let mut l = 0;
+    while l < n {
+        c = add(is_behind(writer[l], reader[l], t), c);
+        l += 1;
+    }
+    c
+}
