@@ -1,7 +1,7 @@
 -- What an answer with a table says: the protocol's positions and pointers, the zero-time numbers in the list, the counts of the accepted history.
 -- Assumes nothing.
 use mathlib.Core.Path.{_≡_, refl, ap, sym, _∙_}
-use mathlib.Core.Bool.{Bool, true}
+use mathlib.Core.Bool.{Bool}
 use mathlib.Core.List.{List, [], _∷_}
 use Prim.Native.Nat.{ℕ, _+_, _≤_, _<_}
 use native.Mathlib.Omega.{arith}
@@ -16,13 +16,12 @@ use Rattle.protocol.specs.Published.{Lowest, Run}
 use Rattle.protocol.specs.Instant.{Order, zeroRun, looked, theres}
 use Rattle.protocol_state.specs.Saved.{Size, Saved, table, boxes}
 use Rattle.protocol_state.specs.Rules.{Ranks}
-use Rattle.protocol_state.specs.Sound.{isSound}
-use Rattle.protocol_state.proofs.History.{reached-sound}
 use Rattle.protocol_state.proofs.Numbers.{reached-settled, reached-zero-run}
 use Rattle.protocol_state.proofs.Totals.{busy, reached-totals}
 use Rattle.recording_core.specs.Playing.{Playing}
 use Rattle.recording_core.specs.Promise.{placed}
-use Rattle.recording_core.proofs.Right.{Right, length-placed}
+use Rattle.recording_core.specs.Right.{Right}
+use Rattle.recording_core.proofs.Right.{length-placed}
 
 -- the list: places past the numbers are untouched
 pub placed-rest : (vs out : List ℕ) (k d : ℕ) → length vs ≤ k → getD (placed vs out) k d ≡ getD out k d
@@ -44,10 +43,6 @@ module _ {ahead : ℕ → ℕ → Bool} {size : Size} {q₀ : Saved} {out : List
   -- demand 2: every position, pointer and mailbox is the published protocol's, with the lowest free position
   pub answer-protocol : Run (table ahead q₀) (urgent (table ahead q₀)) (Lowest (table ahead q₀)) (boxes (q .state)) h
   answer-protocol = R .reached .run
-
-  -- the state is sound
-  pub answer-sound : isSound ahead size (q .state) ≡ true
-  answer-sound = reached-sound (R .reached)
 
   -- the counts are those of the accepted history
   pub answer-counts : q .counts ≡ counts (table ahead q₀) h

@@ -10,6 +10,7 @@ use native.Mathlib.Decide.{decLe}
 use borrow.Author.Tests.{eq-eqb, ne-eqb}
 use lib.Dec.{eqb}
 use Rattle.lists.specs.Lists.{sum, count}
+use Rattle.lists.proofs.Lists.{sum-count}
 use Rattle.protocol.specs.Event.{Event, arrival, start, read, finish, has}
 use Rattle.protocol.specs.Table.{Table}
 use Rattle.protocol.specs.History.{tick, arrivals, starts, finishes, reads, counts}
@@ -18,13 +19,7 @@ use Rattle.recording_core.specs.Playing.{noCounts, countedBy}
 
 -- a sum in which those that pass a test have one more
 sum-tick : (b : ℕ → Bool) (f : ℕ → ℕ) (n : ℕ) → sum (λ t. tick (b t) (f t)) n ≡ sum f n + count b n
-unfolding sum count
-sum-tick b f zero = refl
-sum-tick b f (suc n) = go (b n) (sum-tick b f n)
-  where
-    go : (c : Bool) → sum (λ t. tick (b t) (f t)) n ≡ sum f n + count b n → tick c (f n) + sum (λ t. tick (b t) (f t)) n ≡ f n + sum f n + cond c (count b n + 1) (count b n)
-    go true i = omega arith
-    go false i = omega arith
+sum-tick b f n = sum-count (λ t. tick (b t) (f t)) f b n (λ t. refl)
 
 count-above : (u n : ℕ) → n ≤ u → count (eqb u) n ≡ 0
 unfolding count

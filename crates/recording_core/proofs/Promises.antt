@@ -1,32 +1,37 @@
 -- Demand 2 for a whole recording: accepted exactly when there are a table, links and events whose encoding the bytes are, within every limit, every link rule kept,
 -- every event possible in its turn by history alone, and no more reads than the list has room.
 -- Assumes nothing.
-use mathlib.Core.Path.{_≡_, refl, ap}
+use mathlib.Core.Path.{_≡_, refl, ap, _∙_}
 use mathlib.Core.Logic.{_⊎_, inl, inr}
 use mathlib.Core.Bool.{Bool}
 use mathlib.Core.List.{List, [], _∷_}
-use Prim.Native.Nat.{ℕ, _≤_, _<_}
+use Prim.Native.Nat.{ℕ, _+_, _≤_, _<_}
 use lib.ListN.{length, take}
 use Rattle.protocol.specs.Event.{Event}
 use Rattle.protocol_state.specs.Saved.{at}
 use Rattle.protocol_state.specs.Rules.{Ranks, judgedTable}
 use Rattle.protocol_state.proofs.Rules.{obeys, no-fault}
 use Rattle.recording_format.specs.Number.{Bytes}
+use Rattle.recording_format.specs.Stands.{Stands}
+use Rattle.recording_format.specs.Format.{got, encodes, FitEach}
 use Rattle.recording_format.specs.Play.{Reply, reply, Allowed, Cut}
 use Rattle.recording_format.specs.Task.{anyDefault, andDefault}
 use Rattle.recording_format.specs.Link.{Link, listed}
-use Rattle.recording_format.specs.Event.{events}
-use Rattle.recording_format.specs.Limits.{Limits}
-use Rattle.recording_format.specs.Recording.{recording, throughE, stateAfter, Recorded}
+use Rattle.recording_format.specs.Section.{Faulty}
+use Rattle.recording_format.specs.Event.{eventAt, events}
+use Rattle.recording_format.specs.Limits.{Limits, eventLimit}
+use Rattle.recording_format.specs.Recording.{encodeRecording, recording, throughE, stateAfter, Recorded}
 use Rattle.recording_format.specs.Outcome.{TableTo, Outcome, taskCount, taskRecord, linkCount, linkRecord, eventCount, eventRecord, extraBytes, accepted}
 use Rattle.recording_format.proofs.Sizes.{tasks-within, within-tasks, links-within, within-links, events-within, within-events, tasks-fit, links-fit, events-fit}
 use Rattle.recording_format.proofs.LinkRules.{length-listed, allowed-no-fault, no-fault-allowed, allowed-judged, recorded-judged}
-use Rattle.recording_format.proofs.Outcomes.{recording-outcome}
+use Rattle.recording_format.proofs.Sections.{section-records, faulty-records}
 use Rattle.recording_format.proofs.Recordings.{accepted-recorded, recorded-accepted}
 use Rattle.recording_format.proofs.Cuts.{recorded-cut}
+use Rattle.recording_format.proofs.WholeRecords.{cut-as-whole}
 use Rattle.recording_core.specs.Playing.{Playing, coreOf, judgedIn, steppedIn}
-use Rattle.recording_core.specs.Promise.{past, freshTable, Genuine}
-use Rattle.recording_core.proofs.Right.{Right, right-fresh, right-finally, allowed-happens, happens-allowed}
+use Rattle.recording_core.specs.Promise.{past, freshTable, refusedBy, tableOf, Genuine}
+use Rattle.recording_core.specs.Right.{Right, WithTable}
+use Rattle.recording_core.proofs.Right.{refused-by, right-fresh, right-finally, allowed-happens, happens-allowed}
 
 -- any default is allowed
 any-allowed : (qs ds : List ℕ) → Allowed anyDefault andDefault qs ds
@@ -34,14 +39,18 @@ unfolding Allowed
 any-allowed qs [] = tt
 any-allowed qs (d ∷ ds) = (refl, any-allowed (andDefault qs d) ds)
 
+-- a table that earns no refusal
+abbrev Fine : (ℕ → ℕ → Bool) → Limits → List ℕ → List Link → Type 0
+Fine ahead most ds ls = judgedTable ahead (length ds) (at (listed ls .writer)) (at (listed ls .reader)) (at (listed ls .kind)) (most .size) (length (listed ls .writer)) ≡ 0
+
 module _ {ahead : ℕ → ℕ → Bool} (ranks : Ranks ahead) (most : Limits) (out : List ℕ) where
   -- a table whose links earn no refusal begins right
-  begins : (ds : List ℕ) (ls : List Link) → judgedTable ahead (length ds) (at (listed ls .writer)) (at (listed ls .reader)) (at (listed ls .kind)) (most .size) (length (listed ls .writer)) ≡ 0
+  begins : (ds : List ℕ) (ls : List Link) → Fine ahead most ds ls
       → Right ahead (most .size) (freshTable (most .size) ds ls) out [] (coreOf ahead (most .size) out .start ds (listed ls))
   begins ds ls ok = right-fresh ahead (most .size) (length ds) (length (listed ls .writer)) ds (listed ls .writer) (listed ls .reader) (listed ls .kind) out ok
 
   -- and events that are accepted leave it right
-  goes-on : (ds : List ℕ) (ls : List Link) (es : List (Event ℕ)) → judgedTable ahead (length ds) (at (listed ls .writer)) (at (listed ls .reader)) (at (listed ls .kind)) (most .size) (length (listed ls .writer)) ≡ 0
+  goes-on : (ds : List ℕ) (ls : List Link) (es : List (Event ℕ)) → Fine ahead most ds ls
       → Allowed (judgedIn ahead (most .size)) (steppedIn ahead (most .size)) (coreOf ahead (most .size) out .start ds (listed ls)) es
       → Right ahead (most .size) (freshTable (most .size) ds ls) out (past [] es) (stateAfter (coreOf ahead (most .size) out) ds ls es)
   goes-on ds ls es ok a = right-finally ranks es (begins ds ls ok) a
@@ -51,8 +60,7 @@ module _ {ahead : ℕ → ℕ → Bool} (ranks : Ranks ahead) (most : Limits) (o
     recorded-genuine : Recorded ahead most (coreOf ahead (most .size) out) s ds ls es → Genuine ahead most s out ds ls es
     recorded-genuine r =
         let n = length-listed ls in
-        let ok : judgedTable ahead (length ds) (at (listed ls .writer)) (at (listed ls .reader)) (at (listed ls .kind)) (most .size) (length (listed ls .writer)) ≡ 0 =
-        rw n (recorded-judged ahead most (coreOf ahead (most .size) out) s ds ls es r) in
+        let ok : Fine ahead most ds ls = rw n (recorded-judged ahead most (coreOf ahead (most .size) out) s ds ls es r) in
         record {
           bytes = r .bytes;
           fits = (r .tasked .fits, (r .linked .fits, r .played .fits));
@@ -64,24 +72,6 @@ module _ {ahead : ℕ → ℕ → Bool} (ranks : Ranks ahead) (most : Limits) (o
           room = goes-on ds ls es ok (r .played .allowed) .room;
         }
 
-    -- and the other way round, where each limit fits the bytes of its count
-    genuine-recorded : most .size .tasks < 256 → most .size .links < 256 → most .events < 65536 → Genuine ahead most s out ds ls es
-        → Recorded ahead most (coreOf ahead (most .size) out) s ds ls es
-    genuine-recorded wt wl we g =
-        let n = length-listed ls in
-        let t = within-tasks most (length ds) (g .few-tasks .0) (g .few-tasks .1) in
-        let k = within-links most (length ls) (g .few-links) in
-        let v = within-events most (length es) (g .few-events) in
-        let a = no-fault-allowed ahead (length ds) ls (λ l h. no-fault ahead (length ds) (at (listed ls .writer)) (at (listed ls .reader)) (at (listed ls .kind)) l (g .rules l (rw n at h))) in
-        let ok : judgedTable ahead (length ds) (at (listed ls .writer)) (at (listed ls .reader)) (at (listed ls .kind)) (most .size) (length (listed ls .writer)) ≡ 0 =
-        allowed-judged ahead (length ds) most ls t (rw n k) a in
-        record {
-          bytes = g .bytes;
-          tasked = record { counted = tasks-fit most (length ds) wt t; few = t; fits = g .fits .0; allowed = any-allowed [] ds };
-          linked = record { counted = links-fit most (length ls) wl k; few = k; fits = g .fits .1 .0; allowed = a };
-          played = record { counted = events-fit most (length es) we v; few = v; fits = g .fits .1 .1; allowed = happens-allowed ranks es (begins ds ls ok) (g .happens) (g .room) };
-        }
-
   -- demand 2: accepted only if genuine
   pub accepted-genuine : (s : List ℕ) → Bytes s → recording ahead most (coreOf ahead (most .size) out) s .refusal ≡ 0
       → (ds : List ℕ) × ((ls : List Link) × ((es : List (Event ℕ)) × Genuine ahead most s out ds ls es))
@@ -89,55 +79,75 @@ module _ {ahead : ℕ → ℕ → Bool} (ranks : Ranks ahead) (most : Limits) (o
       let r = accepted-recorded ahead most (coreOf ahead (most .size) out) s b z in
       (r .0, (r .1 .0, (r .1 .1 .0, recorded-genuine (r .1 .1 .1))))
 
-  -- demand 2: and always then; the place is the length, and the state, the counts and the list are those of its events
-  pub genuine-accepted : most .size .tasks < 256 → most .size .links < 256 → most .events < 65536 → (s ds : List ℕ) (ls : List Link) (es : List (Event ℕ)) → Genuine ahead most s out ds ls es
-      → (q : Playing) × (recording ahead most (coreOf ahead (most .size) out) s ≡ reply 0 (length s) q) × Right ahead (most .size) (freshTable (most .size) ds ls) out (past [] es) q
-  genuine-accepted wt wl we s ds ls es g =
-      let r = genuine-recorded wt wl we g in
-      let ok : judgedTable ahead (length ds) (at (listed ls .writer)) (at (listed ls .reader)) (at (listed ls .kind)) (most .size) (length (listed ls .writer)) ≡ 0 =
-      rw (length-listed ls) (recorded-judged ahead most (coreOf ahead (most .size) out) s ds ls es r) in (
-        stateAfter (coreOf ahead (most .size) out) ds ls es,
-        recorded-accepted ahead most (coreOf ahead (most .size) out) s ds ls es r,
-        goes-on ds ls es ok (r .played .allowed),
-      )
+  -- and the other way round, where each limit fits the bytes of its count
+  module _ (wt : most .size .tasks < 256) (wl : most .size .links < 256) (we : most .events < 65536) {s ds : List ℕ} {ls : List Link} {es : List (Event ℕ)} (g : Genuine ahead most s out ds ls es) where
+    genuine-recorded : Recorded ahead most (coreOf ahead (most .size) out) s ds ls es
+    genuine-recorded =
+        let n = length-listed ls in
+        let t = within-tasks most (length ds) (g .few-tasks .0) (g .few-tasks .1) in
+        let k = within-links most (length ls) (g .few-links) in
+        let v = within-events most (length es) (g .few-events) in
+        let a = no-fault-allowed ahead (length ds) ls (λ l h. no-fault ahead (length ds) (at (listed ls .writer)) (at (listed ls .reader)) (at (listed ls .kind)) l (g .rules l (rw n at h))) in
+        let ok : Fine ahead most ds ls = allowed-judged ahead (length ds) most ls t (rw n k) a in
+        record {
+          bytes = g .bytes;
+          tasked = record { counted = tasks-fit most (length ds) wt t; few = t; fits = g .fits .0; allowed = any-allowed [] ds };
+          linked = record { counted = links-fit most (length ls) wl k; few = k; fits = g .fits .1 .0; allowed = a };
+          played = record { counted = events-fit most (length es) we v; few = v; fits = g .fits .1 .1; allowed = happens-allowed ranks es (begins ds ls ok) (g .happens) (g .room) };
+        }
 
-  -- the power cut: of an accepted recording only the first m bytes are kept, at least through E. The answer is that of its whole records, with 1 at the first that isn't whole
-  pub power-cut : most .size .tasks < 256 → most .size .links < 256 → most .events < 65536 → (s ds : List ℕ) (ls : List Link) (es : List (Event ℕ)) → Genuine ahead most s out ds ls es
-      → (m : ℕ) → throughE ds ls ≤ m → m < length s
-      → Cut events (steppedIn ahead (most .size)) (coreOf ahead (most .size) out .start ds (listed ls)) es (throughE ds ls) m (recording ahead most (coreOf ahead (most .size) out) (take m s))
-  power-cut wt wl we s ds ls es g m h l = recorded-cut ahead most (coreOf ahead (most .size) out) s ds ls es (genuine-recorded wt wl we g) m h l
+    -- demand 2: always accepted if genuine; the place is the length, and the state, the counts and the list are those of its events
+    pub genuine-accepted : (q : Playing) × (recording ahead most (coreOf ahead (most .size) out) s ≡ reply 0 (length s) q) × Right ahead (most .size) (freshTable (most .size) ds ls) out (past [] es) q
+    genuine-accepted =
+        let ok : Fine ahead most ds ls = rw (length-listed ls) (recorded-judged ahead most (coreOf ahead (most .size) out) s ds ls es genuine-recorded) in (
+          stateAfter (coreOf ahead (most .size) out) ds ls es,
+          recorded-accepted ahead most (coreOf ahead (most .size) out) s ds ls es genuine-recorded,
+          goes-on ds ls es ok (genuine-recorded .played .allowed),
+        )
 
-  -- an answer with a table: what stands in it is right, after the events that were accepted
-  pub record WithTable (s : List ℕ) (x : Reply Playing) : Type 0 where
-    pub tasks : List ℕ
-    pub links : List Link
-    pub events : List (Event ℕ)
-    pub place : ℕ
-    pub stands : TableTo ahead most s tasks links place
-    pub right : Right ahead (most .size) (freshTable (most .size) tasks links) out (past [] events) (x .state)
+    -- the power cut: of an accepted recording only the first m bytes are kept, at least through E. The answer has 1 at the first record that isn't whole,
+    -- and the state after the whole records
+    pub power-cut : (m : ℕ) → throughE ds ls ≤ m → m < length s
+        → Cut events (steppedIn ahead (most .size)) (coreOf ahead (most .size) out .start ds (listed ls)) es (throughE ds ls) m (recording ahead most (coreOf ahead (most .size) out) (take m s))
+    power-cut m h l = recorded-cut ahead most (coreOf ahead (most .size) out) s ds ls es genuine-recorded m h l
 
-  table-ok : {s ds : List ℕ} {ls : List Link} {m : ℕ} → TableTo ahead most s ds ls m
-      → judgedTable ahead (length ds) (at (listed ls .writer)) (at (listed ls .reader)) (at (listed ls .kind)) (most .size) (length (listed ls .writer)) ≡ 0
+    -- "The answer is that of its whole records (state, counts, list)": the recording of those records alone is accepted, at the place and with the state
+    -- of the answer x to the cut
+    pub cut-whole :
+        (m : ℕ) {x : Reply Playing} (c : Cut events (steppedIn ahead (most .size)) (coreOf ahead (most .size) out .start ds (listed ls)) es (throughE ds ls) m x) →
+        recording ahead most (coreOf ahead (most .size) out) (encodeRecording ds ls (c .whole)) ≡ reply 0 (x .place) (x .state)
+    cut-whole m c = cut-as-whole ahead most (coreOf ahead (most .size) out) s ds ls es genuine-recorded m c
+
+  table-ok : {s ds : List ℕ} {ls : List Link} {m : ℕ} → TableTo ahead most s ds ls m → Fine ahead most ds ls
   table-ok {ds = ds} {ls = ls} t = allowed-judged ahead (length ds) most ls (t .tasked .kept .few) (rw (length-listed ls) (t .linked .kept .few)) (t .linked .kept .allowed)
 
   -- every answer is one with a table, or the single task's with nothing counted and the list untouched
-  pub answers-right : (s : List ℕ) → Bytes s → let x : Reply Playing = recording ahead most (coreOf ahead (most .size) out) s in (x .state ≡ coreOf ahead (most .size) out .single) ⊎ WithTable s x
-  answers-right s b = go (recording ahead most (coreOf ahead (most .size) out) s) (recording-outcome ahead most (coreOf ahead (most .size) out) s b)
+  pub answers-right : (s : List ℕ) {x : Reply Playing} → Outcome ahead most (coreOf ahead (most .size) out) s x → (x .state ≡ coreOf ahead (most .size) out .single) ⊎ WithTable ahead most out s x
+  answers-right s {x} o = go o
     where
-      single : {x : Reply Playing} {r p : ℕ} → x ≡ reply r p (coreOf ahead (most .size) out .single) → (x .state ≡ coreOf ahead (most .size) out .single) ⊎ WithTable s x
+      single : {r p : ℕ} → x ≡ reply r p (coreOf ahead (most .size) out .single) → (x .state ≡ coreOf ahead (most .size) out .single) ⊎ WithTable ahead most out s x
       single e = inl (ap (λ (y : Reply Playing). y .state) e)
 
-      table : {x : Reply Playing} {r p : ℕ} (ds : List ℕ) (ls : List Link) (m : ℕ) (es : List (Event ℕ)) → TableTo ahead most s ds ls m
+      table : {r p : ℕ} (ds : List ℕ) (ls : List Link) (m : ℕ) (es : List (Event ℕ)) → TableTo ahead most s ds ls m → FitEach events es → Stands s (m + 2) (encodes events es) p
           → Allowed (judgedIn ahead (most .size)) (steppedIn ahead (most .size)) (coreOf ahead (most .size) out .start ds (listed ls)) es
-          → x ≡ reply r p (stateAfter (coreOf ahead (most .size) out) ds ls es) → (x .state ≡ coreOf ahead (most .size) out .single) ⊎ WithTable s x
-      table ds ls m es t a e = inr (record { tasks = ds; links = ls; events = es; place = m; stands = t; right = rw e (goes-on ds ls es (table-ok t) a) })
+          → x ≡ reply r p (stateAfter (coreOf ahead (most .size) out) ds ls es) → (x .state ≡ coreOf ahead (most .size) out .single) ⊎ WithTable ahead most out s x
+      table ds ls m es t f b a e =
+          inr (rw e (record { tasks = ds; links = ls; happened = es; place = m; stands = t; fits = f; read = b; right = goes-on ds ls es (table-ok t) a }))
 
-      go : (x : Reply Playing) → Outcome ahead most (coreOf ahead (most .size) out) s x → (x .state ≡ coreOf ahead (most .size) out .single) ⊎ WithTable s x
-      go x (taskCount r n u e) = single e
-      go x (taskRecord ds r p n f e) = single e
-      go x (linkCount ds r p n t u e) = single e
-      go x (linkRecord ds m ls r p n t f e) = single e
-      go x (eventCount ds ls r p n t u e) = single e
-      go x (eventRecord ds ls m es r p n t f e) = table ds ls m es t (f .played .allowed) e
-      go x (extraBytes ds ls m es p t w h e) = table ds ls m es t (w .kept .allowed) e
-      go x (accepted ds ls m es t w e) = table ds ls m es t (w .kept .allowed) e
+      go : Outcome ahead most (coreOf ahead (most .size) out) s x → (x .state ≡ coreOf ahead (most .size) out .single) ⊎ WithTable ahead most out s x
+      go (taskCount r n u e) = single e
+      go (taskRecord ds r p n f e) = single e
+      go (linkCount ds r p n t u e) = single e
+      go (linkRecord ds m ls r p n t f e) = single e
+      go (eventCount ds ls r p n t u e) = single e
+      go (eventRecord ds ls m es r p n t f e) =
+          table ds ls m es t (f .played .fits) (faulty-records events (eventLimit most) (judgedIn ahead (most .size)) (steppedIn ahead (most .size)) f) (f .played .allowed) e
+      go (extraBytes ds ls m es p t w h e) = table ds ls m es t (w .kept .fits) (section-records events es (w .bytes)) (w .kept .allowed) e
+      go (accepted ds ls m es t w e) = table ds ls m es t (w .kept .fits) (section-records events es (w .bytes)) (w .kept .allowed) e
+
+  -- an event record that is refused, its bytes being there: by the table and the accepted events alone
+  pub event-refused :
+      {s ds : List ℕ} {ls : List Link} {m r p : ℕ} {es : List (Event ℕ)} → TableTo ahead most s ds ls m
+      → Faulty events (eventLimit most) (judgedIn ahead (most .size)) (steppedIn ahead (most .size)) s (coreOf ahead (most .size) out .start ds (listed ls)) m es r p
+      → {e : Event ℕ} {n : ℕ} → eventAt s p ≡ got e n → r ≡ refusedBy (tableOf ahead most ds ls) out (past [] es) e
+  event-refused {ds = ds} {ls = ls} {es = es} t f {e} u = f .fault ∙ rw u (refused-by (goes-on ds ls es (table-ok t) (f .played .allowed)) e)

@@ -26,7 +26,8 @@ use Rattle.protocol_state.proofs.History.{Reached, reached-sound, reached-refus
 use Rattle.protocol_state.proofs.Numbers.{reached-ideals}
 use Rattle.recording_format.specs.Play.{Allowed, finally}
 use Rattle.recording_core.specs.Playing.{Playing, noCounts, full, noRoom, listedBy, judgedIn, steppedIn}
-use Rattle.recording_core.specs.Promise.{past, Happens, placed}
+use Rattle.recording_core.specs.Promise.{past, Happens, placed, refusedBy}
+use Rattle.recording_core.specs.Right.{Right}
 use Rattle.recording_core.proofs.Counting.{counts-none, counts-next}
 
 -- as many ideal numbers as reads
@@ -69,20 +70,19 @@ both-zero j r e = go (eqb j 0) refl e
     go false i z = absurd (eqb-false j 0 i z)
 
 -- room for the number that an event may read
-room-left : (e : Event ℕ) (h : List (Event ℕ)) (list out : List ℕ) (n : ℕ) → n ≡ reads h → length list ≡ length out → reads h ≤ length out
-    → noRoom e (full list n) ≡ 0 → reads (e ∷ h) ≤ length out
+room-left : (e : Event ℕ) (h : List (Event ℕ)) (out : List ℕ) → reads h ≤ length out → noRoom e (full out (reads h)) ≡ 0 → reads (e ∷ h) ≤ length out
 unfolding reads
-room-left (arrival m) h list out n i l r z = r
-room-left (start u) h list out n i l r z = r
-room-left (read k) h list out n i l r z = let x = leb-false (length list) n (cond-zero (leb (length list) n) 18 0 (λ y. omega arith) z .0) in omega arith
-room-left (finish u v) h list out n i l r z = r
+room-left (arrival m) h out r z = r
+room-left (start u) h out r z = r
+room-left (read k) h out r z = let x = leb-false (length out) (reads h) (cond-zero (leb (length out) (reads h)) 18 0 (λ y. omega arith) z .0) in omega arith
+room-left (finish u v) h out r z = r
 
-room-enough : (e : Event ℕ) (h : List (Event ℕ)) (list out : List ℕ) (n : ℕ) → n ≡ reads h → length list ≡ length out → reads (e ∷ h) ≤ length out → noRoom e (full list n) ≡ 0
+room-enough : (e : Event ℕ) (h : List (Event ℕ)) (out : List ℕ) → reads (e ∷ h) ≤ length out → noRoom e (full out (reads h)) ≡ 0
 unfolding reads
-room-enough (arrival m) h list out n i l r = refl
-room-enough (start u) h list out n i l r = refl
-room-enough (read k) h list out n i l r = rw (lt-leb (length list) n (omega arith))
-room-enough (finish u v) h list out n i l r = refl
+room-enough (arrival m) h out r = refl
+room-enough (start u) h out r = refl
+room-enough (read k) h out r = rw (lt-leb (length out) (reads h) (omega arith))
+room-enough (finish u v) h out r = refl
 
 module _ {ahead : ℕ → ℕ → Bool} {size : Size} {q₀ : Saved} where
   -- an event that the core allows, as one more of a replay
@@ -90,13 +90,6 @@ module _ {ahead : ℕ → ℕ → Bool} {size : Size} {q₀ : Saved} where
       → after ahead size o e ≡ record { state = next ahead (o .state) e; history = e ∷ o .history; numbers = note e (valueOf (o .state) e) (o .numbers) }
   unfolding after
   after-next {o} r e z = rw (done (judgedOn ahead (o .state) e) (o .state) (next ahead (o .state) e) (valueOf (o .state) e) (reached-sound r) z)
-
--- what holds of the state q of a replay after the history h, with the lent list out
-pub record Right (ahead : ℕ → ℕ → Bool) (size : Size) (q₀ : Saved) (out : List ℕ) (h : List (Event ℕ)) (q : Playing) : Type 0 where
-  pub reached : Reached ahead size q₀ (record { state = q .state; history = h; numbers = ideals (table ahead q₀) h })
-  pub counts : q .counts ≡ counts (table ahead q₀) h
-  pub list : q .list ≡ placed (ideals (table ahead q₀) h) out
-  pub room : reads h ≤ length out
 
 module _ {ahead : ℕ → ℕ → Bool} {size : Size} {q₀ : Saved} {out : List ℕ} {h : List (Event ℕ)} {q : Playing} (R : Right ahead size q₀ out h q) where
   judged-is : (e : Event ℕ) → judgedOn ahead (q .state) e ≡ judged (table ahead q₀) (urgent (table ahead q₀)) h e
@@ -108,21 +101,21 @@ module _ {ahead : ℕ → ℕ → Bool} {size : Size} {q₀ : Saved} {out : List
   list-length : length (q .list) ≡ length out
   list-length = ap length (R .list) ∙ length-placed (ideals (table ahead q₀) h) out
 
-  -- an event is accepted only if it could happen and there is room
-  pub allowed-could : (e : Event ℕ) → judgedIn ahead size q e ≡ 0 → Possible (table ahead q₀) (urgent (table ahead q₀)) h e × (reads (e ∷ h) ≤ length out)
+  -- the refusal of an event is what the table and the history alone say
+  pub refused-by : (e : Event ℕ) → judgedIn ahead size q e ≡ refusedBy (table ahead q₀) out h e
   unfolding judgedIn
+  refused-by e = rw (judged-is e, list-length, reads-is)
+
+  -- an event is accepted only if it could happen and there is room
+  allowed-could : (e : Event ℕ) → judgedIn ahead size q e ≡ 0 → Possible (table ahead q₀) (urgent (table ahead q₀)) h e × (reads (e ∷ h) ≤ length out)
   allowed-could e z =
-      let b = both-zero (judgedOn ahead (q .state) e) _ z in (
-        judged-possible (table ahead q₀) (urgent (table ahead q₀)) h e (sym (judged-is e) ∙ b .0),
-        room-left e h (q .list) out (q .counts .reads) reads-is list-length (R .room) (b .1),
-      )
+      let b = both-zero (judged (table ahead q₀) (urgent (table ahead q₀)) h e) _ (sym (refused-by e) ∙ z) in
+      (judged-possible (table ahead q₀) (urgent (table ahead q₀)) h e (b .0), room-left e h out (R .room) (b .1))
 
   -- and always if it could, and there is
-  pub could-allowed : (e : Event ℕ) → Possible (table ahead q₀) (urgent (table ahead q₀)) h e → reads (e ∷ h) ≤ length out → judgedIn ahead size q e ≡ 0
-  unfolding judgedIn
+  could-allowed : (e : Event ℕ) → Possible (table ahead q₀) (urgent (table ahead q₀)) h e → reads (e ∷ h) ≤ length out → judgedIn ahead size q e ≡ 0
   could-allowed e p r =
-      let z : judgedOn ahead (q .state) e ≡ 0 = judged-is e ∙ possible-judged (table ahead q₀) (urgent (table ahead q₀)) h e p in
-      rw (eq-eqb _ 0 z) (room-enough e h (q .list) out (q .counts .reads) reads-is list-length r)
+      refused-by e ∙ rw (eq-eqb _ 0 (possible-judged (table ahead q₀) (urgent (table ahead q₀)) h e p)) (room-enough e h out r)
 
   -- one accepted event more
   module _ (ranks : Ranks ahead) (e : Event ℕ) (z : judgedIn ahead size q e ≡ 0) where
@@ -147,7 +140,7 @@ module _ {ahead : ℕ → ℕ → Bool} {size : Size} {q₀ : Saved} {out : List
     listed-next (read l) v i = rw (R .list, reads-is, first-same i, length-ideals (table ahead q₀) h)
     listed-next (finish u x) v i = R .list
 
-    pub right-next : Right ahead size q₀ out (e ∷ h) (steppedIn ahead size q e)
+    right-next : Right ahead size q₀ out (e ∷ h) (steppedIn ahead size q e)
     unfolding steppedIn
     right-next =
         let c = allowed-could e z in

@@ -23,7 +23,7 @@ use Rattle.recording_format.specs.Limits.{baseLimits}
 use Rattle.recording_format.specs.Recording.{encodeRecording, recording, linksFrom, eventsFrom}
 use Rattle.recording_core.specs.Playing.{Playing, coreOf, judgedIn, steppedIn}
 
--- an answer, with room for eight numbers, each 7 at first
+-- of an answer, all that a case says: refusal, place, counts and list
 pub record Summary : Type 0 where
   pub refusal : ℕ
   pub place : ℕ
@@ -36,15 +36,17 @@ summary r p a s n f list = record { refusal = r; place = p; counts = record { ar
 abbrev sevens : ℕ → List ℕ
 sevens n = replicate n 7
 
+-- what a case says of a reply
 abbrev answered : Reply Playing → Summary
 answered x = record { refusal = x .refusal; place = x .place; counts = x .state .counts; list = x .state .list }
 
+-- the answer to these bytes, with room for eight numbers, each 7 at first
 abbrev answer : List ℕ → Summary
 answer s = answered (recording ltb baseLimits (coreOf ltb base (sevens 8)) s)
 
--- nothing happened, refused with r at p
-abbrev early : ℕ → ℕ → Summary
-early r p = summary r p 0 0 0 0 (sevens 8)
+-- refusal r, 0 for none, at p: nothing counted, and the list untouched
+abbrev untouched : ℕ → ℕ → Summary
+untouched r p = summary r p 0 0 0 0 (sevens 8)
 
 abbrev link : ℕ → ℕ → ℕ → Link
 link w r k = record { writer = w; reader = r; kind = k }
@@ -108,15 +110,15 @@ cases =
     ∷ []
 
 pub marked-cases : map answer cases ≡
-    (early 1 0
-    ∷ early 0 8
-    ∷ early 17 8
-    ∷ early 2 0
-    ∷ early 9 66
-    ∷ early 7 10
-    ∷ early 0 15
-    ∷ early 5 10
-    ∷ early 6 10
+    (untouched 1 0
+    ∷ untouched 0 8
+    ∷ untouched 17 8
+    ∷ untouched 2 0
+    ∷ untouched 9 66
+    ∷ untouched 7 10
+    ∷ untouched 0 15
+    ∷ untouched 5 10
+    ∷ untouched 6 10
     ∷ summary 16 65 6 4 2 3 (100 ∷ 101 ∷ sevens 6)
     ∷ summary 13 65 6 4 2 3 (100 ∷ 101 ∷ sevens 6)
     ∷ summary 0 148 11 11 8 11 (100 ∷ 101 ∷ 101 ∷ 102 ∷ 102 ∷ 101 ∷ 102 ∷ 103 ∷ [])

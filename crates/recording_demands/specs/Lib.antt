@@ -1,1 +1,2 @@
--- Nothing is defined here: the theorems speak of what the replay ensures.
+-- What the promises over the replay speak of: its contract, and demand 3 of the list that it leaves.
+pub mod Ensured
