@@ -3,16 +3,10 @@
 ghost use Prim.Native.Nat.{_≤_};
 ghost use Rattle.io.specs.Counts.{Counts};
 use libc::STDOUT_FILENO;
-use recording_lines::put_accepted;
-use recording_lines::put_refused;
+use recording_printout::NUMBERS;
+use recording_printout::print_end;
 use recording_printout::print_replay;
 use recording_read::table::read_table;
-
-// Room for the numbers of any recording.
-const ROOM: usize = 10000;
-
-// Room for a line.
-const LINE: usize = 80;
 
 // The most room that a digit says.
 const LITTLE: usize = 9;
@@ -41,23 +35,11 @@ fn load(path: &[u8], bytes: &mut [u8]) -> usize
     n
 }
 
-// Writes the first n bytes of a line, of which there are never more than its room.
-fn show(n: usize, line: &[u8]) {
-    if n <= line.len() {
-        io::write_all(STDOUT_FILENO, &line[..n]);
-    }
-}
-
 // The last line of a recording's printout.
 fn print_last(s: &[u8], out: &mut [u32]) {
     let answer = recording::replay(s, out);
     let table = read_table(s);
-    let mut line = [0u8; LINE];
-    if answer.refusal == 0 {
-        show(put_accepted(table.events, &mut line), &line);
-    } else {
-        show(put_refused(answer.refusal, answer.place, &mut line), &line);
-    }
+    print_end(answer.refusal, answer.place, table.events);
 }
 
 // The printout of every beginning of a recording, the shortest first, each after a line with its length.
@@ -104,7 +86,7 @@ fn print_with_room(s: &[u8], room: usize)
 
 // A recording's printout, as the word before its name says.
 fn print_recording(s: &[u8], how: u8) {
-    let mut out = [0u32; ROOM];
+    let mut out = [0u32; NUMBERS];
     match how {
         b'-' => print_last(s, &mut out),
         b'/' => print_beginnings(s, &mut out),

@@ -8,7 +8,7 @@ ghost use Rattle.recording_lines.specs.Words.{feed};
 ghost use Rattle.recording_lines.specs.Line.{Added, Put, fit, number, numbers, phase, positions, pointer, named, readLine, acceptedLine, refusedLine, refusalLine, placeLine, restLine, countsLine, taskLine, linkLine};
 
 // Room for the longest line, a task with ten cells.
-const LINE: usize = 320;
+pub const LINE: usize = 320;
 
 // The first n bytes of a text, copied into a buffer from a place on.
 fn copy(text: &[u8], n: usize, out: &mut [u8], at: usize)

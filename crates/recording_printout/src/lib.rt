@@ -6,7 +6,7 @@ ghost use Prim.Native.Nat.{_≤_};
 ghost use Rattle.protocol_state.specs.Saved.{base};
 use libc::STDOUT_FILENO;
 use mailbox::State;
-use mailbox_checks::table::count_behind;
+use mailbox_checks::table::readers_behind;
 use mailbox_parts::event::Event;
 use mailbox_parts::numbers::CELLS;
 use mailbox_parts::numbers::LINKS;
@@ -14,6 +14,7 @@ use mailbox_parts::numbers::POSITIONS;
 use mailbox_parts::numbers::TASKS;
 use recording::replay;
 use recording::rest;
+use recording_lines::LINE;
 use recording_lines::put_accepted;
 use recording_lines::put_counts;
 use recording_lines::put_link;
@@ -31,10 +32,7 @@ use recording_walk::event_at;
 pub const BYTES: usize = 60165;
 
 // A program's room for numbers: as many as a recording may have events.
-pub const NUMBERS: usize = 10000;
-
-// Room for the longest line, a task with ten cells.
-const LINE: usize = 320;
+pub const NUMBERS: usize = State::EVENTS;
 
 // Writes the first n bytes of a line, of which there are never more than its room.
 fn show(n: usize, line: &[u8]) {
@@ -93,7 +91,7 @@ fn print_reads(s: &[u8], at: usize, events: usize, list: &[u32]) {
 }
 
 // Writes the last line of a replay: all events accepted, or the refusal and its place.
-fn print_end(refusal: u8, place: usize, events: usize) {
+pub fn print_end(refusal: u8, place: usize, events: usize) {
     let mut line = [0u8; LINE];
     if refusal == 0 {
         show(put_accepted(events, &mut line), &line);
@@ -141,7 +139,7 @@ fn print_tasks(
 {
     let mut t = 0;
     while t < tasks {
-        let behind = count_behind(writer, reader, links, t);
+        let behind = readers_behind(writer, reader, links, t);
         print_task(t, behind, phase[t], newest[t], previous[t], cells);
         t += 1;
     }

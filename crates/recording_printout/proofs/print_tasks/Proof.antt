@@ -14,8 +14,8 @@ abbrev μ-loop : tie.MeasureT-loop
 loop-holds : tie.Need-loop-holds Inv-loop μ-loop
 loop-holds c = search needs
 
-count-behind-requires : tie.Need-count-behind-requires Inv-loop μ-loop
-count-behind-requires c κs = search needs
+readers-behind-requires : tie.Need-readers-behind-requires Inv-loop μ-loop
+readers-behind-requires c κs = search needs
 
 element-copy-out-print-task : tie.Need-element-copy-out-print-task Inv-loop μ-loop
 element-copy-out-print-task c = search needs
@@ -48,7 +48,7 @@ print-tasks-spec =
     Inv-loop
     μ-loop
     loop-holds
-    count-behind-requires
+    readers-behind-requires
     element-copy-out-print-task
     element-copy-out-print-task-2
     element-copy-out-print-task-3
