@@ -8,9 +8,10 @@
  * So the table is not a part of the state, and `number`, the answer and the lists lie outside of it. A call writes to what it is lent
  * and to nothing else, so different threads may have calls under way on different states.
  *
- * Refusals are numbers: 0 is none, 1 to 19 are explained in docs/REFUSALS.md.
+ * Refusals are numbers: 0 is none, 1 to 19 are explained in docs/REFUSALS.md. docs/FORMAT.md has the rules of a table, of events and of
+ * a recording.
  *
- * Link with the library that `tools/native-staticlib exports` writes.
+ * Link with the library that `tools/native-staticlib exports` writes, for the machine at hand.
  */
 #ifndef PARNUSILD_H
 #define PARNUSILD_H
@@ -69,7 +70,7 @@ struct parnusild_state {
 /* What a replay answers beside the state and the list. */
 struct parnusild_answer {
     uint8_t refusal; /* 0: accepted */
-    size_t place;    /* the first byte of the count or record at fault; on acceptance the length */
+    size_t place;    /* the first byte of the count or record at fault; for 17 the first extra byte; on acceptance the length */
     size_t arrivals; /* task by task: each task of an arrival's set counts one */
     size_t starts;
     size_t reads;    /* so many first entries of the list hold the numbers read */
@@ -77,14 +78,35 @@ struct parnusild_answer {
 };
 
 /* The calls of the library, on the fields of a state; the functions below take the struct. A slice is a pointer, not null even where
- * its length is 0, and a length; an array is a pointer. */
+ * its length is 0, and a length; an array is a pointer, as long as the field of struct parnusild_state or parnusild_table. */
+
+/* One event given to the state, whose fields are lent from `tasks` on (`kinds` are the links'). `kind`: 1 arrival of a set, `which` (bit t
+ * is task t); 2 start of a task, `which`; 3 read by a link, `which`; 4 finish of a task, `which`, with a value, `value`. Answers 0, or the
+ * refusal: 19 a lent state that isn't sound, tried before anything else; 11 a kind outside 1 to 4; then in rising order 12 an empty
+ * arrival set, or a task or link not in the table; 13 arrival of an active task; 14 start of a task that isn't waiting; 15 read or finish
+ * by a task that isn't running; 16 start, read or finish while a more urgent task is active. On a refusal the state is as lent and
+ * `number` 0; so is `number` after an accepted arrival, start or finish. After an accepted read it is the number at the link's pointer in
+ * its writer's positions. */
 uint8_t parnusild_event(uint8_t kind, uint32_t which, uint32_t value, uint32_t *number, size_t tasks, size_t links,
                         const uint8_t *writer, const uint8_t *reader, const uint8_t *kinds, uint8_t *phase, uint8_t *newest,
                         uint8_t *previous, uint32_t *cells, uint8_t *pointer);
+
+/* The fresh state of a table, put into the fields lent from `tasks` on: both `newest` and `previous` at 1, every position holding the
+ * task's default, every pointer absent, every task idle. Answers 0, or the refusal that the table earns: 2 the count of tasks is 0 or above
+ * 16; 3 the count of links is above 32; else of the first link at fault, in rising order, 4 it names no task of the table; 5 its writer is
+ * its reader; 6 its kind is neither 0 nor 1; 7 a direct link to a reader ahead; 8 its writer has an earlier link to its reader; 9 it is
+ * the writer's ninth link to a reader behind. On a refusal the state is the fresh one of a single task with default 0 and no links. */
 uint8_t parnusild_fresh(size_t table_tasks, size_t table_links, const uint32_t *table_defaults, const uint8_t *table_writer,
                         const uint8_t *table_reader, const uint8_t *table_kind, size_t *tasks, size_t *links,
                         uint32_t *defaults, uint8_t *phase, uint8_t *newest, uint8_t *previous, uint32_t *cells,
                         uint8_t *writer, uint8_t *reader, uint8_t *kind, uint8_t *pointer);
+
+/* A whole recording, `size` lent bytes, with a lent list of `room` numbers. Bytes are judged from the left and the first fault decides.
+ * Answers the refusal, 0 accepted, 1 to 18 (docs/FORMAT.md). `place`: the first byte of the count or record at fault; for 17 the first
+ * extra byte; on acceptance the length. `counts`, four of them: arrivals task by task, starts, reads, finishes. At a refusal whose place is
+ * in the tasks, the links or one of the three counts, the state (the fields lent from `tasks` on) is the fresh one of a single task with
+ * default 0 and no links, all counts are 0, and the list is untouched. Later, state and counts are those after the last accepted event; the
+ * list's first entries hold the numbers read, the rest is untouched. */
 uint8_t parnusild_replay(const uint8_t *bytes, size_t size, uint32_t *numbers, size_t room, size_t *place, size_t *counts,
                          size_t *tasks, size_t *links, uint32_t *defaults, uint8_t *phase, uint8_t *newest,
                          uint8_t *previous, uint32_t *cells, uint8_t *writer, uint8_t *reader, uint8_t *kind,
@@ -144,8 +166,9 @@ static inline uint8_t parnusild_state_finish(struct parnusild_state *state, uint
 }
 
 /* A whole recording, read from the lent bytes. Bytes are judged from the left and the first fault decides. The answer has the
- * refusal, the place and the four counts; the state is the one after the last accepted event (at a refusal in the tasks, the links or
- * one of the three counts the fresh one of a single task); the list's first entries hold the numbers read, the rest is untouched.
+ * refusal, the place and the four counts; state and counts are those after the last accepted event; the list's first entries hold the
+ * numbers read, the rest is untouched. At a refusal whose place is in the tasks, the links or one of the three counts, the state is the
+ * fresh one of a single task with default 0 and no links, all counts are 0, and the list is untouched.
  * 18 is a read that is otherwise allowed, with no room in the list. On refusal the unread rest is bytes + place, size - place long.
  * `bytes` may be null where `size` is 0, and `numbers` where `room` is 0. Answers the refusal, too. */
 static inline uint8_t parnusild_state_replay(struct parnusild_state *PARNUSILD_RESTRICT state,

@@ -1,7 +1,7 @@
 /* A host in C. It replays a recording and prints what was read and counted, then gives the same events one by one to a saved state
- * of its own and sees that both end in the same state, then gives some events that are refused.
+ * of its own and sees that both end in the same state; then gives some events that are refused; then tries each call at edge sizes.
  *
- *     host FILE       the long example of document 01 (recordings/figure-17.rec)
+ *     host FILE       the long example of docs/FORMAT.md (recordings/figure-17.rec)
  */
 #include <stdio.h>
 #include <string.h>
@@ -91,11 +91,93 @@ static void refuse(const char *what, struct parnusild_state *state, uint8_t kind
     printf("%s: refusal %u, state %s, number %u\n", what, refusal, same(state, &before) ? "kept" : "CHANGED", (unsigned)number);
 }
 
+/* a task runs whole, one call for each kind of event */
+static void run_whole(struct parnusild_state *state)
+{
+    uint32_t number;
+    printf("arrival %u\n", parnusild_state_arrival(state, 1));
+    printf("start %u\n", parnusild_state_start(state, 0));
+    printf("read %u", parnusild_state_read(state, 0, &number));
+    printf(" number %u\n", (unsigned)number);
+    printf("finish %u\n", parnusild_state_finish(state, 0, 9));
+}
+
+/* events that are refused by a state whose tasks are idle, by one with active tasks, and by one that isn't sound */
+static void refusals(struct parnusild_state *state)
+{
+    refuse("unknown kind 0", state, 0, 0);
+    refuse("unknown kind 5", state, 5, 0);
+    refuse("unknown kind 255", state, 255, 0);
+    refuse("empty set", state, PARNUSILD_ARRIVAL, 0);
+    refuse("task 31 arrives", state, PARNUSILD_ARRIVAL, 0x80000000);
+    refuse("task 256", state, PARNUSILD_START, 256);
+    refuse("link 256", state, PARNUSILD_READ, 256);
+    refuse("task 4294967295", state, PARNUSILD_FINISH, 0xffffffff);
+    refuse("idle task starts", state, PARNUSILD_START, 0);
+    refuse("idle task reads", state, PARNUSILD_READ, 0);
+    parnusild_state_arrival(state, 4);
+    parnusild_state_start(state, 2);
+    parnusild_state_arrival(state, 1);
+    refuse("active task arrives", state, PARNUSILD_ARRIVAL, 5);
+    refuse("task ahead is active", state, PARNUSILD_READ, 1);
+    state->newest[0] = 0;
+    refuse("unsound", state, PARNUSILD_START, 0);
+    refuse("unsound, unknown kind", state, 9, 0);
+    refuse("unsound, task 256", state, PARNUSILD_START, 256);
+}
+
+/* a table that is refused: its number, and the single task's state instead */
+static void refuse_table(const char *what, const struct parnusild_table *refused)
+{
+    struct parnusild_state state;
+    unsigned refusal;
+    memset(&state, 0x55, sizeof state);
+    refusal = parnusild_state_fresh(&state, refused);
+    printf("%s: refusal %u, tasks %zu, links %zu\n", what, refusal, state.tasks, state.links);
+}
+
+static void refused_tables(void)
+{
+    struct parnusild_table other = table;
+    other.tasks = PARNUSILD_TASKS + 1;
+    refuse_table("17 tasks", &other);
+    other.tasks = 4;
+    other.links = PARNUSILD_LINKS + 1;
+    refuse_table("33 links", &other);
+    other.links = 3;
+    other.kind[0] = 0;
+    refuse_table("direct link to a reader ahead", &other);
+}
+
+/* a replay at an edge size: its refusal and place, how many numbers it read, and whether the entry past the lent ones is as it was */
+static void edge(const char *what, const uint8_t *lent, size_t size, uint32_t *list, size_t room)
+{
+    struct parnusild_state state;
+    struct parnusild_answer answer;
+    numbers[room] = 77;
+    parnusild_state_replay(&state, &answer, lent, size, list, room);
+    printf("%s: refusal %u at %zu, reads %zu, tasks %zu, past %s\n", what, answer.refusal, answer.place, answer.reads, state.tasks,
+           numbers[room] == 77 ? "kept" : "CHANGED");
+}
+
+static void edge_sizes(size_t size)
+{
+    const uint8_t least[9] = { 1 }; /* one task, no links, no events; and a byte more */
+    edge("room one more", bytes, size, numbers, 9);
+    edge("room exact", bytes, size, numbers, 8);
+    edge("room one short", bytes, size, numbers, 7);
+    edge("room 0", bytes, size, numbers, 0);
+    edge("room 0, no list", bytes, size, NULL, 0);
+    edge("no bytes", NULL, 0, NULL, 0);
+    edge("least recording", least, 8, NULL, 0);
+    edge("one byte short", least, 7, NULL, 0);
+    edge("one byte more", least, 9, NULL, 0);
+}
+
 int main(int argc, char **argv)
 {
     struct parnusild_state whole, state;
     size_t size;
-    uint32_t number;
     FILE *file = argc == 2 ? fopen(argv[1], "rb") : NULL;
     if (!file) {
         fprintf(stderr, "usage: %s FILE\n", argv[0]);
@@ -106,32 +188,9 @@ int main(int argc, char **argv)
     replay(size, &whole);
     one_by_one(&state);
     printf("states %s\n", same(&whole, &state) ? "alike" : "DIFFER");
-
-    printf("arrival %u\n", parnusild_state_arrival(&state, 1));
-    printf("start %u\n", parnusild_state_start(&state, 0));
-    printf("read %u", parnusild_state_read(&state, 0, &number));
-    printf(" number %u\n", (unsigned)number);
-    printf("finish %u\n", parnusild_state_finish(&state, 0, 9));
-    refuse("unknown kind 0", &state, 0, 0);
-    refuse("unknown kind 5", &state, 5, 0);
-    refuse("unknown kind 255", &state, 255, 0);
-    refuse("empty set", &state, PARNUSILD_ARRIVAL, 0);
-    refuse("task 31 arrives", &state, PARNUSILD_ARRIVAL, 0x80000000);
-    refuse("task 256", &state, PARNUSILD_START, 256);
-    refuse("link 256", &state, PARNUSILD_READ, 256);
-    refuse("task 4294967295", &state, PARNUSILD_FINISH, 0xffffffff);
-    refuse("idle task starts", &state, PARNUSILD_START, 0);
-    refuse("idle task reads", &state, PARNUSILD_READ, 0);
-    parnusild_state_arrival(&state, 4);
-    parnusild_state_start(&state, 2);
-    parnusild_state_arrival(&state, 1);
-    refuse("active task arrives", &state, PARNUSILD_ARRIVAL, 5);
-    refuse("task ahead is active", &state, PARNUSILD_READ, 1);
-    state.newest[0] = 0;
-    refuse("unsound", &state, PARNUSILD_START, 0);
-    refuse("unsound, unknown kind", &state, 9, 0);
-    refuse("unsound, task 256", &state, PARNUSILD_START, 256);
-    parnusild_state_replay(&state, &(struct parnusild_answer){ 0 }, NULL, 0, NULL, 0);
-    printf("no bytes: tasks %zu, links %zu\n", state.tasks, state.links);
+    run_whole(&state);
+    refusals(&state);
+    refused_tables();
+    edge_sizes(size);
     return 0;
 }

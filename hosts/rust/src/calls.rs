@@ -1,4 +1,6 @@
 //! The calls of the library, on the fields of a state. A slice passes as a pointer and a length, an array as a pointer.
+//!
+//! The library asks that each points to what its type says and that no two of one call overlap: references give both.
 use crate::{CELLS, LINKS, TASKS};
 
 extern "C" {

@@ -2,15 +2,19 @@
 //! recording. Each call lends the state's fields to the proved core, which works on them in place.
 //!
 //! Nothing is asked of a state, a table or a recording: whatever they hold, an answer comes back, and a refused event leaves the state
-//! as it was lent. Refusals are the numbers of document 01, explained in docs/REFUSALS.md.
+//! as it was lent. Refusals are the numbers of docs/FORMAT.md, explained in docs/REFUSALS.md.
 mod calls;
 
 /// At most so many tasks.
 pub const TASKS: usize = 16;
 /// At most so many links.
 pub const LINKS: usize = 32;
-/// The positions of all tasks: at most ten each.
-pub const CELLS: usize = TASKS * 10;
+/// And so many events in a recording.
+pub const EVENTS: usize = 10_000;
+/// A task has N + 2 positions, N at most 8.
+pub const POSITIONS: usize = 10;
+/// The positions of all tasks.
+pub const CELLS: usize = TASKS * POSITIONS;
 
 /// A table. Tasks are numbered from 0 and the earlier one is more urgent; slots past the counts are not looked at.
 #[derive(Clone, Debug, PartialEq, Eq)]
@@ -95,7 +99,6 @@ impl State {
     /// The fresh state of a table, or the refusal that the table earns, 2 to 9, and the fresh state of a single task.
     pub fn fresh(table: &Table) -> Made {
         let mut state = State::room();
-        // Every reference is to a field or a table of its own, as the library asks.
         let refusal = unsafe {
             calls::parnusild_fresh(
                 table.tasks,

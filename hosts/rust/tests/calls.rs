@@ -21,7 +21,7 @@ fn table(defaults: &[u32], links: &[(u8, u8, u8)]) -> Table {
     t
 }
 
-/// The bytes of a recording, by document 01.
+/// The bytes of a recording, by docs/FORMAT.md.
 fn record(t: &Table, events: &[Event]) -> Vec<u8> {
     let mut b = vec![t.tasks as u8];
     for d in &t.defaults[..t.tasks] {
