@@ -8,7 +8,13 @@ use oracle::subject::{Answer, OneAnswer, Subject};
 
 struct Proved;
 
-/// A state as the library's, and back. The oracle keeps the counts in a byte.
+/// The oracle keeps counts in fewer bits than the library. One that doesn't fit
+/// is a wrong answer, and must not pass as what is left of it.
+fn narrow<T: TryFrom<usize>>(count: usize) -> T {
+    T::try_from(count).unwrap_or_else(|_| panic!("the library answers with a count of {}", count))
+}
+
+/// A state as the library's, and back.
 fn lent(state: &State) -> parnusild::State {
     parnusild::State {
         tasks: usize::from(state.tasks),
@@ -27,8 +33,8 @@ fn lent(state: &State) -> parnusild::State {
 
 fn handed_back(state: &parnusild::State) -> State {
     State {
-        tasks: state.tasks as u8,
-        links: state.links as u8,
+        tasks: narrow(state.tasks),
+        links: narrow(state.links),
         defaults: state.defaults,
         phase: state.phase,
         newest: state.newest,
@@ -71,10 +77,10 @@ impl Subject for Proved {
             refusal: answer.refusal,
             place: answer.place,
             counts: Counts {
-                arrivals: answer.arrivals as u32,
-                starts: answer.starts as u32,
-                reads: answer.reads as u32,
-                finishes: answer.finishes as u32,
+                arrivals: narrow(answer.arrivals),
+                starts: narrow(answer.starts),
+                reads: narrow(answer.reads),
+                finishes: narrow(answer.finishes),
             },
             state: handed_back(&answer.state),
             rest: parnusild::rest(bytes, &answer).len(),

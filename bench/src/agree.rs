@@ -1,0 +1,64 @@
+//! All three replays give the same whole answers, or the program ends.
+use crate::answer::Replay;
+use crate::random::{self, Random};
+use crate::rows::Row;
+use crate::{fail, NAMES, REPLAYS};
+use parnusild::{Answer, EVENTS};
+
+const RECORDINGS: usize = 6_000;
+/// A replay refuses with 1 to 18, and 0 is none.
+const REFUSALS: usize = 19;
+/// What the list holds before a replay.
+const MARK: u32 = 0xa5a5_a5a5;
+
+/// The answer, and the whole list with what is past the numbers read.
+fn whole(replay: Replay, bytes: &[u8], room: usize) -> (Answer, Vec<u32>) {
+    let mut numbers = vec![MARK; room];
+    let answer = replay(bytes, &mut numbers);
+    (answer, numbers)
+}
+
+/// The refusal that all three give.
+fn agreed(what: &str, bytes: &[u8], room: usize) -> usize {
+    let (ours, our_list) = whole(REPLAYS[0], bytes, room);
+    for (replay, name) in REPLAYS.into_iter().zip(NAMES).skip(1) {
+        let (theirs, their_list) = whole(replay, bytes, room);
+        let same_list = our_list == their_list;
+        if ours != theirs || !same_list {
+            eprintln!("{}: {:?}\n{}: {:?}", NAMES[0], ours, name, theirs);
+            eprintln!("the same list: {}\nthe recording: {:?}", same_list, bytes);
+            fail(format!("{}, room {}: the answers differ", what, room));
+        }
+    }
+    ours.refusal as usize
+}
+
+/// Compares the answers to the timed recordings, which must be accepted, and to random ones, among which each refusal must occur.
+pub fn check(rows: &[Row]) {
+    for row in rows {
+        let refusal = agreed(&row.name, &row.bytes, EVENTS);
+        if refusal != 0 {
+            fail(format!("{}: refused with {}", row.name, refusal));
+        }
+    }
+    let mut random = Random(1);
+    let mut seen = [0; REFUSALS];
+    for i in 0..RECORDINGS {
+        let bytes = random::recording(&mut random);
+        let room = if random.one_in(8) {
+            random.below(40)
+        } else {
+            EVENTS
+        };
+        seen[agreed(&format!("random recording {}", i), &bytes, room)] += 1;
+    }
+    println!(
+        "same answers (refusal, place, state, counts, list): {} timed recordings, {} random ones",
+        rows.len(),
+        RECORDINGS
+    );
+    println!("random ones by refusal, from 0 on: {:?}", seen);
+    if let Some(n) = seen.iter().position(|&times| times == 0) {
+        fail(format!("no random recording was refused with {}", n));
+    }
+}
