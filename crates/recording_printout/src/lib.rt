@@ -1,9 +1,12 @@
 // The printouts of a recording, written to standard output: what was read, and, for a closer look, the state at the end.
 //
-// What a program writes no contract can say, so the functions here are proved safe and ending and no more. Each line is made
-// by `recording_lines`, whose contracts say what stands in it; the numbers are those that `recording::replay` answers with.
+// What a program writes no contract can say, so of the functions here it is proved that they are safe, that they end, and what the
+// lent list then holds. Each line is made by `recording_lines`, whose contracts say what stands in it; the numbers are those that
+// `recording::replay` answers with.
+ghost use mathlib.Core.Path.{_≡_};
 ghost use Prim.Native.Nat.{_≤_};
 ghost use Rattle.protocol_state.specs.Saved.{base};
+ghost use Rattle.recording.specs.Answers.{listAfter};
 use libc::STDOUT_FILENO;
 use mailbox::State;
 use mailbox_checks::table::readers_behind;
@@ -101,7 +104,9 @@ pub fn print_end(refusal: u8, place: usize, events: usize) {
 }
 
 // Writes what a recording says: a line for each number read, then whether it was accepted. The lent list has the numbers.
-pub fn print_replay(s: &[u8], out: &mut [u32]) {
+pub fn print_replay(s: &[u8], out: &mut [u32])
+    ensures { λ _. ⌜ now (out .exit) ≡ listAfter (now (s .entry)) (now (out .entry)) ⌝ }
+{
     let a = replay(s, out);
     let t = read_table(s);
     print_reads(s, t.place, t.events, part(out, 0, a.reads));
@@ -211,7 +216,9 @@ fn print_rest(left: &[u8]) {
 }
 
 // Writes all that a replay answers with: the refusal, 0 for none, the place, the counts, the state, and how much is left unread.
-pub fn print_inspect(s: &[u8], out: &mut [u32]) {
+pub fn print_inspect(s: &[u8], out: &mut [u32])
+    ensures { λ _. ⌜ now (out .exit) ≡ listAfter (now (s .entry)) (now (out .entry)) ⌝ }
+{
     let a = replay(s, out);
     print_answer(
         a.refusal,
