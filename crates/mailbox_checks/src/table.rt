@@ -3,10 +3,10 @@ ghost use mathlib.Core.Path.{_≡_};
 ghost use mathlib.Core.Bool.{cond};
 ghost use Prim.Native.Nat.{_≤_, _<_, min};
 ghost use lib.Dec.{eqb, ltb};
-ghost use Rattle.lists.specs.Lists.{some, leading};
+ghost use Rattle.lists.specs.Lists.{leading};
 ghost use Rattle.protocol.specs.Table.{behinds};
 ghost use Rattle.protocol_state.specs.Saved.{at, base};
-ghost use Rattle.protocol_state.specs.Rules.{joins, faultOf, fault, judgedTable};
+ghost use Rattle.protocol_state.specs.Rules.{faultOf, faultAfter, fault, judgedTable};
 use crate::links::count_behind;
 use crate::links::has_pair;
 use mailbox_parts::numbers::LINKS;
@@ -36,7 +36,7 @@ pub fn fault_after(
     r: u8,
     k: u8,
 ) -> u8
-    ensures { λ res. ⌜ res ≡ faultOf ltb tasks w r k (some (joins (at (now (writer .entry))) (at (now (reader .entry))) w r) (min n (base .links))) (behinds ltb (at (now (writer .entry))) (at (now (reader .entry))) w (min n (base .links))) ⌝ }
+    ensures { λ res. ⌜ res ≡ faultAfter ltb tasks (at (now (writer .entry))) (at (now (reader .entry))) (min n (base .links)) w r k ⌝ }
 {
     let m = few(n, LINKS);
     let twice = has_pair(writer, reader, m, w, r);

@@ -2,18 +2,18 @@
 -- T and L count tasks and links; W, R and K are the links' writers, readers and kinds.
 -- Assumes nothing.
 use mathlib.Core.Path.{_≡_}
-use mathlib.Core.Bool.{Bool, not}
+use mathlib.Core.Bool.{Bool}
 use mathlib.Core.List.{List}
 use Prim.Native.Nat.{ℕ}
-use lib.Dec.{eqb, ltb}
+use lib.Dec.{ltb}
 use lib.ListN.{set}
 use Rattle.lists.specs.Lists.{upto}
-use Rattle.protocol_state.specs.Saved.{at, cellOf}
+use Rattle.protocol_state.specs.Saved.{at, cellOf, active}
 use Rattle.protocol_state.specs.Next.{previousAt, newestAt, pointerAt, phaseAt, phasesAfter, freedAt}
 
 -- task t is unfinished
 abbrev pub activeAt : (ℕ → ℕ) → ℕ → Bool
-activeAt ph t = not (eqb (ph t) 0)
+activeAt ph t = active (ph t)
 
 -- the writers' part of the arrival of the set s, for task t: previous, newest and phase move on where it is in the set
 pub record Moves (s t L : ℕ) (W R x ph n p ph′ n′ p′ : List ℕ) : Type 0 where

@@ -2,10 +2,10 @@
 ghost use mathlib.Core.Path.{_≡_};
 ghost use mathlib.Core.Bool.{_||_, not};
 ghost use Prim.Native.Nat.{_≤_, min};
-ghost use lib.Dec.{eqb, ltb};
+ghost use lib.Dec.{ltb};
 ghost use Rattle.lists.specs.Lists.{every, some};
 ghost use Rattle.protocol.specs.Event.{has};
-ghost use Rattle.protocol_state.specs.Saved.{at, base};
+ghost use Rattle.protocol_state.specs.Saved.{at, base, active};
 ghost use Rattle.protocol_state.specs.Decision.{decided};
 ghost use Rattle.protocol_state.specs.Judge.{allows, mayArrive, judgedArrival, judgedTask, judgedRead};
 ghost use Rattle.mailbox_parts.specs.Doing.{activeAt};
@@ -52,7 +52,7 @@ pub fn judge_arrival(set: u32, tasks: usize, phase: &[u8; TASKS]) -> u8
 
 // Whether a task with this phase is unfinished.
 fn is_active(phase: u8) -> bool
-    ensures { λ r. ⌜ r ≡ not (eqb phase 0) ⌝ }
+    ensures { λ r. ⌜ r ≡ active phase ⌝ }
 {
     phase != 0
 }

@@ -28,10 +28,14 @@ module _ (ahead : ℕ → ℕ → Bool) where
       (cond twice 8
       (cond (ahead w r && leb 8 n) 9 0)))))
 
+  -- the same after the first n links of writers W and readers R
+  abbrev pub faultAfter : ℕ → (ℕ → ℕ) → (ℕ → ℕ) → ℕ → ℕ → ℕ → ℕ → ℕ
+  faultAfter T W R n w r k = faultOf T w r k (some (joins W R w r) n) (behinds ahead W R w n)
+
   module _ (T : ℕ) (W R K : ℕ → ℕ) where
     -- the refusal that link l earns, in rising order; 0 is none
     unfoldable pub fault : ℕ → ℕ
-    fault l = faultOf T (W l) (R l) (K l) (some (joins W R (W l) (R l)) l) (behinds ahead W R (W l) l)
+    fault l = faultAfter T W R l (W l) (R l) (K l)
 
     -- link l obeys the rules 4 to 9
     pub record Obeys (l : ℕ) : Type 0 where

@@ -72,9 +72,13 @@ table ahead q = record {
   ahead = ahead;
 }
 
+-- a task in this phase is active: not idle
+abbrev pub active : ℕ → Bool
+active p = not (eqb p 0)
+
 -- task t is active in it
 abbrev pub busy : Saved → ℕ → Bool
-busy q t = not (eqb (at (q .phase) t) 0)
+busy q t = active (at (q .phase) t)
 
 -- p is one of the positions that a task can have at all
 abbrev pub isPosition : ℕ → Bool
