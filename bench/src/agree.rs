@@ -33,8 +33,9 @@ fn agreed(what: &str, bytes: &[u8], room: usize) -> usize {
     ours.refusal as usize
 }
 
-/// Compares the answers to the timed recordings, which must be accepted, and to random ones, among which each refusal must occur.
-pub fn check(rows: &[Row]) {
+/// Compares the answers to the timed recordings, which must be accepted, and to random ones, among which each refusal must occur. How
+/// many random ones earned each refusal.
+pub fn check(rows: &[Row]) -> [usize; REFUSALS] {
     for row in rows {
         let refusal = agreed(&row.name, &row.bytes, EVENTS);
         if refusal != 0 {
@@ -52,13 +53,13 @@ pub fn check(rows: &[Row]) {
         };
         seen[agreed(&format!("random recording {}", i), &bytes, room)] += 1;
     }
-    println!(
-        "same answers (refusal, place, state, counts, list): {} timed recordings, {} random ones",
-        rows.len(),
-        RECORDINGS
-    );
-    println!("random ones by refusal, from 0 on: {:?}", seen);
     if let Some(n) = seen.iter().position(|&times| times == 0) {
         fail(format!("no random recording was refused with {}", n));
     }
+    println!(
+        "bench: same answers (refusal, place, state, counts, list): {} timed recordings, {} random ones",
+        rows.len(),
+        RECORDINGS
+    );
+    seen
 }

@@ -1,7 +1,8 @@
 //! The replay of whole recordings: ordinary Rust, the proved library, and Rust as fast as it gets.
 //!
 //! First all three must give the same answer, to every timed recording and to many random and damaged ones. Then they are timed in
-//! turn. Nothing is claimed of the time. Words: how many repeats (201), and what the names of the timed rows contain (anything).
+//! turn. Nothing is claimed of the time. Words: how many repeats (201), and what the names of the timed rows contain (anything); or
+//! --compare alone, for the answers without the times.
 mod agree;
 mod answer;
 mod expert;
@@ -52,14 +53,14 @@ fn timed(row: &Row, repeats: usize, numbers: &mut [u32]) -> [f64; 3] {
     taken.map(median)
 }
 
-/// Times the rows and prints them as a table: the worst ratio of proved to ordinary over the rows of 10,000 events, NaN without any.
+/// Times the rows and prints them as a table: the worst ratio of proved to ordinary over the rows of 10,000 events.
 fn print_times(rows: &[Row], repeats: usize) -> f64 {
     println!(
         "| recording | events | ordinary | proved | expert | proved/ordinary | proved/expert |"
     );
     println!("|---|---:|---:|---:|---:|---:|---:|");
     let mut numbers = vec![0; EVENTS];
-    let mut worst = f64::NAN;
+    let mut worst: f64 = 0.0;
     for row in rows {
         let [ordinary, proved, expert] = timed(row, repeats, &mut numbers);
         let ratio = proved / ordinary;
@@ -80,25 +81,46 @@ fn print_times(rows: &[Row], repeats: usize) -> f64 {
     worst
 }
 
-fn main() {
-    let word = std::env::args().nth(1).unwrap_or_else(|| "201".to_string());
-    let part = std::env::args().nth(2).unwrap_or_default();
-    let repeats: usize = word.parse().unwrap_or(0);
-    if repeats == 0 {
-        fail(format!("{:?} is no number of repeats", word));
+/// The rows whose names contain the word. The worst ratio is of those of 10,000 events, so there must be one.
+fn chosen(mut rows: Vec<Row>, part: &str) -> Vec<Row> {
+    rows.retain(|row| row.name.contains(part));
+    if !rows.iter().any(|row| row.events == EVENTS) {
+        fail(format!(
+            "no row of {} events has {:?} in its name",
+            EVENTS, part
+        ));
     }
-    let mut rows = rows::rows();
-    agree::check(&rows);
-    rows.retain(|row| row.name.contains(&part));
-    if rows.is_empty() {
-        fail(format!("no row has {:?} in its name", part));
-    }
+    rows
+}
+
+fn time(rows: &[Row], repeats: usize) {
     println!(
         "nanoseconds an event, medians of {} repeats in turn; one list for all, cleared by none before a replay",
         repeats
     );
     println!();
-    let worst = print_times(&rows, repeats);
+    let worst = print_times(rows, repeats);
     println!();
     println!("worst ratio {:.2}", worst);
+}
+
+fn main() {
+    let words: Vec<String> = std::env::args().skip(1).collect();
+    if words == ["--compare"] {
+        agree::check(&rows::rows());
+        return;
+    }
+    if words.len() > 2 {
+        fail("words: --compare, or how many repeats and a part of the rows' names".to_string());
+    }
+    let word = words.first().map_or("201", String::as_str);
+    let part = words.get(1).map_or("", String::as_str);
+    let repeats: usize = word.parse().unwrap_or(0);
+    if repeats == 0 {
+        fail(format!("{:?} is no number of repeats", word));
+    }
+    let rows = rows::rows();
+    let seen = agree::check(&rows);
+    println!("random ones by refusal, from 0 on: {:?}", seen);
+    time(&chosen(rows, part), repeats);
 }

@@ -82,7 +82,7 @@ fn single() -> State {
     State::fresh(&table(&[0], &[])).state
 }
 
-/// What an event leaves of a state that it is refused by.
+/// The refusal that a state gives an event, which must be refused, with the number 0 and the state left as it was.
 fn refused(s: &State, kind: u8, which: u32, value: u32) -> u8 {
     let mut after = s.clone();
     let (refusal, number) = after.call(kind, which, value);
@@ -153,22 +153,50 @@ fn room_for_the_numbers() {
     assert_eq!(counts(&a), [4, 1, 0, 0]);
 }
 
+/// The refusal and the place of a recording that is refused in its table or at a count: nothing is counted, the list is untouched, the state
+/// is that of a single task, and the rest begins at the place.
+fn early(bytes: &[u8]) -> (u8, usize) {
+    let mut list = [77; 3];
+    let a = replay(bytes, &mut list);
+    assert_ne!(a.refusal, 0);
+    assert_eq!(counts(&a), [0; 4]);
+    assert_eq!(list, [77; 3], "the list after an early refusal");
+    assert_eq!(a.state, single(), "the state after an early refusal");
+    assert_eq!(rest(bytes, &a), &bytes[a.place..]);
+    (a.refusal, a.place)
+}
+
+#[test]
+fn early_refusals() {
+    assert_eq!(early(&[]), (1, 0));
+    assert_eq!(early(&[0]), (2, 0));
+    assert_eq!(early(&[17]), (2, 0));
+    assert_eq!(early(&[1, 9, 9, 9]), (1, 1));
+    assert_eq!(early(&[1, 9, 0, 0, 0]), (1, 5));
+    assert_eq!(early(&[1, 9, 0, 0, 0, 33]), (3, 5));
+    assert_eq!(early(&[1, 9, 0, 0, 0, 0, 0x11, 0x27]), (10, 6));
+    assert_eq!(early(&[1, 9, 0, 0, 0, 0, 0x10]), (1, 6));
+    // two tasks with defaults 9 and 8, the link 0 to 1, and a second one
+    let second = |link: [u8; 3]| {
+        let mut b = vec![2, 9, 0, 0, 0, 8, 0, 0, 0, 2, 0, 1, 0];
+        b.extend(link);
+        b.extend([0, 0]);
+        early(&b)
+    };
+    assert_eq!(second([0, 2, 0]), (4, 13));
+    assert_eq!(second([1, 1, 0]), (5, 13));
+    assert_eq!(second([1, 0, 2]), (6, 13));
+    assert_eq!(second([1, 0, 0]), (7, 13));
+    assert_eq!(second([0, 1, 1]), (8, 13));
+}
+
 #[test]
 fn small_recordings() {
-    let none = replay(&[], &mut []);
-    assert_eq!((none.refusal, none.place, counts(&none)), (1, 0, [0; 4]));
-    assert_eq!(none.state, single());
     let a = replay(&[1, 0, 0, 0, 0, 0, 0, 0], &mut []);
     assert_eq!((a.refusal, a.place, counts(&a)), (0, 8, [0; 4]));
     let a = replay(&[1, 0, 0, 0, 0, 0, 0, 0, 5], &mut [3]);
     assert_eq!((a.refusal, a.place), (17, 8));
     assert_eq!(rest(&[1, 0, 0, 0, 0, 0, 0, 0, 5], &a), [5]);
-    assert_eq!(replay(&[0], &mut []).refusal, 2);
-    assert_eq!(replay(&[17], &mut []).refusal, 2);
-    let a = replay(&[1, 0, 0, 0, 0, 33], &mut []);
-    assert_eq!((a.refusal, a.place), (3, 5));
-    let a = replay(&[1, 0, 0, 0, 0, 0, 0x11, 0x27], &mut []);
-    assert_eq!((a.refusal, a.place), (10, 6));
     let a = replay(&[1, 0, 0, 0, 0, 0, 1, 0, 5], &mut []);
     assert_eq!((a.refusal, a.place), (11, 8));
 }
@@ -182,7 +210,7 @@ fn every_cut() {
         let a = replay(&bytes[..cut], &mut list);
         assert_eq!(a.refusal, 1, "cut at {}", cut);
         if cut < place_of(0) {
-            assert_eq!((counts(&a), &a.state), ([0; 4], &single()));
+            assert_eq!(early(&bytes[..cut]).0, 1);
             continue;
         }
         let whole = (0..35).rev().find(|&i| place_of(i) <= cut).unwrap();
@@ -270,19 +298,17 @@ fn unsound_states() {
 
 #[test]
 fn tables() {
-    let refusal = |t: &Table| State::fresh(t).refusal;
+    let refusal = |t: &Table| {
+        let made = State::fresh(t);
+        assert!(made.refusal == 0 || made.state == single());
+        made.refusal
+    };
     for tasks in [0, 17, usize::MAX] {
         let t = Table {
             tasks,
             ..example_table()
         };
-        assert_eq!(
-            State::fresh(&t),
-            parnusild::Made {
-                refusal: 2,
-                state: single()
-            }
-        );
+        assert_eq!(refusal(&t), 2);
     }
     for links in [33, usize::MAX] {
         assert_eq!(
