@@ -2,9 +2,10 @@
 //! with the oracle's, which was written from document 01 alone.
 
 use oracle::command;
-use oracle::format::{Counts, Event, Table};
+use oracle::format::{Counts, Event};
 use oracle::state::State;
-use oracle::subject::{Answer, OneAnswer, Subject};
+use oracle::subject::{Answer, Made, OneAnswer, Subject};
+use oracle::tables::LentTable;
 
 struct Proved;
 
@@ -47,22 +48,15 @@ fn handed_back(state: &parnusild::State) -> State {
     }
 }
 
-fn asked(table: &Table) -> parnusild::Table {
-    let mut asked = parnusild::Table {
-        tasks: table.defaults.len(),
-        links: table.links.len(),
-        defaults: [0; parnusild::TASKS],
-        writer: [0; parnusild::LINKS],
-        reader: [0; parnusild::LINKS],
-        kind: [0; parnusild::LINKS],
-    };
-    asked.defaults[..table.defaults.len()].copy_from_slice(&table.defaults);
-    for (number, link) in table.links.iter().enumerate() {
-        asked.writer[number] = link.writer;
-        asked.reader[number] = link.reader;
-        asked.kind[number] = link.kind;
+fn asked(table: &LentTable) -> parnusild::Table {
+    parnusild::Table {
+        tasks: table.tasks,
+        links: table.links,
+        defaults: table.defaults,
+        writer: table.writer,
+        reader: table.reader,
+        kind: table.kind,
     }
-    asked
 }
 
 impl Subject for Proved {
@@ -70,7 +64,7 @@ impl Subject for Proved {
         "the proved library".to_string()
     }
 
-    fn replay(&self, bytes: &[u8], list: &[u32]) -> Answer {
+    fn replay<'a>(&self, bytes: &'a [u8], list: &[u32]) -> Answer<'a> {
         let mut list = list.to_vec();
         let answer = parnusild::replay(bytes, &mut list);
         Answer {
@@ -83,15 +77,14 @@ impl Subject for Proved {
                 finishes: narrow(answer.finishes),
             },
             state: handed_back(&answer.state),
-            rest: parnusild::rest(bytes, &answer).len(),
+            rest: parnusild::rest(bytes, &answer),
             list,
         }
     }
 
-    fn fresh(&self, table: &Table) -> State {
+    fn fresh(&self, table: &LentTable) -> Made {
         let made = parnusild::State::fresh(&asked(table));
-        assert_eq!(made.refusal, 0, "a table that keeps the rules is refused: {:?}", table);
-        handed_back(&made.state)
+        Made { refusal: made.refusal, state: handed_back(&made.state) }
     }
 
     fn one_event(&self, state: &State, event: Event) -> OneAnswer {

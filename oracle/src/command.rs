@@ -7,7 +7,9 @@ const USAGE: &str = "judge [--seed N] [--count N] [--exhaustive DEPTH] [--long]"
 
 fn options() -> Result<Options, String> {
     let mut options = Options::default();
-    let mut arguments = std::env::args().skip(1);
+    let mut arguments = std::env::args().skip(1).peekable();
+    // A run of another size, or from another seed, reaches what it reaches.
+    options.must_reach = arguments.peek().is_none();
     while let Some(argument) = arguments.next() {
         let mut number = || -> Result<u64, String> {
             let text = arguments.next().ok_or_else(|| format!("{} needs a number", argument))?;
@@ -25,7 +27,7 @@ fn options() -> Result<Options, String> {
 }
 
 /// Judges the subject as the arguments say; the exit status: 0 no differences,
-/// 1 some, 2 bad usage.
+/// 1 some, or a default run that does not reach all it must, 2 bad usage.
 pub fn judge(subject: &dyn Subject) -> i32 {
     match options() {
         Ok(options) => i32::from(!run(subject, &options)),

@@ -64,7 +64,7 @@ pub fn batch(corpus: Corpus, number: usize, prng: &mut Prng) -> Vec<Case> {
         Corpus::ValidLong => one(valid_long(prng, number)),
         Corpus::EveryCut => every_cut(small_or_example(prng, number)),
         Corpus::EveryByte => every_byte(&small_or_example(prng, number)),
-        Corpus::RandomDamage => one(random_damage(prng)),
+        Corpus::RandomDamage => one(random_damage(prng, number)),
         Corpus::ExtraBytes => one(extra_bytes(prng, number)),
         Corpus::CountsChanged => one(counts_changed(prng)),
         Corpus::CompetingEvents => one(competing_events(prng)),
@@ -235,7 +235,7 @@ pub fn random_events(prng: &mut Prng, table: &Table, count: usize) -> (Vec<Event
     (events, schedule)
 }
 
-pub fn random_recording(prng: &mut Prng, size: Size, most: usize) -> (Recording, Schedule) {
+fn random_recording(prng: &mut Prng, size: Size, most: usize) -> (Recording, Schedule) {
     let table = random_table(prng, size);
     let count = prng.between(0, most);
     let (events, schedule) = random_events(prng, &table, count);
@@ -347,8 +347,10 @@ fn other(bytes: Vec<u8>, room: usize) -> Case {
     Case { bytes, room, origin: Origin::Other }
 }
 
-fn random_damage(prng: &mut Prng) -> Case {
-    let (recording, _) = random_recording(prng, Size::Limit, 300);
+/// Large tables, and each 16th recording with up to 10,000 events.
+fn random_damage(prng: &mut Prng, number: usize) -> Case {
+    let most = if number % 16 == 0 { MOST_EVENTS } else { 300 };
+    let (recording, _) = random_recording(prng, Size::Limit, most);
     let mut bytes = encode(&recording);
     // Faults in the events show more than faults in the table, and a fault in
     // the table hides what follows: three in four fall after E.
@@ -484,8 +486,8 @@ fn nasty_set(prng: &mut Prng, phases: &[u8]) -> u16 {
     }
 }
 
-/// Links whose last record breaks several rules at once.
-fn competing_links(prng: &mut Prng) -> Case {
+/// A table whose last links break several rules at once, as a rule.
+pub fn competing_table(prng: &mut Prng) -> Table {
     let size = prng.pick(&[Size::Small, Size::Any, Size::Limit]);
     let mut table = random_table(prng, size);
     let tasks = table.defaults.len();
@@ -495,7 +497,11 @@ fn competing_links(prng: &mut Prng) -> Case {
     for _ in 0..prng.between(1, 3) {
         table.links.push(nasty_link(prng, tasks, &table.links));
     }
-    let mut bytes = encode_table(&table);
+    table
+}
+
+fn competing_links(prng: &mut Prng) -> Case {
+    let mut bytes = encode_table(&competing_table(prng));
     if prng.chance(80) {
         bytes.extend_from_slice(&[0, 0]);
     } else {

@@ -38,7 +38,7 @@ struct Node {
 
 /// All events worth giving to a table, each kind's out-of-range one included.
 /// The value of a finish is filled in when it is given.
-pub fn alphabet(table: &Table) -> Vec<Event> {
+fn alphabet(table: &Table) -> Vec<Event> {
     let tasks = table.defaults.len();
     let mut events: Vec<Event> = (0..1u16 << tasks).map(Event::Arrival).collect();
     events.extend([Event::Arrival(1 << tasks), Event::Arrival(1 << tasks | 1)]);

@@ -2,9 +2,10 @@
 //! step with the engines, so an engine's slip does not repeat itself here.
 
 use crate::engine::{IDLE, RUNNING, WAITING};
-use crate::format::{encode, Counts, Event, Recording, Table};
+use crate::format::{encode, Counts, Event, Recording};
 use crate::state::State;
-use crate::subject::{Answer, OneAnswer, Subject};
+use crate::subject::{Answer, Made, OneAnswer, Subject};
+use crate::tables::LentTable;
 
 /// Soundness as the document's sentence reads, over all links and pairs.
 pub fn sound_by_sentence(state: &State) -> bool {
@@ -44,7 +45,7 @@ fn pointers_lie(state: &State, tasks: usize, links: usize) -> bool {
 
 /// The first fault that the bytes alone show, without an engine: its number
 /// and place. All rules that a link breaks are gathered and the least given.
-pub fn fault_in_bytes(bytes: &[u8]) -> Option<(u8, usize)> {
+fn fault_in_bytes(bytes: &[u8]) -> Option<(u8, usize)> {
     let tasks = match bytes.first() {
         None => return Some((1, 0)),
         Some(tasks) if !(1..=16).contains(tasks) => return Some((2, 0)),
@@ -159,14 +160,15 @@ pub fn replay_law_broken(bytes: &[u8], lent: &[u32], answer: &Answer) -> Option<
     let reads = answer.counts.reads as usize;
     let accepted = answer.refusal == 0;
     let active = active_tasks(&answer.state);
-    let laws: [(&'static str, bool); 10] = [
+    let laws: [(&'static str, bool); 11] = [
         ("the number is one of 0 to 18", answer.refusal <= 18),
         ("on acceptance the place is the length", !accepted || answer.place == bytes.len()),
         (
             "a refusal other than 1 has bytes at its place",
             accepted || answer.refusal == 1 || answer.place < bytes.len(),
         ),
-        ("the rest runs from the place to the end", answer.place + answer.rest == bytes.len()),
+        ("the rest runs from the place to the end", bytes.get(answer.place..) == Some(answer.rest)),
+        ("on acceptance the rest is empty", !accepted || answer.rest.is_empty()),
         ("arrivals equal finishes plus active tasks", answer.counts.arrivals == answer.counts.finishes + active),
         ("the state is sound", sound_by_sentence(&answer.state)),
         ("the list keeps its length", answer.list.len() == lent.len()),
@@ -184,7 +186,7 @@ fn active_tasks(state: &State) -> u32 {
 /// An accepted recording, given event by event to the fresh state, must come
 /// to the same state and numbers.
 pub fn stepwise_law_broken(subject: &dyn Subject, recording: &Recording, answer: &Answer) -> Option<String> {
-    let mut state = subject.fresh(&recording.table);
+    let mut state = subject.fresh(&LentTable::of(&recording.table)).state;
     let mut numbers = answer.list.iter();
     for (number, &event) in recording.events.iter().enumerate() {
         let one = subject.one_event(&state, event);
@@ -221,7 +223,8 @@ pub fn power_cut_law_broken(
         return None;
     }
     let kept = Recording { table: recording.table.clone(), events: recording.events[..whole - 1].to_vec() };
-    let expected = subject.replay(&encode(&kept), lent);
+    let kept = encode(&kept);
+    let expected = subject.replay(&kept, lent);
     let nothing_lost = whole == ends.len();
     let (refusal, place) = if nothing_lost { (0, cut) } else { (1, ends[whole - 1]) };
     if answer.refusal != refusal || answer.place != place {
@@ -378,20 +381,45 @@ fn finish_holds(before: &State, task: usize, value: u32, after: &State) -> bool 
         })
 }
 
-/// The fresh state of a table, as the document says it.
-pub fn fresh_law_broken(table: &Table, fresh: &State) -> Option<&'static str> {
-    let tasks = table.defaults.len();
-    let default = |task: usize| table.defaults.get(task).copied().unwrap_or(0);
-    let link = |l: usize| table.links.get(l).map(|k| (k.writer, k.reader, k.kind)).unwrap_or((0, 0, 0));
-    let holds = usize::from(fresh.tasks) == tasks
-        && usize::from(fresh.links) == table.links.len()
-        && (0..16).all(|t| fresh.defaults[t] == default(t) && fresh.phase[t] == IDLE)
-        && (0..16).all(|t| fresh.newest[t] == 1 && fresh.previous[t] == 1)
-        && (0..160).all(|c| fresh.cells[c] == default(c / 10))
-        && (0..32).all(|l| (fresh.writer[l], fresh.reader[l], fresh.kind[l]) == link(l) && fresh.pointer[l] == 0);
+/// What a table makes: the least rule that its first bad link breaks and the
+/// single task's state, or its own fresh state.
+pub fn made_law_broken(table: &LentTable, made: &Made) -> Option<&'static str> {
+    let refusal = table_rule_broken(table);
+    if made.refusal != refusal {
+        return Some("the refusal of a table");
+    }
+    let holds = if refusal == 0 { fresh_holds(table, &made.state) } else { made.state == State::single() };
     if holds {
         None
     } else {
-        Some("the fresh state of a table")
+        Some("the state that a table makes")
     }
+}
+
+fn table_rule_broken(table: &LentTable) -> u8 {
+    if !(1..=16).contains(&table.tasks) {
+        return 2;
+    }
+    if table.links > 32 {
+        return 3;
+    }
+    let bytes: Vec<u8> = (0..table.links).flat_map(|l| [table.writer[l], table.reader[l], table.kind[l]]).collect();
+    let broken = |l: usize| least_rule_broken(table.tasks, &bytes[..3 * l], &bytes[3 * l..3 * l + 3]);
+    (0..table.links).find_map(broken).unwrap_or(0)
+}
+
+/// The fresh state of a table, as the document says it. Slots past the counts
+/// are those of no task and no link, whatever the lent ones held.
+fn fresh_holds(table: &LentTable, fresh: &State) -> bool {
+    let default = |t: usize| if t < table.tasks { table.defaults[t] } else { 0 };
+    let link = |l: usize| match l < table.links {
+        true => (table.writer[l], table.reader[l], table.kind[l]),
+        false => (0, 0, 0),
+    };
+    usize::from(fresh.tasks) == table.tasks
+        && usize::from(fresh.links) == table.links
+        && (0..16).all(|t| fresh.defaults[t] == default(t) && fresh.phase[t] == IDLE)
+        && (0..16).all(|t| fresh.newest[t] == 1 && fresh.previous[t] == 1)
+        && (0..160).all(|c| fresh.cells[c] == default(c / 10))
+        && (0..32).all(|l| (fresh.writer[l], fresh.reader[l], fresh.kind[l]) == link(l) && fresh.pointer[l] == 0)
 }

@@ -4,7 +4,8 @@
 //! `format` reads recordings, `pointers` and `zero_time` are two engines that
 //! know nothing of each other, `subject` is what gets judged, `laws` says the
 //! same rules once more as properties, `wrong` holds the errors that look
-//! right, and `corpus`, `saved` and `exhaustive` make the inputs.
+//! right, `corpus`, `tables`, `saved` and `exhaustive` make the inputs, and
+//! `reach` says how deep they went.
 
 #![forbid(unsafe_code)]
 
@@ -16,9 +17,11 @@ pub mod format;
 pub mod laws;
 pub mod pointers;
 pub mod prng;
+pub mod reach;
 pub mod run;
 pub mod saved;
 pub mod state;
 pub mod subject;
+pub mod tables;
 pub mod wrong;
 pub mod zero_time;

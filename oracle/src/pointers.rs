@@ -56,7 +56,7 @@ fn in_table(number: u8, count: u8) -> Option<usize> {
     }
 }
 
-pub fn set_outside_table(state: &State, set: u16) -> bool {
+fn set_outside_table(state: &State, set: u16) -> bool {
     u32::from(set) >> state.tasks != 0
 }
 

@@ -2,74 +2,52 @@
 //! against each other, and the wrong subjects against all of it.
 
 use crate::corpus::{batch, Case, Corpus, Origin, CORPORA};
-use crate::engine::{Engine, RUNNING};
+use crate::engine::Engine;
 use crate::exhaustive::{explore, three_task_tables, Visited};
 use crate::format::{Event, Recording, Table};
 use crate::laws;
 use crate::prng::Prng;
+use crate::reach::Reached;
 use crate::saved::{any_bytes, crowded, event_for, every_field_spoiled, from_history, randomly_spoiled, Saved};
 use crate::state::State;
 use crate::subject::{disagreement, zero_time_reading, Answer, OneAnswer, Oracle, Subject};
-use crate::wrong::{in_saved_states, Flaw, Wrong, IN_RECORDINGS};
+use crate::tables::{self, LentTable};
+use crate::wrong::{in_saved_states, in_tables, Flaw, Wrong, IN_RECORDINGS};
 
 pub struct Options {
     pub seed: u64,
     pub count: usize,
     pub exhaustive: usize,
     pub long: bool,
+    /// The run must reach all that `Reached::missing` names.
+    pub must_reach: bool,
 }
 
 impl Default for Options {
     fn default() -> Options {
-        Options { seed: 1, count: 240_000, exhaustive: 20, long: false }
+        Options { seed: 1, count: 240_000, exhaustive: 20, long: false, must_reach: true }
     }
 }
 
 /// How many inputs a wrong subject answered differently.
 #[derive(Clone, Copy, Default)]
-pub struct Exposure {
-    pub whole: usize,
-    /// By numbers, refusal, place or counts, without looking at the state.
-    pub without_state: usize,
+struct Exposure {
+    whole: usize,
+    /// By numbers, refusal, place, counts or rest, without looking at the state.
+    without_state: usize,
 }
 
-/// What the inputs reached, to show that they go deep.
-#[derive(Default)]
-pub struct Reach {
-    pub refusals: [usize; 20],
-    pub most_active: usize,
-    pub most_running: usize,
-    pub highest_position: u8,
-    pub longest: usize,
-}
-
-impl Reach {
-    fn note(&mut self, bytes: &[u8], answer: &Answer) {
-        self.refusals[usize::from(answer.refusal).min(19)] += 1;
-        self.longest = self.longest.max(bytes.len());
-        self.note_state(&answer.state);
-    }
-
-    fn note_state(&mut self, state: &State) {
-        let tasks = usize::from(state.tasks).min(16);
-        let active = (0..tasks).filter(|task| state.active(*task)).count();
-        let running = state.phase[..tasks].iter().filter(|phase| **phase == RUNNING).count();
-        self.most_active = self.most_active.max(active);
-        self.most_running = self.most_running.max(running);
-        self.highest_position = state.newest[..tasks].iter().copied().fold(self.highest_position, u8::max);
-    }
-}
-
-pub struct Run<'a> {
+struct Run<'a> {
     subject: &'a dyn Subject,
     recordings: usize,
     saved_states: usize,
+    tables: usize,
     differences: usize,
     first_difference: Option<String>,
     wrong_replays: Vec<(Wrong, Exposure)>,
     wrong_events: Vec<(Wrong, Exposure)>,
-    reach: Reach,
-    saved_reach: Reach,
+    wrong_tables: Vec<(Wrong, Exposure)>,
+    reached: Reached,
 }
 
 fn subjects(flaws: &[Flaw]) -> Vec<(Wrong, Exposure)> {
@@ -86,17 +64,18 @@ fn hex(bytes: &[u8]) -> String {
 }
 
 impl<'a> Run<'a> {
-    pub fn new(subject: &'a dyn Subject) -> Run<'a> {
+    fn new(subject: &'a dyn Subject) -> Run<'a> {
         Run {
             subject,
             recordings: 0,
             saved_states: 0,
+            tables: 0,
             differences: 0,
             first_difference: None,
             wrong_replays: subjects(&IN_RECORDINGS),
             wrong_events: subjects(&in_saved_states()),
-            reach: Reach::default(),
-            saved_reach: Reach::default(),
+            wrong_tables: subjects(&in_tables()),
+            reached: Reached::default(),
         }
     }
 
@@ -127,14 +106,14 @@ impl<'a> Run<'a> {
         }
         self.compare_origin(case, &lent, &answer);
         self.expose_replay(bytes, &lent, &answer);
-        self.reach.note(bytes, &answer);
+        self.reached.recordings.note(bytes, &answer);
     }
 
     fn compare_zero_time(&mut self, bytes: &[u8], lent: &[u32], answer: &Answer) {
         let zero = zero_time_reading(bytes, lent);
         if let Some(what) = disagreement(answer, &zero) {
             let told = format!(
-                "refusal {} at {}, {:?}, list {:?}, rest {}",
+                "refusal {} at {}, {:?}, list {:?}, rest {:?}",
                 zero.refusal, zero.place, zero.counts, zero.list, zero.rest
             );
             self.differ(what, || both_answers(bytes, lent.len(), answer, "zero time", &told));
@@ -159,11 +138,8 @@ impl<'a> Run<'a> {
         }
     }
 
-    fn compare_valid(&self, recording: &Recording, answer: &Answer) -> Option<String> {
-        let fresh = self.subject.fresh(&recording.table);
-        if let Some(law) = laws::fresh_law_broken(&recording.table, &fresh) {
-            return Some(law.to_string());
-        }
+    fn compare_valid(&mut self, recording: &Recording, answer: &Answer) -> Option<String> {
+        self.take_table(&LentTable::of(&recording.table));
         laws::stepwise_law_broken(self.subject, recording, answer)
     }
 
@@ -179,7 +155,7 @@ impl<'a> Run<'a> {
         }
     }
 
-    pub fn corpus(&mut self, corpus: Corpus, quota: usize, prng: &mut Prng) -> usize {
+    fn corpus(&mut self, corpus: Corpus, quota: usize, prng: &mut Prng) -> usize {
         let mut taken = 0;
         let mut number = 0;
         while taken < quota {
@@ -190,6 +166,40 @@ impl<'a> Run<'a> {
             number += 1;
         }
         taken
+    }
+
+    // ------------------------------------------------------------ tables
+
+    fn take_table(&mut self, table: &LentTable) {
+        self.tables += 1;
+        let answer = Oracle.fresh(table);
+        let other = self.subject.fresh(table);
+        let both = |name: &str, told: &str| format!("{:?}\noracle: {:?}\n{}: {}", table, answer, name, told);
+        if other != answer {
+            let name = self.subject.name();
+            self.differ("the subject's answer to a table", || both(&name, &format!("{:?}", other)));
+        }
+        if let Some(law) = laws::made_law_broken(table, &answer) {
+            self.differ(law, || both("law", law));
+        }
+        for (wrong, exposure) in &mut self.wrong_tables {
+            let given = wrong.fresh(table);
+            exposure.whole += (given != answer) as usize;
+            exposure.without_state += (given.refusal != answer.refusal) as usize;
+        }
+        self.reached.tables[usize::from(answer.refusal)] += 1;
+    }
+
+    fn tables(&mut self, quota: usize, prng: &mut Prng) -> usize {
+        let before = self.tables;
+        let mut number = 0;
+        while self.tables - before < quota {
+            for table in tables::batch(number, prng) {
+                self.take_table(&table);
+            }
+            number += 1;
+        }
+        self.tables - before
     }
 
     // ------------------------------------------------------ saved states
@@ -214,9 +224,9 @@ impl<'a> Run<'a> {
                 exposure.without_state += ((given.refusal, given.value) != (answer.refusal, answer.value)) as usize;
             }
         }
-        self.saved_reach.refusals[usize::from(answer.refusal)] += 1;
+        self.reached.events.refusals[usize::from(answer.refusal)] += 1;
         if answer.refusal != 19 {
-            self.saved_reach.note_state(state);
+            self.reached.events.note_state(state);
         }
         answer
     }
@@ -232,7 +242,7 @@ impl<'a> Run<'a> {
         }
     }
 
-    pub fn sound_states(&mut self, quota: usize, prng: &mut Prng) -> usize {
+    fn sound_states(&mut self, quota: usize, prng: &mut Prng) -> usize {
         let before = self.saved_states;
         while self.saved_states - before < quota {
             let mut saved = from_history(prng);
@@ -244,7 +254,7 @@ impl<'a> Run<'a> {
         self.saved_states - before
     }
 
-    pub fn spoiled_states(&mut self, quota: usize, prng: &mut Prng) -> usize {
+    fn spoiled_states(&mut self, quota: usize, prng: &mut Prng) -> usize {
         let before = self.saved_states;
         while self.saved_states - before < quota {
             let saved = from_history(prng);
@@ -262,43 +272,35 @@ impl<'a> Run<'a> {
 
     // ----------------------------------------------------------- reports
 
-    fn print_reach(&self) {
-        print_refusals("refusals in recordings:", &self.reach.refusals[..19]);
-        println!(
-            "  most tasks active at once {}, running at once {}, highest position {}, longest {} bytes",
-            self.reach.most_active, self.reach.most_running, self.reach.highest_position, self.reach.longest
-        );
-        print_refusals("refusals of one event: ", &self.saved_reach.refusals);
-    }
-
     fn print_exposures(&self) -> bool {
         println!("wrong subjects, recordings that exposed each (without looking at the state):");
         let replays = print_exposed(&self.wrong_replays);
         println!("wrong subjects, saved states that exposed each (by refusal or value alone):");
         let events = print_exposed(&self.wrong_events);
-        replays && events
+        println!("wrong subjects, tables that exposed each (by refusal alone):");
+        let tables = print_exposed(&self.wrong_tables);
+        replays && events && tables
     }
 
-    /// The end of the run: true when nothing differed and all were exposed.
-    pub fn conclude(&self) -> bool {
-        self.print_reach();
+    /// The end of the run: true when nothing differed, all were exposed, and
+    /// all was reached that must be.
+    fn conclude(&self, must_reach: bool) -> bool {
+        self.reached.print();
         let exposed = self.print_exposures();
+        let missing = if must_reach { self.reached.missing() } else { Vec::new() };
+        for what in &missing {
+            println!("not reached: {}", what);
+        }
         if let Some(first) = &self.first_difference {
             println!("{}", first);
         }
         if !exposed {
             println!("a wrong subject was not exposed");
         }
-        println!("{} recordings, {} saved states", self.recordings, self.saved_states);
+        println!("{} recordings, {} tables, {} saved states", self.recordings, self.tables, self.saved_states);
         println!("{} differences", self.differences);
-        exposed && self.differences == 0
+        exposed && missing.is_empty() && self.differences == 0
     }
-}
-
-fn print_refusals(title: &str, refusals: &[usize]) {
-    let told: Vec<String> =
-        refusals.iter().enumerate().map(|(number, count)| format!("{}:{}", number, count)).collect();
-    println!("{} {}", title, told.join(" "));
 }
 
 fn print_exposed(wrongs: &[(Wrong, Exposure)]) -> bool {
@@ -348,7 +350,7 @@ fn stream(seed: u64, number: usize) -> Prng {
     Prng::new(Prng::new(seed ^ (number as u64) << 56).draw())
 }
 
-/// The whole run; true when there were no differences.
+/// The whole run; true when there is nothing to complain of.
 pub fn run(subject: &dyn Subject, options: &Options) -> bool {
     println!("seed {}", options.seed);
     let mut run = Run::new(subject);
@@ -356,6 +358,8 @@ pub fn run(subject: &dyn Subject, options: &Options) -> bool {
         let taken = run.corpus(corpus, quota(corpus, options), &mut stream(options.seed, number));
         println!("{:<16} {:>8} recordings", format!("{:?}", corpus), taken);
     }
+    let tables = run.tables(options.count / 4, &mut stream(options.seed, 102));
+    println!("{:<16} {:>8} tables", "Tables", tables);
     let sound = run.sound_states(options.count / 4, &mut stream(options.seed, 100));
     println!("{:<16} {:>8} events on saved states", "SoundStates", sound);
     let spoiled = run.spoiled_states(options.count / 2, &mut stream(options.seed, 101));
@@ -363,7 +367,7 @@ pub fn run(subject: &dyn Subject, options: &Options) -> bool {
     if options.exhaustive > 0 {
         run.exhaustive(options.exhaustive, options.long);
     }
-    run.conclude()
+    run.conclude(options.must_reach)
 }
 
 impl<'a> Run<'a> {
@@ -384,6 +388,7 @@ impl<'a> Run<'a> {
                 Err(fault) => self.differ("every sequence", || format!("{:?}\n{}", table, fault)),
             }
         }
+        self.reached.states = total.states;
         println!(
             "exhaustive: {} tables, depth {}, {} states, {} transitions{}",
             tables.len(),

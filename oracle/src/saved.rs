@@ -1,8 +1,8 @@
 //! Saved states: sound ones from random histories, and spoiled ones.
 
 use crate::corpus::{nasty_event, random_events, random_table, Schedule, Size};
-use crate::engine::{Engine, FreshEngine, IDLE};
-use crate::format::{Event, Link, Recording, Table, DELAYED};
+use crate::engine::{Engine, FreshEngine, IDLE, RUNNING};
+use crate::format::{Event, Link, Table, DELAYED};
 use crate::pointers::Pointers;
 use crate::prng::Prng;
 use crate::state::{State, MOST_CELLS, MOST_POSITIONS};
@@ -14,26 +14,41 @@ pub struct Saved {
     pub zero: ZeroTime,
     pub table: Table,
     pub schedule: Schedule,
-    pub history: Recording,
 }
 
 pub fn from_history(prng: &mut Prng) -> Saved {
     let size = prng.pick(&[Size::Small, Size::Any, Size::Any, Size::Limit]);
     let table = random_table(prng, size);
+    if prng.chance(5) {
+        return all_running(table);
+    }
     from_history_of(prng, table)
 }
 
 fn from_history_of(prng: &mut Prng, table: Table) -> Saved {
     let count = prng.below(120);
     let (events, schedule) = random_events(prng, &table, count);
+    after(table, events, schedule)
+}
+
+/// The deepest interruption: from the least urgent on, each task is
+/// interrupted by the next as soon as it runs.
+fn all_running(table: Table) -> Saved {
+    let tasks = 0..table.defaults.len() as u8;
+    let events = tasks.rev().flat_map(|task| [Event::Arrival(1 << task), Event::Start(task)]).collect();
+    let mut schedule = Schedule::new(&table);
+    schedule.phase.fill(RUNNING);
+    after(table, events, schedule)
+}
+
+fn after(table: Table, events: Vec<Event>, schedule: Schedule) -> Saved {
     let mut pointers = Pointers::fresh(&table);
     let mut zero = ZeroTime::fresh(&table);
     for &event in &events {
         pointers.apply(event);
         zero.apply(event);
     }
-    let history = Recording { table: table.clone(), events };
-    Saved { state: pointers.state, zero, table, schedule, history }
+    Saved { state: pointers.state, zero, table, schedule }
 }
 
 /// An event for a state: half of them are likely to be allowed.
@@ -58,7 +73,7 @@ pub fn event_for(prng: &mut Prng, state: &State, saved: &Saved) -> Event {
 /// Every field that a lent state has; the index runs over the whole array,
 /// slots past the counts included.
 #[derive(Clone, Copy, PartialEq, Eq, Debug)]
-pub enum Field {
+enum Field {
     Tasks,
     Links,
     Default(usize),
@@ -72,7 +87,7 @@ pub enum Field {
     Pointer(usize),
 }
 
-pub fn all_fields() -> Vec<Field> {
+fn all_fields() -> Vec<Field> {
     let mut fields = vec![Field::Tasks, Field::Links];
     for t in 0..16 {
         fields.extend([Field::Default(t), Field::Phase(t), Field::Newest(t), Field::Previous(t)]);
@@ -85,7 +100,7 @@ pub fn all_fields() -> Vec<Field> {
 }
 
 /// The values either side of each line a field has, for a state.
-pub fn boundary_values(state: &State, field: Field) -> Vec<u32> {
+fn boundary_values(state: &State, field: Field) -> Vec<u32> {
     let tasks = u32::from(state.tasks);
     let links = u32::from(state.links);
     let lines = |positions: u32| vec![0, 1, 2, positions, positions + 1, 10, 11, 255];
@@ -101,7 +116,7 @@ pub fn boundary_values(state: &State, field: Field) -> Vec<u32> {
     }
 }
 
-pub fn set_field(state: &mut State, field: Field, value: u32) {
+fn set_field(state: &mut State, field: Field, value: u32) {
     let byte = value as u8;
     match field {
         Field::Tasks => state.tasks = byte,

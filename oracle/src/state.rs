@@ -81,14 +81,6 @@ impl State {
     pub fn cell(&self, task: usize, position: u8) -> usize {
         task * MOST_POSITIONS + usize::from(position) - 1
     }
-
-    /// The links of the table, for states whose count of links is in range.
-    pub fn table(&self) -> Table {
-        Table {
-            defaults: self.defaults[..usize::from(self.tasks)].to_vec(),
-            links: (0..usize::from(self.links)).map(|number| self.link(number)).collect(),
-        }
-    }
 }
 
 /// The parts of "a state is sound when"; each can be the only one broken.

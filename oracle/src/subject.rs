@@ -1,22 +1,32 @@
 //! What gets judged: whole replays, the fresh state of a table, one event on
-//! a saved state. The real code is to be linked behind this trait.
+//! a saved state. The oracle and the wrong subjects stand behind this trait;
+//! the crate `judge` links the proved library behind it.
 
 use crate::engine::{Engine, FreshEngine};
-use crate::format::{replay, Counts, Event, Reading, Table};
+use crate::format::{replay, Counts, Event, Reading};
 use crate::pointers::{judge, Pointers};
 use crate::state::{sound, State};
+use crate::tables::LentTable;
 use crate::zero_time::ZeroTime;
 
 /// The answer to a whole recording. The list is the lent one afterwards, its
-/// untouched part included; `rest` is the length of the unread rest.
+/// untouched part included; `rest` is the unread rest of the recording.
 #[derive(Clone, PartialEq, Eq, Debug)]
-pub struct Answer {
+pub struct Answer<'a> {
     pub refusal: u8,
     pub place: usize,
     pub counts: Counts,
     pub state: State,
     pub list: Vec<u32>,
-    pub rest: usize,
+    pub rest: &'a [u8],
+}
+
+/// The answer to a table: 0 and its fresh state, or the refusal among 2 to 9
+/// and the single task's.
+#[derive(Clone, PartialEq, Eq, Debug)]
+pub struct Made {
+    pub refusal: u8,
+    pub state: State,
 }
 
 /// The answer to one event given to a saved state.
@@ -31,10 +41,10 @@ pub trait Subject {
     fn name(&self) -> String;
 
     /// Reads a whole recording with a list lent as it stands.
-    fn replay(&self, bytes: &[u8], lent: &[u32]) -> Answer;
+    fn replay<'a>(&self, bytes: &'a [u8], lent: &[u32]) -> Answer<'a>;
 
-    /// The fresh state of a table that keeps rules 2 to 9.
-    fn fresh(&self, table: &Table) -> State;
+    /// What a table makes that may break rules 2 to 9.
+    fn fresh(&self, table: &LentTable) -> Made;
 
     /// One event given to a state that may hold any bytes.
     fn one_event(&self, state: &State, event: Event) -> OneAnswer;
@@ -48,12 +58,15 @@ impl Subject for Oracle {
         "oracle".to_string()
     }
 
-    fn replay(&self, bytes: &[u8], lent: &[u32]) -> Answer {
+    fn replay<'a>(&self, bytes: &'a [u8], lent: &[u32]) -> Answer<'a> {
         answer_of(replay(bytes, lent, Pointers::fresh), |engine| engine.state)
     }
 
-    fn fresh(&self, table: &Table) -> State {
-        State::fresh(table)
+    fn fresh(&self, table: &LentTable) -> Made {
+        match table.judged() {
+            Ok(table) => Made { refusal: 0, state: State::fresh(&table) },
+            Err(refusal) => Made { refusal, state: State::single() },
+        }
     }
 
     fn one_event(&self, state: &State, event: Event) -> OneAnswer {
@@ -65,7 +78,7 @@ impl Subject for Oracle {
     }
 }
 
-pub fn answer_of<E>(reading: Reading<E>, state: impl FnOnce(E) -> State) -> Answer {
+pub fn answer_of<E>(reading: Reading<'_, E>, state: impl FnOnce(E) -> State) -> Answer<'_> {
     Answer {
         refusal: reading.refusal,
         place: reading.place,
@@ -93,13 +106,13 @@ pub fn one_event_with(
 }
 
 /// What the zero-time run says of a recording.
-pub fn zero_time_reading(bytes: &[u8], lent: &[u32]) -> Reading<ZeroTime> {
+pub fn zero_time_reading<'a>(bytes: &'a [u8], lent: &[u32]) -> Reading<'a, ZeroTime> {
     replay(bytes, lent, ZeroTime::fresh)
 }
 
 /// What a whole answer and a zero-time reading disagree on, if anything:
 /// numbers, refusal, place, counts, rest, and the phases.
-pub fn disagreement(answer: &Answer, zero: &Reading<ZeroTime>) -> Option<&'static str> {
+pub fn disagreement(answer: &Answer, zero: &Reading<'_, ZeroTime>) -> Option<&'static str> {
     if answer.refusal != zero.refusal {
         return Some("refusal");
     }

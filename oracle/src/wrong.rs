@@ -4,7 +4,8 @@ use crate::engine::{Engine, IDLE, RUNNING};
 use crate::format::{link_refusal, replay, Event, Link, Table, Walker};
 use crate::pointers as right;
 use crate::state::{broken_clauses, Clause, State, ABSENT, CLAUSES};
-use crate::subject::{answer_of, one_event_with, Answer, OneAnswer, Oracle, Subject};
+use crate::subject::{answer_of, one_event_with, Answer, Made, OneAnswer, Oracle, Subject};
+use crate::tables::LentTable;
 
 #[derive(Clone, Copy, PartialEq, Eq, Debug)]
 pub enum Flaw {
@@ -37,13 +38,19 @@ pub enum Flaw {
     RestBeforeKind,
     ListCleared,
     EarlyTableKept,
-    // In the judgement of a saved state.
+    RestFromTheLeft,
+    // In the judgement of a table.
+    LinksBeforeTasks,
+    CountsCutToBytes,
+    LeastOfAllLinks,
+    PastCountsKept,
+    // In the judgement of a saved state, and of a table.
     Unsound(Clause),
     TwelveBeforeNineteen,
 }
 
 /// The errors the corpus of whole recordings must expose.
-pub const IN_RECORDINGS: [Flaw; 27] = [
+pub const IN_RECORDINGS: [Flaw; 28] = [
     Flaw::PointersAtStart,
     Flaw::ReadersFirst,
     Flaw::FreedAtStart,
@@ -71,7 +78,22 @@ pub const IN_RECORDINGS: [Flaw; 27] = [
     Flaw::RestBeforeKind,
     Flaw::ListCleared,
     Flaw::EarlyTableKept,
+    Flaw::RestFromTheLeft,
 ];
+
+/// The errors the tables must expose.
+pub fn in_tables() -> Vec<Flaw> {
+    let mut flaws = vec![
+        Flaw::LinkFaultsFalling,
+        Flaw::EarlyTableKept,
+        Flaw::LinksBeforeTasks,
+        Flaw::CountsCutToBytes,
+        Flaw::LeastOfAllLinks,
+        Flaw::PastCountsKept,
+    ];
+    flaws.extend(CLAUSES.iter().filter(|clause| **clause as u8 <= 9).map(|clause| Flaw::Unsound(*clause)));
+    flaws
+}
 
 /// The errors the corpus of saved states must expose.
 pub fn in_saved_states() -> Vec<Flaw> {
@@ -91,14 +113,14 @@ impl Subject for Wrong {
         format!("{:?}", self.flaw)
     }
 
-    fn replay(&self, bytes: &[u8], lent: &[u32]) -> Answer {
+    fn replay<'a>(&self, bytes: &'a [u8], lent: &[u32]) -> Answer<'a> {
         let make = |table: &Table| WrongEngine::new(self.flaw, State::fresh(table));
         let answer = answer_of(replay(bytes, lent, make), |engine| engine.state);
         distorted(self.flaw, bytes, answer)
     }
 
-    fn fresh(&self, table: &Table) -> State {
-        State::fresh(table)
+    fn fresh(&self, table: &LentTable) -> Made {
+        distorted_table(self.flaw, table, Oracle.fresh(table))
     }
 
     fn one_event(&self, state: &State, event: Event) -> OneAnswer {
@@ -270,7 +292,7 @@ fn all_direct(state: &mut State, set: u16) {
 // ------------------------------------------------------------- the reader
 
 /// The right answer bent the way a wrong reader would give it.
-fn distorted(flaw: Flaw, bytes: &[u8], mut answer: Answer) -> Answer {
+fn distorted<'a>(flaw: Flaw, bytes: &'a [u8], mut answer: Answer<'a>) -> Answer<'a> {
     let refusal = answer.refusal;
     let place = answer.place;
     let part = || part_of(bytes, place);
@@ -284,11 +306,11 @@ fn distorted(flaw: Flaw, bytes: &[u8], mut answer: Answer) -> Answer {
         Flaw::SeventeenNotGiven if refusal == 17 => {
             answer.refusal = 0;
             answer.place = bytes.len();
-            answer.rest = 0;
+            answer.rest = &[];
         }
         Flaw::ArrivalEventsCounted => answer.counts.arrivals = arrival_events(bytes, answer.place),
         Flaw::LinkFaultsFalling if (4..=9).contains(&refusal) => falling_link_fault(bytes, &mut answer),
-        Flaw::RestBeforeKind if refusal == 11 && answer.rest < 2 => answer.refusal = 1,
+        Flaw::RestBeforeKind if refusal == 11 && answer.rest.len() < 2 => answer.refusal = 1,
         Flaw::ListCleared => {
             let reads = answer.counts.reads as usize;
             answer.list[reads..].fill(0);
@@ -296,6 +318,7 @@ fn distorted(flaw: Flaw, bytes: &[u8], mut answer: Answer) -> Answer {
         Flaw::EarlyTableKept if matches!(refusal, 1 | 10) && part() == Part::EventCount => {
             answer.state = State::fresh(&table_before(bytes));
         }
+        Flaw::RestFromTheLeft => answer.rest = &bytes[..answer.rest.len()],
         _ => {}
     }
     answer
@@ -337,9 +360,9 @@ fn table_before(bytes: &[u8]) -> Table {
 }
 
 fn shift_place(answer: &mut Answer) {
-    if answer.rest > 0 {
+    if let Some(rest) = answer.rest.get(1..) {
         answer.place += 1;
-        answer.rest -= 1;
+        answer.rest = rest;
     }
 }
 
@@ -397,11 +420,11 @@ fn falling_link_fault(bytes: &[u8], answer: &mut Answer) {
         .map(|record| Link { writer: record[0], reader: record[1], kind: record[2] })
         .collect();
     if let Some((&last, earlier)) = links.split_last() {
-        answer.refusal = applying_link_faults(tasks, earlier, last).into_iter().max().unwrap_or(0);
+        answer.refusal = greatest_link_fault(tasks, earlier, last);
     }
 }
 
-fn applying_link_faults(tasks: usize, earlier: &[Link], link: Link) -> Vec<u8> {
+fn greatest_link_fault(tasks: usize, earlier: &[Link], link: Link) -> u8 {
     let same = earlier.iter().filter(|other| other.writer == link.writer);
     let behind = same.clone().filter(|other| other.reader_behind()).count();
     [
@@ -416,5 +439,42 @@ fn applying_link_faults(tasks: usize, earlier: &[Link], link: Link) -> Vec<u8> {
     .iter()
     .filter(|(_, applies)| *applies)
     .map(|(number, _)| *number)
-    .collect()
+    .fold(0, u8::max)
+}
+
+// -------------------------------------------------------------- the tables
+
+/// The right answer to a table bent the way a wrong judge would give it.
+fn distorted_table(flaw: Flaw, table: &LentTable, right: Made) -> Made {
+    let in_links = (4..=9).contains(&right.refusal);
+    match flaw {
+        Flaw::LinkFaultsFalling if in_links => Made { refusal: link_faults(table, greatest_link_fault)[0], ..right },
+        Flaw::LeastOfAllLinks if in_links => {
+            let least = link_faults(table, link_refusal).into_iter().min();
+            Made { refusal: least.unwrap_or(0), ..right }
+        }
+        Flaw::EarlyTableKept if in_links => Made { state: State::fresh(&as_it_stands(table)), ..right },
+        Flaw::LinksBeforeTasks if right.refusal == 2 && table.links > 32 => Made { refusal: 3, ..right },
+        Flaw::CountsCutToBytes => {
+            let byte = |count: usize| usize::from(count as u8);
+            Oracle.fresh(&LentTable { tasks: byte(table.tasks), links: byte(table.links), ..table.clone() })
+        }
+        Flaw::PastCountsKept if right.refusal == 0 => {
+            let state = State { defaults: table.defaults, kind: table.kind, ..right.state };
+            Made { refusal: 0, state }
+        }
+        Flaw::Unsound(clause) if clause as u8 == right.refusal => Made { refusal: 0, ..right },
+        _ => right,
+    }
+}
+
+/// What the links at fault break, one number for each of them.
+fn link_faults(table: &LentTable, fault: impl Fn(usize, &[Link], Link) -> u8) -> Vec<u8> {
+    let links = as_it_stands(table).links;
+    (0..links.len()).map(|l| fault(table.tasks, &links[..l], links[l])).filter(|fault| *fault != 0).collect()
+}
+
+/// The table of counts within the limits, whatever its links say.
+fn as_it_stands(table: &LentTable) -> Table {
+    Table { defaults: table.defaults[..table.tasks].to_vec(), links: (0..table.links).map(|l| table.link(l)).collect() }
 }

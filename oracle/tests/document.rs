@@ -5,10 +5,11 @@ use oracle::engine::{Engine, FreshEngine};
 use oracle::format::{encode, printout, Counts, Event, Link, Recording, Table, MOST_BYTES};
 use oracle::pointers::Pointers;
 use oracle::state::{sound, State};
-use oracle::subject::{disagreement, zero_time_reading, Answer, Oracle, Subject};
+use oracle::subject::{disagreement, zero_time_reading, Answer, Made, Oracle, Subject};
+use oracle::tables::LentTable;
 
 /// The oracle's answer, after checking that zero time says the same.
-fn read(bytes: &[u8], room: usize) -> Answer {
+fn read(bytes: &[u8], room: usize) -> Answer<'_> {
     let lent: Vec<u32> = (0..room as u32).map(|entry| 7_000_000 + entry).collect();
     let answer = Oracle.replay(bytes, &lent);
     assert_eq!(disagreement(&answer, &zero_time_reading(bytes, &lent)), None);
@@ -17,7 +18,7 @@ fn read(bytes: &[u8], room: usize) -> Answer {
 
 fn verdict(bytes: &[u8]) -> (u8, usize) {
     let answer = read(bytes, 10_000);
-    assert_eq!(answer.place + answer.rest, bytes.len());
+    assert_eq!(answer.rest, &bytes[answer.place..]);
     (answer.refusal, answer.place)
 }
 
@@ -48,7 +49,7 @@ const NINE_LINES: &str =
 fn the_long_example_prints_its_nine_lines() {
     let bytes = encode(&example());
     let answer = read(&bytes, 10_000);
-    assert_eq!((answer.refusal, answer.place, answer.rest), (0, 148, 0));
+    assert_eq!((answer.refusal, answer.place, answer.rest), (0, 148, &[][..]));
     assert_eq!(answer.counts, Counts { arrivals: 11, starts: 11, reads: 8, finishes: 11 });
     assert_eq!(answer.list[..8], [100, 101, 101, 102, 102, 101, 102, 103]);
     assert_eq!(answer.list[8], 7_000_008);
@@ -98,7 +99,7 @@ fn newest_of_task_1_goes_2_1_3() {
 #[test]
 fn empty_input_is_1_at_0() {
     let answer = read(&[], 3);
-    assert_eq!((answer.refusal, answer.place, answer.rest), (1, 0, 0));
+    assert_eq!((answer.refusal, answer.place, answer.rest), (1, 0, &[][..]));
     assert_eq!(answer.state, State::single());
     assert_eq!(answer.counts, Counts::default());
     assert_eq!(answer.list, [7_000_000, 7_000_001, 7_000_002]);
@@ -111,7 +112,7 @@ fn the_smallest_recording_is_accepted_and_one_byte_more_is_17_at_8() {
     assert_eq!(verdict(&bytes), (0, 8));
     bytes.push(0);
     assert_eq!(verdict(&bytes), (17, 8));
-    assert_eq!(read(&bytes, 0).rest, 1);
+    assert_eq!(read(&bytes, 0).rest, [0]);
 }
 
 #[test]
@@ -168,6 +169,35 @@ fn links_ahead_to_itself_and_of_kind_2() {
 }
 
 #[test]
+fn a_lent_table_is_judged_count_by_count_and_link_by_link() {
+    let refusal = |table: &LentTable| {
+        let made = Oracle.fresh(table);
+        assert!(made.refusal == 0 || made == Made { refusal: made.refusal, state: State::single() });
+        made.refusal
+    };
+    let lent = |tasks: usize, links: &[Link]| LentTable::of(&recording(tasks, links, &[]).table);
+    let lawful = lent(16, &many_links(32));
+    assert_eq!(refusal(&lawful), 0);
+    for tasks in [0, 17, 256 + 16, usize::MAX] {
+        assert_eq!(refusal(&LentTable { tasks, ..lawful.clone() }), 2);
+        assert_eq!(refusal(&LentTable { tasks, links: 33, ..lawful.clone() }), 2);
+    }
+    for links in [33, 256 + 32, usize::MAX] {
+        assert_eq!(refusal(&LentTable { links, ..lawful.clone() }), 3);
+    }
+    assert_eq!(refusal(&lent(2, &[link(2, 2, 2)])), 4);
+    assert_eq!(refusal(&lent(2, &[link(1, 1, 2)])), 5);
+    assert_eq!(refusal(&lent(2, &[link(1, 0, 2)])), 6);
+    assert_eq!(refusal(&lent(2, &[link(1, 0, 1), link(1, 0, 0)])), 7);
+    assert_eq!(refusal(&lent(2, &[link(0, 1, 1), link(0, 1, 0)])), 8);
+    let nine: Vec<Link> = (1..=9).map(|reader| link(0, reader, 0)).collect();
+    assert_eq!(refusal(&lent(10, &nine)), 9);
+    // The first link at fault decides, and slots past the counts belong to no link.
+    assert_eq!(refusal(&lent(2, &[link(0, 1, 2), link(2, 2, 0)])), 6);
+    assert_eq!(Oracle.fresh(&lent(4, &example().table.links)).state.writer[..4], [1, 1, 1, 0]);
+}
+
+#[test]
 fn after_the_second_arrival_r2_is_16_and_a3_is_13() {
     let second = 11;
     assert_eq!(example().events[second - 1], Event::Arrival(0b0011));
@@ -215,7 +245,7 @@ fn a_full_list_is_18_after_12_15_and_16() {
         [Event::Arrival(3), Event::Start(0), Event::Finish(0, 8), Event::Start(1), Event::Read(0), Event::Read(0)];
     let bytes = encode(&recording(2, &[link(0, 1, 0)], &events));
     let answer = read(&bytes, 1);
-    assert_eq!((answer.refusal, answer.place, answer.rest), (18, bytes.len() - 2, 2));
+    assert_eq!((answer.refusal, answer.place, answer.rest), (18, bytes.len() - 2, &[3, 0][..]));
     assert_eq!(answer.list, [8]);
     assert_eq!(answer.counts, Counts { arrivals: 2, starts: 2, reads: 1, finishes: 1 });
     let room_for_none = |event| {
@@ -237,10 +267,10 @@ fn a_power_cut_keeps_the_whole_records() {
     let bytes = encode(&example());
     let at_start_3 = 29 + 21 + 12;
     let answer = read(&bytes[..at_start_3 - 1], 10);
-    assert_eq!((answer.refusal, answer.place, answer.rest), (1, at_start_3 - 2, 1));
+    assert_eq!((answer.refusal, answer.place, answer.rest), (1, at_start_3 - 2, &[2][..]));
     assert_eq!(answer.counts, Counts { arrivals: 4, starts: 3, reads: 2, finishes: 3 });
     let early = read(&bytes[..28], 10);
-    assert_eq!((early.refusal, early.place, early.rest), (1, 27, 1));
+    assert_eq!((early.refusal, early.place, early.rest), (1, 27, &[35][..]));
     assert_eq!(early.state, State::single());
 }
 

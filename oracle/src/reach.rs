@@ -1,0 +1,99 @@
+//! What the inputs reached, to show that they go deep, and what the default
+//! run has to reach.
+
+use crate::engine::RUNNING;
+use crate::format::{MOST_BYTES, MOST_TASKS};
+use crate::state::{State, MOST_POSITIONS};
+use crate::subject::Answer;
+
+/// So many states a published model checker saw of the same protocol.
+const PUBLISHED_STATES: usize = 99_529;
+
+/// How often each number from 0 to 19 was given.
+pub type Refusals = [usize; 20];
+
+#[derive(Default)]
+pub struct Reach {
+    pub refusals: Refusals,
+    most_active: usize,
+    most_running: usize,
+    highest_position: u8,
+    longest: usize,
+}
+
+impl Reach {
+    pub fn note(&mut self, bytes: &[u8], answer: &Answer) {
+        self.refusals[usize::from(answer.refusal).min(19)] += 1;
+        self.longest = self.longest.max(bytes.len());
+        self.note_state(&answer.state);
+    }
+
+    pub fn note_state(&mut self, state: &State) {
+        let tasks = usize::from(state.tasks).min(MOST_TASKS);
+        let active = (0..tasks).filter(|task| state.active(*task)).count();
+        let running = state.phase[..tasks].iter().filter(|phase| **phase == RUNNING).count();
+        self.most_active = self.most_active.max(active);
+        self.most_running = self.most_running.max(running);
+        self.highest_position = state.newest[..tasks].iter().copied().fold(self.highest_position, u8::max);
+    }
+
+    fn depth(&self) -> String {
+        format!(
+            "  most tasks active at once {}, running at once {}, highest position {}",
+            self.most_active, self.most_running, self.highest_position
+        )
+    }
+}
+
+/// All that a run reached.
+#[derive(Default)]
+pub struct Reached {
+    pub recordings: Reach,
+    pub events: Reach,
+    pub tables: Refusals,
+    /// Of every sequence of events.
+    pub states: usize,
+}
+
+impl Reached {
+    pub fn print(&self) {
+        print_refusals("refusals in recordings:", &self.recordings.refusals[..19]);
+        println!("{}, longest {} bytes", self.recordings.depth(), self.recordings.longest);
+        print_refusals("refusals of one event: ", &self.events.refusals);
+        println!("{}", self.events.depth());
+        print_refusals("refusals of tables:    ", &self.tables[..10]);
+    }
+
+    /// What the default run must reach and this one did not.
+    pub fn missing(&self) -> Vec<String> {
+        let mut missing = Vec::new();
+        never_given(&mut missing, "in recordings", &self.recordings.refusals, (0..=18).collect());
+        never_given(&mut missing, "of one event", &self.events.refusals, vec![0, 12, 13, 14, 15, 16, 19]);
+        never_given(&mut missing, "of tables", &self.tables, vec![0, 2, 3, 4, 5, 6, 7, 8, 9]);
+        for (reach, place) in [(&self.recordings, "recordings"), (&self.events, "saved states")] {
+            at_least(&mut missing, &format!("tasks running at once in {}", place), reach.most_running, MOST_TASKS);
+            let highest = usize::from(reach.highest_position);
+            at_least(&mut missing, &format!("positions of a task in {}", place), highest, MOST_POSITIONS);
+        }
+        at_least(&mut missing, "bytes of a recording", self.recordings.longest, MOST_BYTES + 1);
+        at_least(&mut missing, "states by every sequence of events", self.states, PUBLISHED_STATES);
+        missing
+    }
+}
+
+fn print_refusals(title: &str, refusals: &[usize]) {
+    let told: Vec<String> =
+        refusals.iter().enumerate().map(|(number, count)| format!("{}:{}", number, count)).collect();
+    println!("{} {}", title, told.join(" "));
+}
+
+fn never_given(missing: &mut Vec<String>, place: &str, refusals: &Refusals, wanted: Vec<usize>) {
+    let never = wanted.into_iter().filter(|number| refusals[*number] == 0);
+    missing.extend(never.map(|number| format!("refusal {} {}", number, place)));
+}
+
+fn at_least(missing: &mut Vec<String>, what: &str, reached: usize, wanted: usize) {
+    if reached < wanted {
+        missing.push(format!("{} {}: {}", wanted, what, reached));
+    }
+}

@@ -1,0 +1,122 @@
+//! Tables as a host lends them, and the ones that get tried: lawful ones,
+//! every single fault, faults that compete, and counts outside the limits.
+
+use crate::corpus::{competing_table, random_table, Size};
+use crate::format::{link_refusal, Link, Table, MOST_LINKS, MOST_TASKS};
+use crate::prng::Prng;
+
+/// A table that is lent: any two counts, and arrays that may hold anything.
+/// Slots past the counts are not looked at.
+#[derive(Clone, PartialEq, Eq, Debug)]
+pub struct LentTable {
+    pub tasks: usize,
+    pub links: usize,
+    pub defaults: [u32; MOST_TASKS],
+    pub writer: [u8; MOST_LINKS],
+    pub reader: [u8; MOST_LINKS],
+    pub kind: [u8; MOST_LINKS],
+}
+
+impl LentTable {
+    /// A table with marks past its counts, so that a slot looked at shows.
+    /// What there is no slot for is counted and left out.
+    pub fn of(table: &Table) -> LentTable {
+        let mut lent = LentTable {
+            tasks: table.defaults.len(),
+            links: table.links.len(),
+            defaults: [0xA5A5_A5A5; MOST_TASKS],
+            writer: [0xA5; MOST_LINKS],
+            reader: [0xA5; MOST_LINKS],
+            kind: [0xA5; MOST_LINKS],
+        };
+        for (slot, &default) in lent.defaults.iter_mut().zip(&table.defaults) {
+            *slot = default;
+        }
+        for (number, &link) in table.links.iter().enumerate().take(MOST_LINKS) {
+            lent.set_link(number, link);
+        }
+        lent
+    }
+
+    pub fn link(&self, number: usize) -> Link {
+        Link { writer: self.writer[number], reader: self.reader[number], kind: self.kind[number] }
+    }
+
+    fn set_link(&mut self, number: usize, link: Link) {
+        self.writer[number] = link.writer;
+        self.reader[number] = link.reader;
+        self.kind[number] = link.kind;
+    }
+
+    fn with_counts(&self, tasks: usize, links: usize) -> LentTable {
+        LentTable { tasks, links, ..self.clone() }
+    }
+
+    fn with_link(&self, number: usize, link: Link) -> LentTable {
+        let mut changed = self.clone();
+        changed.set_link(number, link);
+        changed
+    }
+
+    /// The table, or the first of 2 to 9 that it breaks: the counts, then link
+    /// by link.
+    pub fn judged(&self) -> Result<Table, u8> {
+        if self.tasks == 0 || self.tasks > MOST_TASKS {
+            return Err(2);
+        }
+        if self.links > MOST_LINKS {
+            return Err(3);
+        }
+        let mut links = Vec::with_capacity(self.links);
+        for number in 0..self.links {
+            let link = self.link(number);
+            match link_refusal(self.tasks, &links, link) {
+                0 => links.push(link),
+                refusal => return Err(refusal),
+            }
+        }
+        Ok(Table { defaults: self.defaults[..self.tasks].to_vec(), links })
+    }
+}
+
+/// The next tables: one, or a whole family from one lawful table. `number`
+/// counts the batches.
+pub fn batch(number: usize, prng: &mut Prng) -> Vec<LentTable> {
+    let size = prng.pick(&[Size::Small, Size::Any, Size::Limit]);
+    match number % 100 {
+        0 => every_count(&LentTable::of(&random_table(prng, size))),
+        1 => every_link_byte(&LentTable::of(&random_table(prng, size))),
+        n if n % 4 == 2 => vec![LentTable::of(&random_table(prng, size))],
+        _ => vec![LentTable::of(&competing_table(prng))],
+    }
+}
+
+/// Every count near the limits, and counts that a byte or two can't hold. A
+/// smaller count of tasks leaves links that name none; a larger one of links
+/// has slots that nobody filled.
+fn every_count(lawful: &LentTable) -> Vec<LentTable> {
+    let beyond = [255, 256, 257, 512, 1 << 16, 1 << 16 | 1, 1 << 31, usize::MAX - 1, usize::MAX];
+    let tasks = || (0..=MOST_TASKS + 2).chain(beyond);
+    let links = || (0..=MOST_LINKS + 2).chain(beyond);
+    let mut tables: Vec<LentTable> = tasks().map(|count| lawful.with_counts(count, lawful.links)).collect();
+    tables.extend(links().map(|count| lawful.with_counts(lawful.tasks, count)));
+    // Both at once: the tasks come first.
+    tables.extend(beyond.iter().flat_map(|&count| {
+        [lawful.with_counts(count, count), lawful.with_counts(0, count), lawful.with_counts(count, MOST_LINKS)]
+    }));
+    tables
+}
+
+/// Each byte of each link in turn set to every task, to some past the table,
+/// and to every kind and some that are none.
+fn every_link_byte(lawful: &LentTable) -> Vec<LentTable> {
+    let tasks = || (0..=lawful.tasks as u8).chain([16, 127, 255]);
+    let mut tables = Vec::new();
+    for number in 0..lawful.links {
+        let link = lawful.link(number);
+        tables.extend(tasks().map(|writer| lawful.with_link(number, Link { writer, ..link })));
+        tables.extend(tasks().map(|reader| lawful.with_link(number, Link { reader, ..link })));
+        tables.extend([0, 1, 2, 3, 128, 255].map(|kind| lawful.with_link(number, Link { kind, ..link })));
+    }
+    tables
+}
