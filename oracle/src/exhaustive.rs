@@ -223,6 +223,6 @@ pub fn three_task_tables(links: usize) -> Vec<Table> {
 }
 
 /// Defaults that no finish writes and that differ from task to task.
-pub fn defaults(tasks: u32) -> Vec<u32> {
+fn defaults(tasks: u32) -> Vec<u32> {
     (0..tasks).map(|task| 0xD000_0000 + task).collect()
 }

@@ -83,10 +83,10 @@ impl LentTable {
 /// counts the batches.
 pub fn batch(number: usize, prng: &mut Prng) -> Vec<LentTable> {
     let size = prng.pick(&[Size::Small, Size::Any, Size::Limit]);
-    match number % 100 {
-        0 => every_count(&LentTable::of(&random_table(prng, size))),
-        1 => every_link_byte(&LentTable::of(&random_table(prng, size))),
-        n if n % 4 == 2 => vec![LentTable::of(&random_table(prng, size))],
+    match number % 400 {
+        200 => every_count(&LentTable::of(&random_table(prng, size))),
+        201 => every_link_byte(&LentTable::of(&random_table(prng, size))),
+        n if n % 4 == 0 => vec![LentTable::of(&random_table(prng, size))],
         _ => vec![LentTable::of(&competing_table(prng))],
     }
 }
