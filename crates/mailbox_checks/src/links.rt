@@ -1,13 +1,14 @@
-// What the first links of a table say of one link more, and of a task.
+// What the first links of a table, of which there are at most 32, say of one link more, and of a task.
 ghost use mathlib.Core.Path.{_≡_};
 ghost use mathlib.Core.Bool.{_&&_, cond};
-ghost use Prim.Native.Nat.{_+_, _≤_, _<_};
+ghost use Prim.Native.Nat.{_+_, _≤_, _<_, min};
 ghost use lib.Dec.{eqb, ltb};
 ghost use Rattle.lists.specs.Lists.{some};
 ghost use Rattle.protocol.specs.Table.{behinds};
 ghost use Rattle.protocol_state.specs.Saved.{at, base};
 ghost use Rattle.protocol_state.specs.Rules.{joins};
 use mailbox_parts::numbers::LINKS;
+use mailbox_parts::numbers::few;
 
 // Whether a link from `w0` to `r0` goes from `w` to `r`.
 fn is_pair(w0: u8, r0: u8, w: u8, r: u8) -> bool
@@ -18,12 +19,12 @@ fn is_pair(w0: u8, r0: u8, w: u8, r: u8) -> bool
 
 // Whether one of the first `n` links goes from `w` to `r`.
 pub fn has_pair(writer: &[u8; LINKS], reader: &[u8; LINKS], n: usize, w: u8, r: u8) -> bool
-    requires { ⌜ n ≤ base .links ⌝ }
-    ensures { λ res. ⌜ res ≡ some (joins (at (now (writer .entry))) (at (now (reader .entry))) w r) n ⌝ }
+    ensures { λ res. ⌜ res ≡ some (joins (at (now (writer .entry))) (at (now (reader .entry))) w r) (min n (base .links)) ⌝ }
 {
+    let end = few(n, LINKS);
     let mut found = false;
     let mut l = 0;
-    while l < n {
+    while l < end {
         found = is_pair(writer[l], reader[l], w, r) | found;
         l += 1;
     }
@@ -46,13 +47,13 @@ fn add(b: bool, c: usize) -> usize
 }
 
 // N: how many of the first `n` links are task `t`'s to readers behind.
-pub fn count_behind(writer: &[u8; LINKS], reader: &[u8; LINKS], n: usize, t: usize) -> usize
-    requires { ⌜ n ≤ base .links ⌝ }
-    ensures { λ r. ⌜ (r ≡ behinds ltb (at (now (writer .entry))) (at (now (reader .entry))) t n) × (r ≤ base .links) ⌝ }
+pub fn readers_behind(writer: &[u8; LINKS], reader: &[u8; LINKS], n: usize, t: usize) -> usize
+    ensures { λ r. ⌜ (r ≡ behinds ltb (at (now (writer .entry))) (at (now (reader .entry))) t (min n (base .links))) × (r ≤ base .links) ⌝ }
 {
+    let end = few(n, LINKS);
     let mut c = 0;
     let mut l = 0;
-    while l < n {
+    while l < end {
         c = add(is_behind(writer[l], reader[l], t), c);
         l += 1;
     }

@@ -7,7 +7,7 @@ ghost use Rattle.lists.specs.Lists.{every};
 ghost use Rattle.protocol.specs.Table.{behinds};
 ghost use Rattle.protocol_state.specs.Saved.{at, base};
 ghost use Rattle.protocol_state.specs.Sound.{within, taskIs, taskOk, pointerIs, pointerOk, soundParts};
-use crate::links::count_behind;
+use crate::links::readers_behind;
 use crate::table::judge_table;
 use mailbox_parts::numbers::LINKS;
 use mailbox_parts::numbers::TASKS;
@@ -42,7 +42,7 @@ fn task_ok(
     requires { ⌜ links ≤ base .links ⌝ }
     ensures { λ r. ⌜ r ≡ taskIs phase newest previous (behinds ltb (at (now (writer .entry))) (at (now (reader .entry))) t links) ⌝ }
 {
-    let n = count_behind(writer, reader, links, t);
+    let n = readers_behind(writer, reader, links, t);
     task_is(phase, newest, previous, n)
 }
 
@@ -98,7 +98,7 @@ fn pointer_ok(
     ensures { λ res. ⌜ res ≡ pointerIs ltb w r y (at (now (phase .entry)) r) (behinds ltb (at (now (writer .entry))) (at (now (reader .entry))) w links) ⌝ }
 {
     let now = at(phase, r as usize);
-    let n = count_behind(writer, reader, links, w as usize);
+    let n = readers_behind(writer, reader, links, w as usize);
     pointer_is(w, r, y, now, n)
 }
 

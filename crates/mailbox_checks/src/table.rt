@@ -4,14 +4,12 @@ ghost use mathlib.Core.Bool.{cond};
 ghost use Prim.Native.Nat.{_≤_, _<_, min};
 ghost use lib.Dec.{eqb, ltb};
 ghost use Rattle.lists.specs.Lists.{leading};
-ghost use Rattle.protocol.specs.Table.{behinds};
 ghost use Rattle.protocol_state.specs.Saved.{at, base};
 ghost use Rattle.protocol_state.specs.Rules.{faultOf, faultAfter, fault, judgedTable};
-use crate::links::count_behind;
 use crate::links::has_pair;
+use crate::links::readers_behind;
 use mailbox_parts::numbers::LINKS;
 use mailbox_parts::numbers::TASKS;
-use mailbox_parts::numbers::few;
 use mailbox_parts::numbers::pick;
 
 // The refusal that a link from `w` to `r` of kind `k` earns, the lowest that applies; `twice` and `n` speak of its writer's earlier links.
@@ -38,18 +36,9 @@ pub fn fault_after(
 ) -> u8
     ensures { λ res. ⌜ res ≡ faultAfter ltb tasks (at (now (writer .entry))) (at (now (reader .entry))) (min n (base .links)) w r k ⌝ }
 {
-    let m = few(n, LINKS);
-    let twice = has_pair(writer, reader, m, w, r);
-    let behind = count_behind(writer, reader, m, w as usize);
+    let twice = has_pair(writer, reader, n, w, r);
+    let behind = readers_behind(writer, reader, n, w as usize);
     fault_of(tasks, w, r, k, twice, behind)
-}
-
-// N: how many of the first links, of which there are at most 32, are task `t`'s to readers behind.
-pub fn readers_behind(writer: &[u8; LINKS], reader: &[u8; LINKS], links: usize, t: usize) -> usize
-    ensures { λ r. ⌜ (r ≡ behinds ltb (at (now (writer .entry))) (at (now (reader .entry))) t (min links (base .links))) × (r ≤ base .links) ⌝ }
-{
-    let n = few(links, LINKS);
-    count_behind(writer, reader, n, t)
 }
 
 // The refusal that link `l` earns, 0 for none.

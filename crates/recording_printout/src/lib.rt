@@ -9,7 +9,7 @@ ghost use Rattle.protocol_state.specs.Saved.{base};
 ghost use Rattle.recording.specs.Answers.{listAfter};
 use libc::STDOUT_FILENO;
 use mailbox::State;
-use mailbox_checks::table::readers_behind;
+use mailbox_checks::links::readers_behind;
 use mailbox_parts::event::Event;
 use mailbox_parts::numbers::CELLS;
 use mailbox_parts::numbers::LINKS;

@@ -12,11 +12,14 @@ use Rattle.mailbox_checks.proofs.links.has_pair.Statement.{statement}
 use Rattle.mailbox_checks.proofs.links.has_pair.Tie as tie
 
 abbrev Inv-loop : tie.InvT-loop
-Inv-loop writer reader n w r found₀ l₀ found l =
-    (l ≤ n) × (found ≡ some (joins (at writer) (at reader) w r) l)
+Inv-loop writer reader n w r end found₀ l₀ found l =
+    (l ≤ end) × (found ≡ some (joins (at writer) (at reader) w r) l)
 
 abbrev μ-loop : tie.MeasureT-loop
-μ-loop writer reader n w r found₀ l₀ found l = n - l
+μ-loop writer reader n w r end found₀ l₀ found l = end - l
+
+few-requires : tie.Need-few-requires Inv-loop μ-loop
+few-requires c κs = search needs
 
 loop-holds : tie.Need-loop-holds Inv-loop μ-loop
 loop-holds c = (omega arith, some-none _)
@@ -38,14 +41,14 @@ loop-less c = omega arith
 
 loop-again : tie.Need-loop-again Inv-loop μ-loop
 loop-again c =
-    let a = c .before .before .before .before .before .args in (
+    let a = c .before .before .before .before .before .before .args in (
       omega arith,
       some-more (joins (at (a .writer .now)) (at (a .reader .now)) (a .w) (a .r)) _
           (c .is-pair .ensures) (c .before .before .before .before .loop .inv .1),
     )
 
 returns : tie.Need-returns Inv-loop μ-loop
-returns c = some-end _ _ _ (c .before .loop .inv .1) (c .before .loop .inv .0) (c .loop-test .left)
+returns c = rw (← c .before .before .few .ensures) (some-end _ _ _ (c .before .loop .inv .1) (c .before .loop .inv .0) (c .loop-test .left))
 
 pub has-pair-spec : {M : Type 1} → statement M
 has-pair-spec =
@@ -53,6 +56,7 @@ has-pair-spec =
     (tie.spec
     Inv-loop
     μ-loop
+    few-requires
     loop-holds
     element-copy-out-is-pair
     element-copy-out-is-pair-2

@@ -4,21 +4,18 @@ use borrow.Author.Needs.{needs}
 use Rattle.mailbox_checks.proofs.table.fault_after.Statement.{statement}
 use Rattle.mailbox_checks.proofs.table.fault_after.Tie as tie
 
-few-requires : tie.Need-few-requires
-few-requires c κs = search needs
-
 has-pair-requires : tie.Need-has-pair-requires
 has-pair-requires c κs = search needs
 
-count-behind-requires : tie.Need-count-behind-requires
-count-behind-requires c κs = search needs
+readers-behind-requires : tie.Need-readers-behind-requires
+readers-behind-requires c κs = search needs
 
 fault-of-requires : tie.Need-fault-of-requires
 fault-of-requires c κs = search needs
 
 returns : tie.Need-returns
-returns c = rw (c .fault-of .ensures, c .before .count-behind .ensures .0, c .before .before .has-pair .ensures, c .before .before .before .few .ensures)
+returns c = rw (c .fault-of .ensures, c .before .readers-behind .ensures .0, c .before .before .has-pair .ensures)
 
 pub fault-after-spec : {M : Type 1} → statement M
 fault-after-spec =
-    tie.close (tie.spec few-requires has-pair-requires count-behind-requires fault-of-requires returns)
+    tie.close (tie.spec has-pair-requires readers-behind-requires fault-of-requires returns)

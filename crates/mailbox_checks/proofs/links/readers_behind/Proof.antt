@@ -1,4 +1,4 @@
--- `mailbox_checks::links::count_behind` meets its contract: after l turns `c` counts those of the first l links, at most l.
+-- `mailbox_checks::links::readers_behind` meets its contract: after l turns `c` counts those of the first l links, at most l.
 -- Assumes nothing.
 use mathlib.Core.Path.{_≡_}
 use Prim.Native.Nat.{_≤_, _-_}
@@ -9,15 +9,18 @@ use Rattle.lists.proofs.Lists.{count-none, count-more, count-end, count-le}
 use Rattle.protocol.specs.Table.{toBehind}
 use lib.Dec.{ltb}
 use Rattle.protocol_state.specs.Saved.{at}
-use Rattle.mailbox_checks.proofs.links.count_behind.Statement.{statement}
-use Rattle.mailbox_checks.proofs.links.count_behind.Tie as tie
+use Rattle.mailbox_checks.proofs.links.readers_behind.Statement.{statement}
+use Rattle.mailbox_checks.proofs.links.readers_behind.Tie as tie
 
 abbrev Inv-loop : tie.InvT-loop
-Inv-loop writer reader n t c₀ l₀ c l =
-    (l ≤ n) × (c ≡ count (toBehind ltb (at writer) (at reader) t) l)
+Inv-loop writer reader n t end c₀ l₀ c l =
+    (l ≤ end) × (c ≡ count (toBehind ltb (at writer) (at reader) t) l)
 
 abbrev μ-loop : tie.MeasureT-loop
-μ-loop writer reader n t c₀ l₀ c l = n - l
+μ-loop writer reader n t end c₀ l₀ c l = end - l
+
+few-requires : tie.Need-few-requires Inv-loop μ-loop
+few-requires c κs = search needs
 
 loop-holds : tie.Need-loop-holds Inv-loop μ-loop
 loop-holds c = (omega arith, count-none _)
@@ -33,7 +36,7 @@ is-behind-requires c κs = search needs
 
 add-requires : tie.Need-add-requires Inv-loop μ-loop
 add-requires c κs =
-    let a = c .before .before .before .before .before .args in
+    let a = c .before .before .before .before .before .before .args in
     omega (
       arith,
       count-le (toBehind ltb (at (a .writer .now)) (at (a .reader .now)) (a .t)) (c .before .before .before .before .loop .l),
@@ -48,7 +51,7 @@ loop-less c = omega arith
 
 loop-again : tie.Need-loop-again Inv-loop μ-loop
 loop-again c =
-    let a = c .before .before .before .before .before .before .args in (
+    let a = c .before .before .before .before .before .before .before .args in (
       omega arith,
       count-more (toBehind ltb (at (a .writer .now)) (at (a .reader .now)) (a .t)) _
           (c .before .is-behind .ensures) (c .before .before .before .before .before .loop .inv .1) (c .add .ensures),
@@ -56,16 +59,17 @@ loop-again c =
 
 returns : tie.Need-returns Inv-loop μ-loop
 returns c =
-    let a = c .before .before .args in
+    let a = c .before .before .before .args in
     let e = count-end (toBehind ltb (at (a .writer .now)) (at (a .reader .now)) (a .t)) _ _ (c .before .loop .inv .1) (c .before .loop .inv .0) (c .loop-test .left) in
-    (e, omega (arith, count-le (toBehind ltb (at (a .writer .now)) (at (a .reader .now)) (a .t)) (c .before .loop .l), c .before .loop .inv .1))
+    (rw (← c .before .before .few .ensures) e, omega (arith, count-le (toBehind ltb (at (a .writer .now)) (at (a .reader .now)) (a .t)) (c .before .loop .l), c .before .loop .inv .1))
 
-pub count-behind-spec : {M : Type 1} → statement M
-count-behind-spec =
+pub readers-behind-spec : {M : Type 1} → statement M
+readers-behind-spec =
     tie.close
     (tie.spec
     Inv-loop
     μ-loop
+    few-requires
     loop-holds
     element-copy-out-is-behind
     element-copy-out-is-behind-2
