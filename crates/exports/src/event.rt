@@ -8,14 +8,14 @@ ghost use Rattle.exports.specs.Replies.{Given, Answered};
 use crate::call::Asked;
 use crate::call::ask;
 use crate::call::number_of;
+use mailbox_base::numbers::CELLS;
+use mailbox_base::numbers::LINKS;
+use mailbox_base::numbers::TASKS;
 use mailbox_checks::sound::is_sound;
 use mailbox_parts::event::Event;
 use mailbox_parts::event::do_event;
 use mailbox_parts::event::judge;
 use mailbox_parts::event::value_of;
-use mailbox_parts::numbers::CELLS;
-use mailbox_parts::numbers::LINKS;
-use mailbox_parts::numbers::TASKS;
 
 // An event given to a sound state: judged, and done where it is allowed. `number`, 0 so far, becomes that of an accepted read.
 fn give(

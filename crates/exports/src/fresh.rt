@@ -7,9 +7,9 @@ ghost use Rattle.mailbox_parts.specs.Becomes.{savedOf};
 ghost use Rattle.exports.specs.Replies.{madeAs};
 use crate::parts::put_state;
 use mailbox::State;
-use mailbox_parts::numbers::CELLS;
-use mailbox_parts::numbers::LINKS;
-use mailbox_parts::numbers::TASKS;
+use mailbox_base::numbers::CELLS;
+use mailbox_base::numbers::LINKS;
+use mailbox_base::numbers::TASKS;
 
 // The fresh state of a table: the refusal that the table earns, 0 for none, and its fresh state, else that of a single task.
 #[no_mangle]

@@ -3,9 +3,9 @@ ghost use mathlib.Core.Path.{_≡_};
 ghost use Rattle.mailbox.specs.States.{saved};
 ghost use Rattle.mailbox_parts.specs.Becomes.{savedOf};
 use mailbox::State;
-use mailbox_parts::numbers::CELLS;
-use mailbox_parts::numbers::LINKS;
-use mailbox_parts::numbers::TASKS;
+use mailbox_base::numbers::CELLS;
+use mailbox_base::numbers::LINKS;
+use mailbox_base::numbers::TASKS;
 
 // Puts a state into the lent parts.
 pub fn put_state(

@@ -2,9 +2,9 @@
 ghost use Rattle.mailbox_parts.specs.Becomes.{savedOf};
 ghost use Rattle.exports.specs.Replayed.{Replayed};
 use crate::parts::put_state;
-use mailbox_parts::numbers::CELLS;
-use mailbox_parts::numbers::LINKS;
-use mailbox_parts::numbers::TASKS;
+use mailbox_base::numbers::CELLS;
+use mailbox_base::numbers::LINKS;
+use mailbox_base::numbers::TASKS;
 
 // Arrivals task by task, starts, reads, finishes.
 const COUNTS: usize = 4;

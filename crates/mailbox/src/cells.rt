@@ -4,9 +4,9 @@ ghost use Prim.Native.Nat.{_/_};
 ghost use lib.ListN.{getD};
 ghost use Rattle.protocol_state.specs.Saved.{base, positions};
 ghost use Rattle.protocol_state.specs.Fresh.{filled};
-use mailbox_parts::numbers::CELLS;
-use mailbox_parts::numbers::POSITIONS;
-use mailbox_parts::numbers::TASKS;
+use mailbox_base::numbers::CELLS;
+use mailbox_base::numbers::POSITIONS;
+use mailbox_base::numbers::TASKS;
 
 // The default of the task whose position stands at place `i` of the cells.
 fn default_at(defaults: &[u32; TASKS], i: usize) -> u32

@@ -16,16 +16,16 @@ ghost use Rattle.mailbox.specs.States.{saved, stateOf, madeOf, given, re
 use crate::cells::fill_cells;
 use crate::tables::copy_links;
 use crate::tables::copy_tasks;
+use mailbox_base::numbers::CELLS;
+use mailbox_base::numbers::EVENTS;
+use mailbox_base::numbers::LINKS;
+use mailbox_base::numbers::TASKS;
 use mailbox_checks::sound::is_sound;
 use mailbox_checks::table::judge_table;
 use mailbox_parts::event::Event;
 use mailbox_parts::event::do_event;
 use mailbox_parts::event::judge;
 use mailbox_parts::event::value_of;
-use mailbox_parts::numbers::CELLS;
-use mailbox_parts::numbers::EVENTS;
-use mailbox_parts::numbers::LINKS;
-use mailbox_parts::numbers::TASKS;
 
 pub mod cells;
 mod tables;

@@ -1,9 +1,9 @@
 // Tables to try, and states with a number changed.
 use mailbox::Made;
 use mailbox::State;
-use mailbox_parts::numbers::CELLS;
-use mailbox_parts::numbers::LINKS;
-use mailbox_parts::numbers::TASKS;
+use mailbox_base::numbers::CELLS;
+use mailbox_base::numbers::LINKS;
+use mailbox_base::numbers::TASKS;
 
 // Task 1 has 100, as in the long example; tasks 4 to 15 have their own number.
 const DEFAULTS: [u32; TASKS] = [0, 100, 0, 0, 4, 5, 6, 7, 8, 9, 10, 11, 12, 13, 14, 15];

@@ -1,8 +1,8 @@
 // Whether two states are the same, field by field, slots past the counts too.
 use mailbox::State;
 use mailbox::Step;
-use mailbox_parts::numbers::LINKS;
-use mailbox_parts::numbers::TASKS;
+use mailbox_base::numbers::LINKS;
+use mailbox_base::numbers::TASKS;
 
 fn same_bytes(a: &[u8], b: &[u8]) -> bool {
     let mut same = a.len() == b.len();

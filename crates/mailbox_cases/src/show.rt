@@ -8,10 +8,10 @@ use libc::STDOUT_FILENO;
 use mailbox::Made;
 use mailbox::State;
 use mailbox::Step;
+use mailbox_base::numbers::LINKS;
+use mailbox_base::numbers::POSITIONS;
+use mailbox_base::numbers::TASKS;
 use mailbox_parts::event::Event;
-use mailbox_parts::numbers::LINKS;
-use mailbox_parts::numbers::POSITIONS;
-use mailbox_parts::numbers::TASKS;
 
 pub fn text(s: &[u8]) {
     io::write_all(STDOUT_FILENO, s);

@@ -9,9 +9,9 @@ ghost use Rattle.protocol_state.specs.Saved.{at, base};
 ghost use Rattle.protocol_state.specs.Sound.{within, taskIs, taskOk, pointerIs, pointerOk, soundParts};
 use crate::links::readers_behind;
 use crate::table::judge_table;
-use mailbox_parts::numbers::LINKS;
-use mailbox_parts::numbers::TASKS;
-use mailbox_parts::numbers::at;
+use mailbox_base::numbers::LINKS;
+use mailbox_base::numbers::TASKS;
+use mailbox_base::numbers::at;
 
 // Whether `y` is one of a task's positions, 1 to `n` + 2.
 fn is_within(n: usize, y: u8) -> bool

@@ -8,9 +8,9 @@ ghost use Rattle.protocol_state.specs.Saved.{at, base};
 ghost use Rattle.protocol_state.specs.Rules.{faultOf, faultAfter, fault, judgedTable};
 use crate::links::has_pair;
 use crate::links::readers_behind;
-use mailbox_parts::numbers::LINKS;
-use mailbox_parts::numbers::TASKS;
-use mailbox_parts::numbers::pick;
+use mailbox_base::numbers::LINKS;
+use mailbox_base::numbers::TASKS;
+use mailbox_base::numbers::pick;
 
 // The refusal that a link from `w` to `r` of kind `k` earns, the lowest that applies; `twice` and `n` speak of its writer's earlier links.
 fn fault_of(tasks: usize, w: u8, r: u8, k: u8, twice: bool, n: usize) -> u8

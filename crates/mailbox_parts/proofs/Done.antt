@@ -6,7 +6,8 @@ use Prim.Native.Nat.{ℕ}
 use lib.Dec.{ltb}
 use Rattle.protocol_state.specs.Next.{newestAfter, previousAfter, pointerAfter, phaseAfter, phasesAfter, valueBy}
 use Rattle.protocol_state.specs.Judge.{judgedEvent}
-use Rattle.mailbox_parts.specs.Doing.{Arrives, Finishes}
+use Rattle.mailbox_arrival.specs.Arrives.{Arrives}
+use Rattle.mailbox_parts.specs.Finishes.{Finishes}
 use Rattle.mailbox_parts.specs.Plain.{plain}
 use Rattle.mailbox_parts.specs.Becomes.{Becomes}
 use Rattle.mailbox_parts.specs.declared.event.Event.{Event}

@@ -7,16 +7,16 @@ ghost use Rattle.protocol_state.specs.Judge.{judgedEvent};
 ghost use Rattle.protocol_state.specs.Next.{valueBy};
 ghost use Rattle.mailbox_parts.specs.Plain.{plain};
 ghost use Rattle.mailbox_parts.specs.Becomes.{Becomes};
-use crate::arrival::arrive;
 use crate::finish::advance;
 use crate::finish::finish;
 use crate::finish::number_of;
-use crate::judge::judge_arrival;
-use crate::judge::judge_read;
-use crate::judge::judge_task;
-use crate::numbers::CELLS;
-use crate::numbers::LINKS;
-use crate::numbers::TASKS;
+use mailbox_arrival::arrive;
+use mailbox_base::numbers::CELLS;
+use mailbox_base::numbers::LINKS;
+use mailbox_base::numbers::TASKS;
+use mailbox_judge::judge_arrival;
+use mailbox_judge::judge_read;
+use mailbox_judge::judge_task;
 
 // The arrival of a set of tasks, the start of a task, a read by a link, the finish of a task with a value.
 pub enum Event {

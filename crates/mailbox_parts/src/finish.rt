@@ -5,19 +5,19 @@ ghost use lib.Dec.{ltb};
 ghost use Rattle.lists.specs.Lists.{upto};
 ghost use Rattle.protocol_state.specs.Saved.{at, base};
 ghost use Rattle.protocol_state.specs.Next.{phasesAfter, numberOf, freed, freedAt};
-ghost use Rattle.mailbox_parts.specs.Doing.{Finishes};
-use crate::decision::decide;
-use crate::numbers::CELLS;
-use crate::numbers::LINKS;
-use crate::numbers::TASKS;
-use crate::numbers::at;
-use crate::numbers::at_link;
-use crate::numbers::cell_at;
-use crate::numbers::cell_of;
-use crate::numbers::few;
-use crate::numbers::pick;
-use crate::numbers::put;
-use crate::numbers::put_number;
+ghost use Rattle.mailbox_parts.specs.Finishes.{Finishes};
+use mailbox_base::decision::decide;
+use mailbox_base::numbers::CELLS;
+use mailbox_base::numbers::LINKS;
+use mailbox_base::numbers::TASKS;
+use mailbox_base::numbers::at;
+use mailbox_base::numbers::at_link;
+use mailbox_base::numbers::cell_at;
+use mailbox_base::numbers::cell_of;
+use mailbox_base::numbers::few;
+use mailbox_base::numbers::pick;
+use mailbox_base::numbers::put;
+use mailbox_base::numbers::put_number;
 
 // The next phase of task `t`, at an event of this kind.
 pub fn advance(kind: usize, t: u8, phase: &mut [u8; TASKS])

@@ -1,0 +1,29 @@
+-- `mailbox_arrival::arrive` meets its contract: what the calls ensure, put together.
+-- Assumes nothing.
+use native.Mathlib.Omega.{arith}
+use borrow.Author.Needs.{needs}
+use Rattle.mailbox_arrival.proofs.arrive.Statement.{statement}
+use Rattle.mailbox_arrival.proofs.arrive.Tie as tie
+
+few-requires : tie.Need-few-requires
+few-requires c κs = search needs
+
+few-requires-2 : tie.Need-few-requires-2
+few-requires-2 c κs = search needs
+
+move-tasks-requires : tie.Need-move-tasks-requires
+move-tasks-requires c κs = search needs
+
+set-pointers-requires : tie.Need-set-pointers-requires
+set-pointers-requires c κs = search needs
+
+returns : tie.Need-returns
+returns c =
+    let m = c .before .before .before .before in
+    rw (← m .before .before .before .before .before .before .few .ensures, ← m .before .before .before .before .before .few2 .ensures)
+    (record { moved = m .move-tasks .ensures; pointer = c .set-pointers .ensures })
+
+pub arrive-spec : {M : Type 1} → statement M
+arrive-spec =
+    tie.close
+    (tie.spec few-requires few-requires-2 move-tasks-requires set-pointers-requires returns)

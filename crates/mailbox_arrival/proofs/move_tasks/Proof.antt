@@ -1,0 +1,39 @@
+-- `mailbox_arrival::move_tasks` meets its contract: after t turns the first t tasks are as the writers' part leaves them.
+-- Assumes nothing.
+use Prim.Native.Nat.{_≤_, _-_}
+use native.Mathlib.Omega.{arith}
+use borrow.Author.Needs.{needs}
+use Rattle.mailbox_arrival.specs.Arrives.{Moved}
+use Rattle.mailbox_arrival.proofs.Moves.{moved-none, moved-more, moved-end}
+use Rattle.mailbox_arrival.proofs.move_tasks.Statement.{statement}
+use Rattle.mailbox_arrival.proofs.move_tasks.Tie as tie
+
+abbrev Inv-loop : tie.InvT-loop
+Inv-loop set tasks links writer reader pointer phase₀ newest₀ previous₀ t₀ phase newest previous t =
+    (t ≤ tasks) × Moved set t links writer reader pointer phase₀ newest₀ previous₀ phase newest previous
+
+abbrev μ-loop : tie.MeasureT-loop
+μ-loop set tasks links writer reader pointer phase₀ newest₀ previous₀ t₀ phase newest previous t = tasks - t
+
+loop-holds : tie.Need-loop-holds Inv-loop μ-loop
+loop-holds c = (omega arith, moved-none)
+
+move-task-requires : tie.Need-move-task-requires Inv-loop μ-loop
+move-task-requires c κs = search needs
+
+add-t : tie.Need-add-t Inv-loop μ-loop
+add-t c = omega arith
+
+loop-less : tie.Need-loop-less Inv-loop μ-loop
+loop-less c = omega arith
+
+loop-again : tie.Need-loop-again Inv-loop μ-loop
+loop-again c = (omega arith, moved-more (c .before .before .before .before .before .loop .inv .1) (c .move-task .ensures))
+
+returns : tie.Need-returns Inv-loop μ-loop
+returns c = moved-end (c .before .loop .inv .0) (c .loop-test .left) (c .before .loop .inv .1)
+
+pub move-tasks-spec : {M : Type 1} → statement M
+move-tasks-spec =
+    tie.close
+    (tie.spec Inv-loop μ-loop loop-holds move-task-requires add-t loop-less loop-again returns)

@@ -1,0 +1,2 @@
+-- What an arrival makes of the parts of a state.
+pub mod Arrives

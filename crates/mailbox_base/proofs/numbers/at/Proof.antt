@@ -1,0 +1,19 @@
+-- `mailbox_base::numbers::at` meets its contract: past the end `getD` gives its default.
+-- Assumes nothing.
+use mathlib.Core.Path.{sym}
+use lib.ListN.{List·getD-eq-default}
+use borrow.Author.Needs.{needs}
+use Rattle.mailbox_base.proofs.numbers.at.Statement.{statement}
+use Rattle.mailbox_base.proofs.numbers.at.Tie as tie
+
+shared-slice-read-result : tie.Need-shared-slice-read-result
+shared-slice-read-result c = search needs
+
+returns : tie.Need-returns
+returns c = search needs
+
+returns-2 : tie.Need-returns-2
+returns-2 c = sym (List·getD-eq-default (c .before .before .args .a .now) 0 (c .if1 .left))
+
+pub at-spec : {M : Type 1} → statement M
+at-spec = tie.close (tie.spec shared-slice-read-result returns returns-2)

@@ -1,0 +1,22 @@
+-- `mailbox_base::numbers::put` meets its contract: past the end `set` changes nothing.
+-- Assumes nothing.
+use mathlib.Core.Path.{sym}
+use lib.Seq.{set-out}
+use borrow.Author.Needs.{needs}
+use Rattle.mailbox_base.proofs.numbers.put.Statement.{statement}
+use Rattle.mailbox_base.proofs.numbers.put.Tie as tie
+
+slice-write-a : tie.Need-slice-write-a
+slice-write-a c = search needs
+
+same-length : tie.Need-same-length
+same-length c = search needs
+
+returns : tie.Need-returns
+returns c = search needs
+
+returns-2 : tie.Need-returns-2
+returns-2 c = sym (set-out _ _ _ (c .if1 .left))
+
+pub put-spec : {M : Type 1} → statement M
+put-spec = tie.close (tie.spec slice-write-a same-length returns returns-2)

@@ -1,0 +1,62 @@
+-- What an event is judged, from what the parts ensure.
+-- Assumes nothing.
+use mathlib.Core.Path.{_≡_, refl, ap, _∙_}
+use mathlib.Core.Bool.{Bool, true, false, cond, not, _&&_, _||_}
+use Prim.Native.Nat.{ℕ, zero, suc, _/_, _^_, _≤_, _<_}
+use native.Mathlib.Omega.{arith}
+use borrow.Author.Tests.{le-leb, lt-leb, lt-ltb, le-ltb, leb-true, leb-false}
+use lib.Dec.{eqb, ltb, leb}
+use Rattle.lists.specs.Lists.{some, every}
+use Rattle.protocol_state.specs.Saved.{active}
+use Rattle.protocol_state.specs.Decision.{decided}
+use Rattle.protocol_state.specs.Judge.{mayArrive, judgedArrival, judgedTask, judgedRead}
+use Rattle.mailbox_judge.proofs.Sets.{shifted}
+
+-- under fixed priorities the tasks ahead of t are those before it
+some-same : (f : ℕ → Bool) (t n : ℕ) → n ≤ t → some (λ u. ltb u t && f u) n ≡ some f n
+unfolding some
+some-same f t zero l = refl
+some-same f t (suc n) l = rw (lt-ltb n t (omega arith), some-same f t n (omega arith))
+
+pub some-ahead : (f : ℕ → Bool) (t n : ℕ) → t ≤ n → some (λ u. ltb u t && f u) n ≡ some f t
+unfolding some
+some-ahead f t zero l =
+    let e : t ≡ 0 = omega arith in
+    rw e
+some-ahead f t (suc n) l = go (leb t n) refl (some-ahead f t n) refl where
+  go :
+      (b : Bool) → leb t n ≡ b → (t ≤ n → some (λ u. ltb u t && f u) n ≡ some f t) → (f n || some f n) ≡ some f (suc n) →
+      ((ltb n t && f n) || some (λ u. ltb u t && f u) n) ≡ some f t
+  go true e ih one = rw (le-ltb n t (leb-true t n e)) (ih (leb-true t n e))
+  go false e ih one =
+      let h : n < t = leb-false t n e in
+      let s : suc n ≡ t = omega arith in
+      rw (lt-ltb n t h, some-same f t n (omega arith)) (one ∙ ap (some f) s)
+
+-- b says whether each may arrive, u what that means, and a shift by T whether there is a task past the table
+pub arrival-judged :
+    (s T : ℕ) (ph : ℕ → ℕ) {b : Bool} {u r : ℕ} → b ≡ every (mayArrive s ph) T → u ≡ cond b 0 13 →
+    r ≡ cond (eqb s 0 || not (eqb (s / 2 ^ T) 0)) 12 u → r ≡ judgedArrival s T ph
+unfolding judgedArrival
+arrival-judged s T ph eb eu er = rw (er, eu, eb, shifted s T)
+
+module _ (k t T : ℕ) (ph : ℕ → ℕ) where
+  pub judged-outside : T ≤ t → 12 ≡ judgedTask ltb k t T ph
+  unfolding judgedTask
+  judged-outside l = rw (le-leb T t l)
+
+  -- d is the decision, b whether a task before t is active, u what that means for its turn
+  pub judged-inside :
+      {d u r : ℕ} {b : Bool} → t < T → d ≡ decided k (ph t) → b ≡ some (λ u. active (ph u)) t → u ≡ cond b 16 0 → r ≡ cond (ltb d 12) u d →
+      r ≡ judgedTask ltb k t T ph
+  unfolding judgedTask
+  judged-inside l ed eb eu er = rw (lt-leb T t l, er, eu, eb, ed, some-ahead (λ u. active (ph u)) t T (omega arith))
+
+module _ (l T L : ℕ) (R ph : ℕ → ℕ) where
+  pub read-outside : L ≤ l → 12 ≡ judgedRead ltb l T L R ph
+  unfolding judgedRead
+  read-outside h = rw (le-leb L l h)
+
+  pub read-inside : {r : ℕ} → l < L → r ≡ judgedTask ltb 2 (R l) T ph → r ≡ judgedRead ltb l T L R ph
+  unfolding judgedRead
+  read-inside h e = rw (lt-leb L l h) e

@@ -1,0 +1,46 @@
+-- `mailbox_judge::judge_task` meets its contract: outside the table, and inside it, where the tasks before `t` are those ahead of it.
+-- Assumes nothing.
+use Rattle.mailbox_judge.proofs.Judged.{judged-outside, judged-inside}
+use borrow.Author.Needs.{needs}
+use Rattle.mailbox_judge.proofs.judge_task.Statement.{statement}
+use Rattle.mailbox_judge.proofs.judge_task.Tie as tie
+
+few-requires : tie.Need-few-requires
+few-requires c κs = search needs
+
+returns : tie.Need-returns
+returns c = rw (← c .before .few .ensures) (judged-outside _ _ _ _ (c .if1 .taken))
+
+element-copy-out-decide : tie.Need-element-copy-out-decide
+element-copy-out-decide c = search needs
+
+decide-requires : tie.Need-decide-requires
+decide-requires c κs = search needs
+
+some-before-requires : tie.Need-some-before-requires
+some-before-requires c κs = search needs
+
+pick-requires : tie.Need-pick-requires
+pick-requires c κs = search needs
+
+pick-requires-2 : tie.Need-pick-requires-2
+pick-requires-2 c κs = search needs
+
+returns-2 : tie.Need-returns-2
+returns-2 c =
+    rw (← c .before .before .before .before .before .before .few .ensures)
+    (judged-inside _ _ _ _ (c .before .before .before .before .before .if1 .left) (c .before .before .before .decide .ensures)
+    (c .before .before .some-before .ensures) (c .before .pick .ensures) (c .pick2 .ensures))
+
+pub judge-task-spec : {M : Type 1} → statement M
+judge-task-spec =
+    tie.close
+    (tie.spec
+    few-requires
+    returns
+    element-copy-out-decide
+    decide-requires
+    some-before-requires
+    pick-requires
+    pick-requires-2
+    returns-2)
