@@ -1,0 +1,54 @@
+// The four counts of an answer.
+ghost use mathlib.Core.Path.{_≡_};
+ghost use mathlib.Core.Bool.{cond};
+ghost use Prim.Native.Nat.{_+_, _≤_, _<_, min};
+ghost use Rattle.lists.specs.Lists.{count};
+ghost use Rattle.protocol.specs.Event.{has};
+ghost use Rattle.protocol_state.specs.Saved.{base};
+ghost use Rattle.recording_core.specs.Playing.{noCounts};
+ghost use Rattle.recording_play.specs.Parts.{countsOf};
+use mailbox_base::numbers::TASKS;
+use mailbox_base::numbers::few;
+use mailbox_base::numbers::has;
+
+// How many tasks arrived, each task of an arrival counting one, and how many started, read and finished.
+pub struct Counts {
+    pub arrivals: usize,
+    pub starts: usize,
+    pub reads: usize,
+    pub finishes: usize,
+}
+
+// Before the first event.
+pub fn none() -> Counts
+    ensures { λ r. ⌜ countsOf r ≡ noCounts ⌝ }
+{
+    Counts {
+        arrivals: 0,
+        starts: 0,
+        reads: 0,
+        finishes: 0,
+    }
+}
+
+// One more where the test holds. There are few tasks, so the sum fits.
+fn add(b: bool, c: usize) -> usize
+    requires { ⌜ c < base .tasks ⌝ }
+    ensures { λ r. ⌜ r ≡ cond b (c + 1) c ⌝ }
+{
+    if b { c + 1 } else { c }
+}
+
+// How many tasks of the table, which has at most 16, are in a set.
+pub fn tasks_in(set: u32, tasks: usize) -> usize
+    ensures { λ r. ⌜ (r ≡ count (has set) (min tasks (base .tasks))) × (r ≤ base .tasks) ⌝ }
+{
+    let end = few(tasks, TASKS);
+    let mut c = 0;
+    let mut t = 0;
+    while t < end {
+        c = add(has(set, t), c);
+        t += 1;
+    }
+    c
+}
