@@ -19,7 +19,7 @@ fn join4(a: u8, b: u8, c: u8, d: u8) -> u32
 }
 
 // The number in one byte.
-pub fn u8_at(s: &[u8], at: usize) -> u8
+pub(crate) fn u8_at(s: &[u8], at: usize) -> u8
     requires { ⌜ at + 1 ≤ length (now s) ⌝ }
     ensures { λ r. ⌜ r ≡ numberAt 1 (now (s .entry)) at ⌝ }
 {
@@ -27,7 +27,7 @@ pub fn u8_at(s: &[u8], at: usize) -> u8
 }
 
 // The number in two bytes.
-pub fn u16_at(s: &[u8], at: usize) -> u16
+pub(crate) fn u16_at(s: &[u8], at: usize) -> u16
     requires { ⌜ at + 2 ≤ length (now s) ⌝ }
     ensures { λ r. ⌜ r ≡ numberAt 2 (now (s .entry)) at ⌝ }
 {
@@ -35,7 +35,7 @@ pub fn u16_at(s: &[u8], at: usize) -> u16
 }
 
 // The number in four bytes.
-pub fn u32_at(s: &[u8], at: usize) -> u32
+pub(crate) fn u32_at(s: &[u8], at: usize) -> u32
     requires { ⌜ at + 4 ≤ length (now s) ⌝ }
     ensures { λ r. ⌜ r ≡ numberAt 4 (now (s .entry)) at ⌝ }
 {
