@@ -1,17 +1,25 @@
 // The smallest use of the mailbox core: two tasks, and the second, less urgent, reads the first by a direct link.
 use libc::STDOUT_FILENO;
+use mailbox::Answer;
 use mailbox::State;
 
-// The number that the second task reads, where both arrive and the first finishes with 101; or the table's refusal.
-fn passed_on() -> u32 {
+// What the second task's read answers, where both arrive and the first finishes with 101; or the table's refusal.
+fn passed_on() -> Answer {
     // link 0 goes from task 0 to task 1, directly
-    let writer = [0u8; 32];
-    let mut reader = [0u8; 32];
+    let writer = [0u8; State::LINKS];
+    let mut reader = [0u8; State::LINKS];
     reader[0] = 1;
-    let made = State::fresh(2, 1, [0u32; 16], writer, reader, [0u8; 32]);
+    let made = State::fresh(
+        2,
+        1,
+        [0u32; State::TASKS],
+        writer,
+        reader,
+        [0u8; State::LINKS],
+    );
     let refusal = made.refusal;
     if refusal != 0 {
-        return refusal as u32;
+        return Answer { refusal, value: 0 };
     }
     let fresh = made.state;
     // both arrive: bit t is task t
@@ -19,11 +27,18 @@ fn passed_on() -> u32 {
     let started = arrived.state.start(0);
     let finished = started.state.finish(0, 101);
     let next = finished.state.start(1);
+    // an event that was refused changed nothing, so the last answer tells: 15, had task 1 not been let run
     let read = next.state.read(0);
-    read.answer.value
+    read.answer
 }
 
 fn main() {
-    io::print_decimal(STDOUT_FILENO, passed_on() as u64);
+    let answer = passed_on();
+    if answer.refusal == 0 {
+        io::print_decimal(STDOUT_FILENO, answer.value as u64);
+    } else {
+        io::write_all(STDOUT_FILENO, b"refused ");
+        io::print_decimal(STDOUT_FILENO, answer.refusal as u64);
+    }
     io::write_all(STDOUT_FILENO, b"\n");
 }

@@ -13,6 +13,7 @@ use mailbox_base::numbers::CELLS;
 use mailbox_base::numbers::LINKS;
 use mailbox_base::numbers::POSITIONS;
 use mailbox_base::numbers::TASKS;
+use mailbox_base::numbers::few;
 use mailbox_checks::links::readers_behind;
 use mailbox_parts::event::Event;
 use recording::replay;
@@ -31,8 +32,8 @@ use recording_read::event::Next;
 use recording_read::table::read_table;
 use recording_walk::event_at;
 
-// The bytes of the longest recording and one more, so that an extra byte is seen.
-pub const BYTES: usize = 60165;
+// The bytes of the longest recording, and one more so that an extra byte is seen: T and the defaults, L and the links, E and the events.
+pub const BYTES: usize = 1 + 4 * State::TASKS + 1 + 3 * State::LINKS + 2 + 6 * State::EVENTS + 1;
 
 // A program's room for numbers: as many as a recording may have events.
 pub const NUMBERS: usize = State::EVENTS;
@@ -113,13 +114,6 @@ pub fn print_replay(s: &[u8], out: &mut [u32])
     print_end(a.refusal, a.place, t.events);
 }
 
-// n, or the most that it may be. The counts of a state never exceed it.
-fn at_most(n: usize, most: usize) -> usize
-    ensures { λ r. ⌜ r ≤ most ⌝ }
-{
-    if n <= most { n } else { most }
-}
-
 // Writes the line of a task with so many links to readers behind: it has two positions more.
 fn print_task(t: usize, behind: usize, phase: u8, newest: u8, previous: u8, cells: &[u32; CELLS])
     requires { ⌜ (t ≤ base .tasks) × (behind ≤ base .links) ⌝ }
@@ -167,10 +161,10 @@ fn print_links(links: usize, pointer: &[u8; LINKS])
     }
 }
 
-// Writes a state: its tasks, then its links.
+// Writes a state: its tasks, then its links. Its counts, never more than there is room for, are held to the room all the same.
 fn print_state(q: State) {
-    let tasks = at_most(q.tasks, TASKS);
-    let links = at_most(q.links, LINKS);
+    let tasks = few(q.tasks, TASKS);
+    let links = few(q.links, LINKS);
     let writer = q.writer;
     let reader = q.reader;
     let phase = q.phase;

@@ -1,0 +1,80 @@
+-- The calls of the theorems are the code's: what a caller learns from a method's contract in the source is what the theorems take of a call, and beside soundness no more.
+-- `lent` are the arguments of a call, `left` is what they hold after it.
+-- Assumes nothing.
+use mathlib.Core.Path.{_≡_}
+use mathlib.Core.Bool.{true}
+use lib.Dec.{ltb}
+use contract.Lifetimes.{Lfts}
+use denote.Triple.Clauses.{AtExit}
+use borrow.Fn.Kinds.{Dens, resT, endedOf}
+use Rattle.protocol.specs.Event as protocol
+use Rattle.protocol_state.specs.Saved.{base}
+use Rattle.protocol_state.specs.Fresh.{made}
+use Rattle.protocol_state.specs.Sound.{isSound}
+use Rattle.mailbox_parts.specs.Plain.{plain}
+use Rattle.mailbox.specs.States.{saved, madeOf, given, StaysSound}
+use Rattle.mailbox.proofs.State.fresh.Kinds as of-fresh
+use Rattle.mailbox.proofs.State.fresh.Reads as fresh
+use Rattle.mailbox.proofs.State.arrival.Kinds as of-arrival
+use Rattle.mailbox.proofs.State.arrival.Reads as arrival
+use Rattle.mailbox.proofs.State.start.Kinds as of-start
+use Rattle.mailbox.proofs.State.start.Reads as start
+use Rattle.mailbox.proofs.State.read.Kinds as of-read
+use Rattle.mailbox.proofs.State.read.Reads as read
+use Rattle.mailbox.proofs.State.finish.Kinds as of-finish
+use Rattle.mailbox.proofs.State.finish.Reads as finish
+use Rattle.mailbox.proofs.State.event.Kinds as of-event
+use Rattle.mailbox.proofs.State.event.Reads as event
+
+-- a table
+module _ (κs : Lfts 0) (lent : Dens κs of-fresh.ps) (m : resT of-fresh.r κs .Denot) (left : AtExit (endedOf 0 of-fresh.ps of-fresh.r) κs) where
+  abbrev Makes : Type 0
+  Makes =
+      (m ≡ madeOf (made ltb base (lent .0) (lent .1 .0) (lent .1 .1 .0) (lent .1 .1 .1 .0) (lent .1 .1 .1 .1 .0) (lent .1 .1 .1 .1 .1 .0)))
+      × (isSound ltb base (saved (m .state)) ≡ true)
+
+  pub fresh-learnt : fresh.Learnt κs lent m left → Makes
+  fresh-learnt learnt = learnt
+
+  pub fresh-told : Makes → fresh.Learnt κs lent m left
+  fresh-told said = said
+
+-- the arrival of a set
+module _ (κs : Lfts 0) (lent : Dens κs of-arrival.ps) (a : resT of-arrival.r κs .Denot) (left : AtExit (endedOf 0 of-arrival.ps of-arrival.r) κs) where
+  pub arrival-learnt : arrival.Learnt κs lent a left → (a ≡ given (lent .0) (protocol.arrival (lent .1 .0))) × StaysSound (lent .0) a
+  arrival-learnt learnt = learnt
+
+  pub arrival-told : (a ≡ given (lent .0) (protocol.arrival (lent .1 .0))) × StaysSound (lent .0) a → arrival.Learnt κs lent a left
+  arrival-told said = said
+
+-- the start of a task
+module _ (κs : Lfts 0) (lent : Dens κs of-start.ps) (a : resT of-start.r κs .Denot) (left : AtExit (endedOf 0 of-start.ps of-start.r) κs) where
+  pub start-learnt : start.Learnt κs lent a left → (a ≡ given (lent .0) (protocol.start (lent .1 .0))) × StaysSound (lent .0) a
+  start-learnt learnt = learnt
+
+  pub start-told : (a ≡ given (lent .0) (protocol.start (lent .1 .0))) × StaysSound (lent .0) a → start.Learnt κs lent a left
+  start-told said = said
+
+-- a read by a link
+module _ (κs : Lfts 0) (lent : Dens κs of-read.ps) (a : resT of-read.r κs .Denot) (left : AtExit (endedOf 0 of-read.ps of-read.r) κs) where
+  pub read-learnt : read.Learnt κs lent a left → (a ≡ given (lent .0) (protocol.read (lent .1 .0))) × StaysSound (lent .0) a
+  read-learnt learnt = learnt
+
+  pub read-told : (a ≡ given (lent .0) (protocol.read (lent .1 .0))) × StaysSound (lent .0) a → read.Learnt κs lent a left
+  read-told said = said
+
+-- the finish of a task with a value
+module _ (κs : Lfts 0) (lent : Dens κs of-finish.ps) (a : resT of-finish.r κs .Denot) (left : AtExit (endedOf 0 of-finish.ps of-finish.r) κs) where
+  pub finish-learnt : finish.Learnt κs lent a left → (a ≡ given (lent .0) (protocol.finish (lent .1 .0) (lent .1 .1 .0))) × StaysSound (lent .0) a
+  finish-learnt learnt = learnt
+
+  pub finish-told : (a ≡ given (lent .0) (protocol.finish (lent .1 .0) (lent .1 .1 .0))) × StaysSound (lent .0) a → finish.Learnt κs lent a left
+  finish-told said = said
+
+-- any event
+module _ (κs : Lfts 0) (lent : Dens κs of-event.ps) (a : resT of-event.r κs .Denot) (left : AtExit (endedOf 0 of-event.ps of-event.r) κs) where
+  pub event-learnt : event.Learnt κs lent a left → (a ≡ given (lent .0) (plain (lent .1 .0))) × StaysSound (lent .0) a
+  event-learnt learnt = learnt
+
+  pub event-told : (a ≡ given (lent .0) (plain (lent .1 .0))) × StaysSound (lent .0) a → event.Learnt κs lent a left
+  event-told said = said
