@@ -49,7 +49,7 @@ fn finish_of(which: u32, value: u32) -> Asked
 }
 
 // What is asked: 1 arrival of a set, 2 start of a task, 3 read by a link, 4 finish of a task with a value, any other kind unknown.
-pub fn ask(kind: u8, which: u32, value: u32) -> Asked
+pub(crate) fn ask(kind: u8, which: u32, value: u32) -> Asked
     ensures { λ r. ⌜ ((q : Saved) → heard q r ≡ answered q (called kind which value)) ⌝ }
 {
     match kind {
@@ -62,7 +62,7 @@ pub fn ask(kind: u8, which: u32, value: u32) -> Asked
 }
 
 // The refusal of what is no event: 12 for a number in no table, 11 for an unknown kind.
-pub fn number_of(a: Asked) -> u8
+pub(crate) fn number_of(a: Asked) -> u8
     ensures { λ r. ⌜ r ≡ numberOf a ⌝ }
 {
     match a {

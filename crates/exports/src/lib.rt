@@ -2,8 +2,8 @@
 //
 // Nothing is asked of the caller but that what is lent is there, and that nothing is lent twice. `include/parnusild.h` has the same
 // calls on a struct.
-pub mod call;
+mod call;
 pub mod event;
 pub mod fresh;
-pub mod parts;
+mod parts;
 pub mod replay;

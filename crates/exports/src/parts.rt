@@ -8,7 +8,7 @@ use mailbox_base::numbers::LINKS;
 use mailbox_base::numbers::TASKS;
 
 // Puts a state into the lent parts.
-pub fn put_state(
+pub(crate) fn put_state(
     q: State,
     tasks: &mut usize,
     links: &mut usize,
