@@ -38,6 +38,7 @@ pub struct State {
     pub defaults: [u32; TASKS],
     // 0 idle, 1 waiting, 2 running
     pub phase: [u8; TASKS],
+    // a position, 1 to N + 2, where N is how many links the task has to readers behind
     pub newest: [u8; TASKS],
     pub previous: [u8; TASKS],
     // position p of task t at t * 10 + p - 1
@@ -185,7 +186,8 @@ impl State {
         }
     }
 
-    // Whether the state is sound: 19 is answered exactly when it isn't.
+    // Whether the state is sound: 19 is answered exactly when it isn't. `room` hands on that the arrays have their sizes, which is part
+    // of the type and not of the value in a contract.
     pub fn sound(self) -> bool
         ensures answer { λ r. ⌜ r ≡ isSound ltb base (saved self) ⌝ }
         ensures room { λ r. ⌜ Shape base (saved self) ⌝ }

@@ -8,6 +8,7 @@ ghost use Rattle.protocol_state.specs.Saved.{at, base};
 ghost use Rattle.protocol.specs.Free.{holds, taken, lowestFree};
 ghost use Rattle.protocol_state.specs.Next.{aimed, pointerAt};
 ghost use Rattle.mailbox_arrival.specs.Arrives.{Moves, Moved, Arrives};
+use mailbox_base::decision::ARRIVAL;
 use mailbox_base::decision::decide;
 use mailbox_base::numbers::LINKS;
 use mailbox_base::numbers::POSITIONS;
@@ -106,7 +107,7 @@ fn move_task(
     let x = newest[t];
     previous[t] = x;
     newest[t] = lowest_free(writer, reader, pointer, links, t as u8, x);
-    phase[t] = decide(0, phase[t]);
+    phase[t] = decide(ARRIVAL, phase[t]);
 }
 
 // The writers' part: each task of the set moves.

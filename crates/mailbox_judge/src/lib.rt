@@ -8,6 +8,9 @@ ghost use Rattle.protocol.specs.Event.{has};
 ghost use Rattle.protocol_state.specs.Saved.{at, base, active};
 ghost use Rattle.protocol_state.specs.Decision.{decided};
 ghost use Rattle.protocol_state.specs.Judge.{allows, mayArrive, judgedArrival, judgedTask, judgedRead};
+use mailbox_base::decision::ARRIVAL;
+use mailbox_base::decision::READ;
+use mailbox_base::decision::REFUSALS;
 use mailbox_base::decision::decide;
 use mailbox_base::numbers::LINKS;
 use mailbox_base::numbers::TASKS;
@@ -20,7 +23,7 @@ fn may_arrive(set: u32, t: usize, phase: u8) -> bool
     ensures { λ r. ⌜ r ≡ (not (has set t) || allows (decided 0 phase)) ⌝ }
 {
     if has(set, t) {
-        decide(0, phase) < 12
+        decide(ARRIVAL, phase) < REFUSALS
     } else {
         true
     }
@@ -80,7 +83,7 @@ pub fn judge_task(kind: usize, t: u8, tasks: usize, phase: &[u8; TASKS]) -> u8
     }
     let next = decide(kind, phase[i]);
     let turn = pick(some_before(i, phase), 16, 0);
-    pick(next < 12, turn, next)
+    pick(next < REFUSALS, turn, next)
 }
 
 // The refusal of a read by link `l`, 0 for none: its reader is the task that reads.
@@ -97,5 +100,5 @@ pub fn judge_read(
     if few(links, LINKS) <= i {
         return 12;
     }
-    judge_task(2, reader[i], tasks, phase)
+    judge_task(READ, reader[i], tasks, phase)
 }

@@ -11,6 +11,8 @@ use crate::finish::advance;
 use crate::finish::finish;
 use crate::finish::number_of;
 use mailbox_arrival::arrive;
+use mailbox_base::decision::FINISH;
+use mailbox_base::decision::START;
 use mailbox_base::numbers::CELLS;
 use mailbox_base::numbers::LINKS;
 use mailbox_base::numbers::TASKS;
@@ -32,9 +34,9 @@ pub fn judge(e: Event, tasks: usize, links: usize, reader: &[u8; LINKS], phase: 
 {
     match e {
         Event::Arrival(set) => judge_arrival(set, tasks, phase),
-        Event::Start(t) => judge_task(1, t, tasks, phase),
+        Event::Start(t) => judge_task(START, t, tasks, phase),
         Event::Read(l) => judge_read(l, tasks, links, reader, phase),
-        Event::Finish(t, _) => judge_task(3, t, tasks, phase),
+        Event::Finish(t, _) => judge_task(FINISH, t, tasks, phase),
     }
 }
 
@@ -79,7 +81,7 @@ pub fn do_event(
             previous,
             pointer,
         ),
-        Event::Start(t) => advance(1, t, phase),
+        Event::Start(t) => advance(START, t, phase),
         Event::Read(_) => {}
         Event::Finish(t, v) => finish(t, v, links, writer, reader, newest, phase, cells, pointer),
     }

@@ -6,6 +6,7 @@ ghost use Rattle.lists.specs.Lists.{upto};
 ghost use Rattle.protocol_state.specs.Saved.{at, base};
 ghost use Rattle.protocol_state.specs.Next.{phasesAfter, numberOf, freed, freedAt};
 ghost use Rattle.mailbox_parts.specs.Finishes.{Finishes};
+use mailbox_base::decision::FINISH;
 use mailbox_base::decision::decide;
 use mailbox_base::numbers::CELLS;
 use mailbox_base::numbers::LINKS;
@@ -76,5 +77,5 @@ pub fn finish(
 {
     put_number(cells, cell_of(t, at(newest, t as usize)), v);
     free_pointers(t, few(links, LINKS), writer, reader, pointer);
-    advance(3, t, phase);
+    advance(FINISH, t, phase);
 }
