@@ -3,7 +3,7 @@
 use crate::run::{run, Options};
 use crate::subject::Subject;
 
-const USAGE: &str = "judge [--seed N] [--count N] [--exhaustive DEPTH] [--long]";
+const USAGE: &str = "usage: judge/run [--seed N] [--count N] [--exhaustive DEPTH] [--long]";
 
 fn options() -> Result<Options, String> {
     let mut options = Options::default();
@@ -32,7 +32,7 @@ pub fn judge(subject: &dyn Subject) -> i32 {
     match options() {
         Ok(options) => i32::from(!run(subject, &options)),
         Err(fault) => {
-            eprintln!("{}\n{}", fault, USAGE);
+            eprintln!("judge/run: {}\n{}", fault, USAGE);
             2
         }
     }
