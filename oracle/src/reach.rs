@@ -6,7 +6,9 @@ use crate::format::{MOST_BYTES, MOST_TASKS};
 use crate::state::{State, MOST_POSITIONS};
 use crate::subject::Answer;
 
-/// So many states a published model checker saw of the same protocol.
+/// So many states a published check went through, of the two-task low-to-high
+/// scheme (paper 000, figure 14). That is another protocol: the number says
+/// what counts as many, and compares nothing else.
 const PUBLISHED_STATES: usize = 99_529;
 
 /// How often each number from 0 to 19 was given.
