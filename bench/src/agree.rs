@@ -46,11 +46,7 @@ pub fn check(rows: &[Row]) -> [usize; REFUSALS] {
     let mut seen = [0; REFUSALS];
     for i in 0..RECORDINGS {
         let bytes = random::recording(&mut random);
-        let room = if random.one_in(8) {
-            random.below(40)
-        } else {
-            EVENTS
-        };
+        let room = if random.one_in(8) { random.below(40) } else { EVENTS };
         seen[agreed(&format!("random recording {}", i), &bytes, room)] += 1;
     }
     if let Some(n) = seen.iter().position(|&times| times == 0) {

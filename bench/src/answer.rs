@@ -26,13 +26,5 @@ pub fn nothing_yet() -> Answer {
         kind: [0; LINKS],
         pointer: [0; LINKS],
     };
-    Answer {
-        refusal: 0,
-        place: 0,
-        state,
-        arrivals: 0,
-        starts: 0,
-        reads: 0,
-        finishes: 0,
-    }
+    Answer { refusal: 0, place: 0, state, arrivals: 0, starts: 0, reads: 0, finishes: 0 }
 }

@@ -55,9 +55,7 @@ fn timed(row: &Row, repeats: usize, numbers: &mut [u32]) -> [f64; 3] {
 
 /// Times the rows and prints them as a table: the worst ratio of proved to ordinary over the rows of 10,000 events.
 fn print_times(rows: &[Row], repeats: usize) -> f64 {
-    println!(
-        "| recording | events | ordinary | proved | expert | proved/ordinary | proved/expert |"
-    );
+    println!("| recording | events | ordinary | proved | expert | proved/ordinary | proved/expert |");
     println!("|---|---:|---:|---:|---:|---:|---:|");
     let mut numbers = vec![0; EVENTS];
     let mut worst: f64 = 0.0;
@@ -85,10 +83,7 @@ fn print_times(rows: &[Row], repeats: usize) -> f64 {
 fn chosen(mut rows: Vec<Row>, part: &str) -> Vec<Row> {
     rows.retain(|row| row.name.contains(part));
     if !rows.iter().any(|row| row.events == EVENTS) {
-        fail(format!(
-            "no row of {} events has {:?} in its name",
-            EVENTS, part
-        ));
+        fail(format!("no row of {} events has {:?} in its name", EVENTS, part));
     }
     rows
 }

@@ -23,14 +23,7 @@ impl Maker {
         for &(writer, reader, kind) in links {
             table.extend_from_slice(&[writer as u8, reader as u8, kind]);
         }
-        Maker {
-            table,
-            events: Vec::new(),
-            count: 0,
-            most,
-            links: links.to_vec(),
-            value: 0,
-        }
+        Maker { table, events: Vec::new(), count: 0, most, links: links.to_vec(), value: 0 }
     }
 
     pub fn count(&self) -> usize {
@@ -85,8 +78,7 @@ impl Maker {
     }
 
     pub fn bytes(mut self) -> Vec<u8> {
-        self.table
-            .extend_from_slice(&(self.count as u16).to_le_bytes());
+        self.table.extend_from_slice(&(self.count as u16).to_le_bytes());
         self.table.extend_from_slice(&self.events);
         self.table
     }

@@ -34,11 +34,7 @@ fn some_links(random: &mut Random, tasks: usize) -> Vec<Link> {
         let behind = links.iter().filter(|l| l.0 == w && l.1 > w).count();
         let known = links.iter().any(|l| l.0 == w && l.1 == r);
         if w < tasks && w != r && !known && (r < w || behind < 8) {
-            let kind = if r < w {
-                DELAYED
-            } else {
-                random.below(2) as u8
-            };
+            let kind = if r < w { DELAYED } else { random.below(2) as u8 };
             links.push((w, r, kind));
         } else if random.one_in(60) {
             links.push((w, r, random.below(3) as u8));

@@ -11,21 +11,14 @@ pub struct Row {
 }
 
 fn row(name: impl Into<String>, recording: Maker) -> Row {
-    Row {
-        name: name.into(),
-        events: recording.count(),
-        bytes: recording.bytes(),
-    }
+    Row { name: name.into(), events: recording.count(), bytes: recording.bytes() }
 }
 
 /// So many links, at most 32 among 16 tasks: each task writes to the next one, then to the one before.
 fn spread(links: usize) -> Vec<Link> {
     let next = (0..TASKS).map(|t| (t, (t + 1) % TASKS));
     let before = (0..TASKS).map(|t| (t, (t + TASKS - 1) % TASKS));
-    next.chain(before)
-        .take(links)
-        .map(|(w, r)| (w, r, if r < w { DELAYED } else { DIRECT }))
-        .collect()
+    next.chain(before).take(links).map(|(w, r)| (w, r, if r < w { DELAYED } else { DIRECT })).collect()
 }
 
 /// Four writers with eight readers behind each: the last eight tasks.
@@ -115,7 +108,6 @@ pub fn rows() -> Vec<Row> {
 }
 
 /// Different recordings of full length.
-#[rustfmt::skip]
 fn different() -> Vec<Row> {
     let wide = spread(LINKS);
     vec![

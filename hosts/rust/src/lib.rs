@@ -193,15 +193,7 @@ pub fn replay(bytes: &[u8], numbers: &mut [u32]) -> Answer {
         )
     };
     let [arrivals, starts, reads, finishes] = counts;
-    Answer {
-        refusal,
-        place,
-        state,
-        arrivals,
-        starts,
-        reads,
-        finishes,
-    }
+    Answer { refusal, place, state, arrivals, starts, reads, finishes }
 }
 
 /// The unread rest of a recording, from the place of its answer to the end: empty after acceptance.

@@ -94,10 +94,7 @@ fn refused(s: &State, kind: u8, which: u32, value: u32) -> u8 {
 
 #[test]
 fn the_file_is_the_long_example() {
-    let path = concat!(
-        env!("CARGO_MANIFEST_DIR"),
-        "/../../recordings/figure-17.rec"
-    );
+    let path = concat!(env!("CARGO_MANIFEST_DIR"), "/../../recordings/figure-17.rec");
     assert_eq!(std::fs::read(path).unwrap(), example());
     assert_eq!(example().len(), 148);
 }
@@ -288,11 +285,7 @@ fn unsound_states() {
     let mut past = good;
     past.phase[4] = 200;
     past.writer[3] = 200;
-    assert_eq!(
-        past.event(Arrival(1)),
-        Ok(0),
-        "slots past the counts are not looked at"
-    );
+    assert_eq!(past.event(Arrival(1)), Ok(0), "slots past the counts are not looked at");
     assert_eq!((past.phase[4], past.writer[3]), (200, 200));
 }
 
@@ -304,20 +297,11 @@ fn tables() {
         made.refusal
     };
     for tasks in [0, 17, usize::MAX] {
-        let t = Table {
-            tasks,
-            ..example_table()
-        };
+        let t = Table { tasks, ..example_table() };
         assert_eq!(refusal(&t), 2);
     }
     for links in [33, usize::MAX] {
-        assert_eq!(
-            refusal(&Table {
-                links,
-                ..example_table()
-            }),
-            3
-        );
+        assert_eq!(refusal(&Table { links, ..example_table() }), 3);
     }
     assert_eq!(refusal(&table(&[0; 2], &[(0, 2, 0)])), 4);
     assert_eq!(refusal(&table(&[0; 2], &[(0, 0, 0)])), 5);
@@ -328,10 +312,7 @@ fn tables() {
     let nine: Vec<_> = (1..=9).map(|r| (0, r, 0)).collect();
     assert_eq!(refusal(&table(&[0; 16], &eight)), 0);
     assert_eq!(refusal(&table(&[0; 16], &nine)), 9);
-    let most: Vec<_> = (0..16)
-        .flat_map(|r| (0..16).filter(move |w| *w > r).map(move |w| (w, r, 1)))
-        .take(32)
-        .collect();
+    let most: Vec<_> = (0..16).flat_map(|r| (0..16).filter(move |w| *w > r).map(move |w| (w, r, 1))).take(32).collect();
     assert_eq!(refusal(&table(&[5; 16], &most)), 0);
 }
 
@@ -339,23 +320,12 @@ fn tables() {
 fn a_fresh_state() {
     let s = State::fresh(&example_table()).state;
     assert_eq!((s.tasks, s.links), (4, 3));
-    assert_eq!(
-        s.defaults[..6],
-        [0, 100, 0, 0, 0, 0],
-        "past the tasks stands 0"
-    );
-    assert_eq!(
-        (s.phase, s.newest, s.previous),
-        ([0; TASKS], [1; TASKS], [1; TASKS])
-    );
+    assert_eq!(s.defaults[..6], [0, 100, 0, 0, 0, 0], "past the tasks stands 0");
+    assert_eq!((s.phase, s.newest, s.previous), ([0; TASKS], [1; TASKS], [1; TASKS]));
     assert!(s.cells[10..20].iter().all(|&c| c == 100));
     assert!(s.cells[..10].iter().chain(&s.cells[20..]).all(|&c| c == 0));
     assert_eq!(
-        (
-            s.writer[..4].to_vec(),
-            s.reader[..4].to_vec(),
-            s.kind[..4].to_vec()
-        ),
+        (s.writer[..4].to_vec(), s.reader[..4].to_vec(), s.kind[..4].to_vec()),
         (vec![1, 1, 1, 0], vec![0, 2, 3, 0], vec![1, 0, 0, 0])
     );
     assert_eq!(s.pointer, [0; LINKS]);
