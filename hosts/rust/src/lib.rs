@@ -99,6 +99,8 @@ impl State {
     /// The fresh state of a table, or the refusal that the table earns, 2 to 9, and the fresh state of a single task.
     pub fn fresh(table: &Table) -> Made {
         let mut state = State::room();
+        // SAFETY: each reference is valid, to an array as long as the header says; none overlap, since they are to different fields, and
+        // the state is this function's own.
         let refusal = unsafe {
             calls::parnusild_fresh(
                 table.tasks,
@@ -143,6 +145,8 @@ impl State {
     pub fn call(&mut self, kind: u8, which: u32, value: u32) -> (u8, u32) {
         // Not 0, so that a test sees that the call sets it.
         let mut number = u32::MAX;
+        // SAFETY: each reference is valid, to an array as long as the header says; none overlap, since they are to different fields, and
+        // the number is this function's own.
         let refusal = unsafe {
             calls::parnusild_event(
                 kind,
@@ -170,7 +174,8 @@ pub fn replay(bytes: &[u8], numbers: &mut [u32]) -> Answer {
     let mut state = State::room();
     let mut place = usize::MAX;
     let mut counts = [usize::MAX; 4];
-    // A slice's pointer is not null, even where the slice is empty.
+    // SAFETY: each slice passes with its own length, and its pointer is not null even where it is empty. The list is lent to this function
+    // alone, so it overlaps nothing; the rest are references to different fields and arrays of its own, as long as the header says.
     let refusal = unsafe {
         calls::parnusild_replay(
             bytes.as_ptr(),
