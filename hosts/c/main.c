@@ -149,15 +149,24 @@ static void refused_tables(void)
     refuse_table("direct link to a reader ahead", &other);
 }
 
+/* the entry past the lent ones, which was 77 before; without a list there is none that a replay could reach */
+static const char *past(const uint32_t *list, size_t room)
+{
+    if (!list)
+        return "none lent";
+    return list[room] == 77 ? "past kept" : "past CHANGED";
+}
+
 /* a replay at an edge size: its refusal and place, how many numbers it read, and whether the entry past the lent ones is as it was */
 static void edge(const char *what, const uint8_t *lent, size_t size, uint32_t *list, size_t room)
 {
     struct parnusild_state state;
     struct parnusild_answer answer;
-    numbers[room] = 77;
+    if (list)
+        list[room] = 77;
     parnusild_state_replay(&state, &answer, lent, size, list, room);
-    printf("%s: refusal %u at %zu, reads %zu, tasks %zu, past %s\n", what, answer.refusal, answer.place, answer.reads, state.tasks,
-           numbers[room] == 77 ? "kept" : "CHANGED");
+    printf("%s: refusal %u at %zu, reads %zu, tasks %zu, %s\n", what, answer.refusal, answer.place, answer.reads, state.tasks,
+           past(list, room));
 }
 
 static void edge_sizes(size_t size)
