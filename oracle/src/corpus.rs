@@ -200,7 +200,7 @@ impl Schedule {
                 candidates = idle(top);
             }
         }
-        let mut chosen = vec![self.nearest(prng, habit, top, &candidates)];
+        let mut chosen = vec![nearest(prng, habit, &candidates)];
         if !prng.chance(habit.single) {
             chosen.extend(candidates.into_iter().filter(|_| prng.chance(50)));
         }
@@ -211,14 +211,14 @@ impl Schedule {
         }
         Event::Arrival(set)
     }
+}
 
-    /// Deep interruption begins with the least urgent and climbs slowly.
-    fn nearest(&self, prng: &mut Prng, habit: &Habit, top: Option<usize>, candidates: &[usize]) -> usize {
-        let climbing = habit.interrupt > 90 && prng.chance(80);
-        match (top, candidates.last()) {
-            (_, Some(&last)) if climbing => last,
-            _ => prng.pick(candidates),
-        }
+/// Deep interruption begins with the least urgent and climbs slowly.
+fn nearest(prng: &mut Prng, habit: &Habit, candidates: &[usize]) -> usize {
+    let climbing = habit.interrupt > 90 && prng.chance(80);
+    match candidates.last() {
+        Some(&last) if climbing => last,
+        _ => prng.pick(candidates),
     }
 }
 
