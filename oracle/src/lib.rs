@@ -4,22 +4,27 @@
 //! `format` reads recordings, `pointers` and `zero_time` are two engines that
 //! know nothing of each other, `subject` is what gets judged, `laws` says the
 //! same rules once more as properties, `wrong` holds the errors that look
-//! right, `corpus`, `tables`, `saved` and `exhaustive` make the inputs, and
-//! `reach` says how deep they went.
+//! right, `corpus`, `tables`, `saved` and `exhaustive` make the inputs (out of
+//! `random_table`, `schedule`, `nasty` and `example`), `run` compares all the
+//! answers, `reach` says how deep it went, and `command` reads its options.
 
 #![forbid(unsafe_code)]
 
 pub mod command;
 pub mod corpus;
 pub mod engine;
+pub mod example;
 mod exhaustive;
 pub mod format;
 mod laws;
+mod nasty;
 pub mod pointers;
 pub mod prng;
+mod random_table;
 pub mod reach;
 mod run;
 mod saved;
+mod schedule;
 pub mod state;
 pub mod subject;
 pub mod tables;

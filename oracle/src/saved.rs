@@ -1,10 +1,12 @@
 //! Saved states: sound ones from random histories, and spoiled ones.
 
-use crate::corpus::{nasty_event, random_events, random_table, Schedule, Size};
 use crate::engine::{Engine, FreshEngine, IDLE, RUNNING};
 use crate::format::{Event, Link, Table, DELAYED};
+use crate::nasty::nasty_event;
 use crate::pointers::Pointers;
 use crate::prng::Prng;
+use crate::random_table::{random_table, Size};
+use crate::schedule::{random_events, Schedule};
 use crate::state::{State, MOST_CELLS, MOST_POSITIONS};
 use crate::zero_time::ZeroTime;
 

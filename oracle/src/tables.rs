@@ -1,9 +1,10 @@
 //! Tables as a host lends them, and the ones that get tried: lawful ones,
 //! every single fault, faults that compete, and counts outside the limits.
 
-use crate::corpus::{competing_table, random_table, Size};
 use crate::format::{link_refusal, Link, Table, MOST_LINKS, MOST_TASKS};
+use crate::nasty::competing_table;
 use crate::prng::Prng;
+use crate::random_table::{random_table, Size};
 
 /// A table that is lent: any two counts, and arrays that may hold anything.
 /// Slots past the counts are not looked at.

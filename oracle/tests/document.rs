@@ -1,7 +1,7 @@
 //! The document's own examples.
 
-use oracle::corpus::example;
 use oracle::engine::{Engine, FreshEngine};
+use oracle::example::long_example;
 use oracle::format::{encode, printout, Counts, Event, Link, Recording, Table, MOST_BYTES};
 use oracle::pointers::Pointers;
 use oracle::state::{sound, State};
@@ -36,7 +36,7 @@ fn verdict_of(tasks: usize, links: &[Link], events: &[Event]) -> (u8, usize) {
 
 /// The example with its events after the given number replaced by others.
 fn example_then(kept: usize, then: &[Event]) -> (u8, usize) {
-    let mut changed = example();
+    let mut changed = long_example();
     changed.events.truncate(kept);
     changed.events.extend_from_slice(then);
     verdict(&encode(&changed))
@@ -47,7 +47,7 @@ const NINE_LINES: &str =
 
 #[test]
 fn the_long_example_prints_its_nine_lines() {
-    let bytes = encode(&example());
+    let bytes = encode(&long_example());
     let answer = read(&bytes, 10_000);
     assert_eq!((answer.refusal, answer.place, answer.rest), (0, 148, &[][..]));
     assert_eq!(answer.counts, Counts { arrivals: 11, starts: 11, reads: 8, finishes: 11 });
@@ -71,18 +71,18 @@ fn the_long_example_has_35_events_in_148_bytes() {
         3, 2, 4, 3, 0, 0, 0, 0, // R2 F3
         1, 9, 0, 2, 0, 3, 0, 4, 0, 0, 0, 0, 0, 2, 3, 3, 2, 4, 3, 0, 0, 0, 0, // A{0,3} S0 R0 F0 S3 R2 F3
     ];
-    let bytes = encode(&example());
-    assert_eq!(example().events.len(), 35);
+    let bytes = encode(&long_example());
+    assert_eq!(long_example().events.len(), 35);
     assert_eq!(bytes.len(), 148);
     assert_eq!(bytes, expected);
 }
 
 #[test]
 fn newest_of_task_1_goes_2_1_3() {
-    let mut engine = Pointers::fresh(&example().table);
+    let mut engine = Pointers::fresh(&long_example().table);
     let mut newest = Vec::new();
     let mut previous = Vec::new();
-    for event in example().events {
+    for event in long_example().events {
         engine.apply(event);
         if let Event::Arrival(set) = event {
             if set & 2 != 0 {
@@ -194,13 +194,13 @@ fn a_lent_table_is_judged_count_by_count_and_link_by_link() {
     assert_eq!(refusal(&lent(10, &nine)), 9);
     // The first link at fault decides, and slots past the counts belong to no link.
     assert_eq!(refusal(&lent(2, &[link(0, 1, 2), link(2, 2, 0)])), 6);
-    assert_eq!(Oracle.fresh(&lent(4, &example().table.links)).state.writer[..4], [1, 1, 1, 0]);
+    assert_eq!(Oracle.fresh(&lent(4, &long_example().table.links)).state.writer[..4], [1, 1, 1, 0]);
 }
 
 #[test]
 fn after_the_second_arrival_r2_is_16_and_a3_is_13() {
     let second = 11;
-    assert_eq!(example().events[second - 1], Event::Arrival(0b0011));
+    assert_eq!(long_example().events[second - 1], Event::Arrival(0b0011));
     let place = 29 + 21 + 12 + 3;
     assert_eq!(example_then(second, &[Event::Read(2)]), (16, place));
     assert_eq!(example_then(second, &[Event::Arrival(0b1000)]), (13, place));
@@ -264,7 +264,7 @@ fn the_longest_recording_has_60_164_bytes() {
 
 #[test]
 fn a_power_cut_keeps_the_whole_records() {
-    let bytes = encode(&example());
+    let bytes = encode(&long_example());
     let at_start_3 = 29 + 21 + 12;
     let answer = read(&bytes[..at_start_3 - 1], 10);
     assert_eq!((answer.refusal, answer.place, answer.rest), (1, at_start_3 - 2, &[2][..]));
@@ -276,7 +276,7 @@ fn a_power_cut_keeps_the_whole_records() {
 
 #[test]
 fn a_state_that_is_not_sound_is_19_before_anything_else() {
-    let fresh = State::fresh(&example().table);
+    let fresh = State::fresh(&long_example().table);
     assert!(sound(&fresh));
     let spoiled = |spoil: &dyn Fn(&mut State)| {
         let mut state = fresh;

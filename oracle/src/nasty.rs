@@ -1,0 +1,81 @@
+//! Events, sets and links that may break a rule, or several at once.
+
+use crate::engine::IDLE;
+use crate::format::{Event, Link, Table, MOST_BEHIND, MOST_LINKS, MOST_TASKS};
+use crate::prng::Prng;
+use crate::random_table::{random_table, value, Size};
+use crate::schedule::Schedule;
+
+/// An event that may break a rule; out-of-range numbers come up in each kind.
+pub fn nasty_event(prng: &mut Prng, table: &Table, schedule: &Schedule) -> Event {
+    let tasks = table.defaults.len();
+    let task = |prng: &mut Prng| {
+        let top = schedule.top().unwrap_or(0);
+        let drawn = prng.below(tasks);
+        prng.pick(&[top, drawn, drawn, tasks, 15, 16, 255]) as u8
+    };
+    match prng.below(4) {
+        0 => Event::Arrival(nasty_set(prng, &schedule.phase)),
+        1 => Event::Start(task(prng)),
+        2 => {
+            let drawn = prng.below(table.links.len().max(1));
+            Event::Read(prng.pick(&[drawn, drawn, drawn, drawn, table.links.len(), 31, 32, 255]) as u8)
+        }
+        _ => Event::Finish(task(prng), value(prng)),
+    }
+}
+
+fn nasty_set(prng: &mut Prng, phases: &[u8]) -> u16 {
+    let mut set = 0;
+    for (task, phase) in phases.iter().enumerate() {
+        if prng.chance(if *phase == IDLE { 40 } else { 20 }) {
+            set |= 1 << task;
+        }
+    }
+    match prng.below(8) {
+        0 => 0,
+        1 => u16::MAX,
+        2 if phases.len() < MOST_TASKS => set | 1 << prng.between(phases.len(), MOST_TASKS - 1),
+        3 => prng.word() as u16,
+        _ => set,
+    }
+}
+
+/// A table whose last links break several rules at once, as a rule.
+pub fn competing_table(prng: &mut Prng) -> Table {
+    let size = prng.pick(&[Size::Small, Size::Any, Size::Limit]);
+    let mut table = random_table(prng, size);
+    let tasks = table.defaults.len();
+    if prng.chance(30) {
+        crowd(prng, &mut table);
+    }
+    for _ in 0..prng.between(1, 3) {
+        table.links.push(nasty_link(prng, tasks, &table.links));
+    }
+    table
+}
+
+/// Gives task 0 eight readers behind, where the table has that many.
+fn crowd(prng: &mut Prng, table: &mut Table) {
+    table.links.retain(|link| link.writer != 0);
+    let tasks = table.defaults.len();
+    for reader in 1..tasks.min(MOST_BEHIND + 1) {
+        table.links.push(Link { writer: 0, reader: reader as u8, kind: prng.below(2) as u8 });
+    }
+    table.links.truncate(MOST_LINKS);
+}
+
+fn nasty_link(prng: &mut Prng, tasks: usize, earlier: &[Link]) -> Link {
+    let task = |prng: &mut Prng| prng.pick(&[0, tasks - 1, tasks.saturating_sub(2), tasks, 16, 255]) as u8;
+    let mut link = Link { writer: task(prng), reader: task(prng), kind: prng.pick(&[0, 0, 1, 1, 2, 255]) };
+    if prng.chance(40) {
+        link.writer = 0;
+        link.reader = prng.below(tasks + 1) as u8;
+    }
+    if !earlier.is_empty() && prng.chance(30) {
+        let old = prng.pick(earlier);
+        link.writer = old.writer;
+        link.reader = old.reader;
+    }
+    link
+}

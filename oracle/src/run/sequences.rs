@@ -1,0 +1,35 @@
+//! Every sequence of events over small tables.
+
+use super::Run;
+use crate::exhaustive::{explore, three_task_tables, Visited};
+use crate::format::Table;
+
+impl Run<'_> {
+    /// Every table of three tasks and four links, every sequence of events;
+    /// with `--long` every table of three tasks.
+    pub fn exhaustive(&mut self, depth: usize, long: bool) {
+        let links = if long { 0..=6 } else { 4..=4 };
+        let tables: Vec<Table> = links.flat_map(three_task_tables).collect();
+        let mut total = Visited { closed: true, ..Visited::default() };
+        for table in &tables {
+            match explore(self.subject, table, depth) {
+                Ok(visited) => {
+                    total.states += visited.states;
+                    total.transitions += visited.transitions;
+                    total.depth = total.depth.max(visited.depth);
+                    total.closed &= visited.closed;
+                }
+                Err(fault) => self.differ("every sequence", || format!("{:?}\n{}", table, fault)),
+            }
+        }
+        self.reached.states = total.states;
+        println!(
+            "exhaustive: {} tables, depth {}, {} states, {} transitions{}",
+            tables.len(),
+            total.depth,
+            total.states,
+            total.transitions,
+            if total.closed { ", no state left: all depths" } else { "" }
+        );
+    }
+}

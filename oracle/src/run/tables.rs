@@ -1,0 +1,41 @@
+//! Tables: the answers to each compared.
+
+use super::Run;
+use crate::laws;
+use crate::prng::Prng;
+use crate::subject::{Oracle, Subject};
+use crate::tables::{self, LentTable};
+
+impl Run<'_> {
+    pub fn take_table(&mut self, table: &LentTable) {
+        self.tables += 1;
+        let answer = Oracle.fresh(table);
+        let other = self.subject.fresh(table);
+        let both = |name: &str, told: &str| format!("{:?}\noracle: {:?}\n{}: {}", table, answer, name, told);
+        if other != answer {
+            let name = self.subject.name();
+            self.differ("the subject's answer to a table", || both(&name, &format!("{:?}", other)));
+        }
+        if let Some(law) = laws::made_law_broken(table, &answer) {
+            self.differ(law, || both("law", law));
+        }
+        for (wrong, exposure) in &mut self.wrong_tables {
+            let given = wrong.fresh(table);
+            exposure.whole += (given != answer) as usize;
+            exposure.without_state += (given.refusal != answer.refusal) as usize;
+        }
+        self.reached.tables[usize::from(answer.refusal)] += 1;
+    }
+
+    pub fn tables(&mut self, quota: usize, prng: &mut Prng) -> usize {
+        let before = self.tables;
+        let mut number = 0;
+        while self.tables - before < quota {
+            for table in tables::batch(number, prng) {
+                self.take_table(&table);
+            }
+            number += 1;
+        }
+        self.tables - before
+    }
+}

@@ -1,0 +1,100 @@
+//! Which errors there are, and which inputs must expose each.
+
+use crate::state::{Clause, CLAUSES};
+
+#[derive(Clone, Copy, PartialEq, Eq, Debug)]
+pub enum Flaw {
+    // In the engine.
+    PointersAtStart,
+    ReadersFirst,
+    FreedAtStart,
+    PreviousNotSearched,
+    OnlyRunningProtected,
+    HighestFree,
+    KeptAtFinish,
+    AnyoneMayRun,
+    WrittenToPrevious,
+    DelayedAsDirect,
+    ThirteenBeforeTwelve,
+    AllFreedAtFinish,
+    AheadProtectedToo,
+    OnlyRunningBlock,
+    SixteenFirst,
+    // In the reader of recordings.
+    RefusedEffectKept,
+    EighteenBeforeFifteen,
+    PlaceInsideEvent,
+    PlaceInsideLink,
+    PlaceInsideCount,
+    PlacePastExtra,
+    SeventeenNotGiven,
+    ArrivalEventsCounted,
+    LinkFaultsFalling,
+    RestBeforeKind,
+    ListCleared,
+    EarlyTableKept,
+    RestFromTheLeft,
+    // In the judgement of a table.
+    LinksBeforeTasks,
+    CountsCutToBytes,
+    LeastOfAllLinks,
+    PastCountsKept,
+    // In the judgement of a saved state, and of a table.
+    Unsound(Clause),
+    TwelveBeforeNineteen,
+}
+
+/// The errors the corpus of whole recordings must expose.
+pub const IN_RECORDINGS: [Flaw; 28] = [
+    Flaw::PointersAtStart,
+    Flaw::ReadersFirst,
+    Flaw::FreedAtStart,
+    Flaw::PreviousNotSearched,
+    Flaw::OnlyRunningProtected,
+    Flaw::HighestFree,
+    Flaw::KeptAtFinish,
+    Flaw::AnyoneMayRun,
+    Flaw::WrittenToPrevious,
+    Flaw::DelayedAsDirect,
+    Flaw::ThirteenBeforeTwelve,
+    Flaw::RefusedEffectKept,
+    Flaw::EighteenBeforeFifteen,
+    Flaw::PlaceInsideEvent,
+    Flaw::PlaceInsideLink,
+    Flaw::PlaceInsideCount,
+    Flaw::PlacePastExtra,
+    Flaw::SeventeenNotGiven,
+    Flaw::ArrivalEventsCounted,
+    Flaw::AllFreedAtFinish,
+    Flaw::AheadProtectedToo,
+    Flaw::OnlyRunningBlock,
+    Flaw::SixteenFirst,
+    Flaw::LinkFaultsFalling,
+    Flaw::RestBeforeKind,
+    Flaw::ListCleared,
+    Flaw::EarlyTableKept,
+    Flaw::RestFromTheLeft,
+];
+
+/// The errors the tables must expose.
+pub fn in_tables() -> Vec<Flaw> {
+    let mut flaws = vec![
+        Flaw::LinkFaultsFalling,
+        Flaw::EarlyTableKept,
+        Flaw::LinksBeforeTasks,
+        Flaw::CountsCutToBytes,
+        Flaw::LeastOfAllLinks,
+        Flaw::PastCountsKept,
+    ];
+    flaws.extend(CLAUSES.iter().filter(|clause| **clause as u8 <= 9).map(|clause| Flaw::Unsound(*clause)));
+    flaws
+}
+
+/// The errors the corpus of saved states must expose.
+pub fn in_saved_states() -> Vec<Flaw> {
+    let mut flaws: Vec<Flaw> = IN_RECORDINGS[..11].to_vec();
+    flaws.extend([Flaw::AllFreedAtFinish, Flaw::AheadProtectedToo, Flaw::OnlyRunningBlock, Flaw::SixteenFirst]);
+    flaws.push(Flaw::TwelveBeforeNineteen);
+    flaws.extend(CLAUSES.iter().map(|clause| Flaw::Unsound(*clause)));
+    flaws
+}

@@ -1,0 +1,142 @@
+//! A reader of recordings with a flaw: the right answer, bent.
+
+use super::tables::greatest_link_fault;
+use super::Flaw;
+use crate::engine::{Engine, IDLE, RUNNING};
+use crate::format::{Event, Link, Table, Walker};
+use crate::pointers as right;
+use crate::state::State;
+use crate::subject::{Answer, Oracle, Subject};
+
+/// The right answer bent the way a wrong reader would give it.
+pub fn distorted<'a>(flaw: Flaw, bytes: &'a [u8], mut answer: Answer<'a>) -> Answer<'a> {
+    let refusal = answer.refusal;
+    let place = answer.place;
+    let part = || part_of(bytes, place);
+    match flaw {
+        Flaw::RefusedEffectKept if (12..=16).contains(&refusal) => keep_effect(bytes, &mut answer),
+        Flaw::EighteenBeforeFifteen if (15..=16).contains(&refusal) => room_first(bytes, &mut answer),
+        Flaw::PlaceInsideEvent if refusal != 0 && refusal != 17 && part() == Part::Events => shift_place(&mut answer),
+        Flaw::PlaceInsideLink if (5..=9).contains(&refusal) => shift_place(&mut answer),
+        Flaw::PlaceInsideCount if refusal == 10 => shift_place(&mut answer),
+        Flaw::PlacePastExtra if refusal == 17 => shift_place(&mut answer),
+        Flaw::SeventeenNotGiven if refusal == 17 => {
+            answer.refusal = 0;
+            answer.place = bytes.len();
+            answer.rest = &[];
+        }
+        Flaw::ArrivalEventsCounted => answer.counts.arrivals = arrival_events(bytes, answer.place),
+        Flaw::LinkFaultsFalling if (4..=9).contains(&refusal) => falling_link_fault(bytes, &mut answer),
+        Flaw::RestBeforeKind if refusal == 11 && answer.rest.len() < 2 => answer.refusal = 1,
+        Flaw::ListCleared => {
+            let reads = answer.counts.reads as usize;
+            answer.list[reads..].fill(0);
+        }
+        Flaw::EarlyTableKept if matches!(refusal, 1 | 10) && part() == Part::EventCount => {
+            answer.state = State::fresh(&table_before(bytes));
+        }
+        Flaw::RestFromTheLeft => answer.rest = &bytes[..answer.rest.len()],
+        _ => {}
+    }
+    answer
+}
+
+#[derive(PartialEq, Eq)]
+enum Part {
+    Earlier,
+    EventCount,
+    Events,
+}
+
+fn part_of(bytes: &[u8], place: usize) -> Part {
+    let mut walker = Walker::new(bytes);
+    let whole = walker.head().is_ok();
+    match whole {
+        true if walker.place() <= place => Part::Events,
+        false if walker.place() == place && place >= 6 && event_count_reached(bytes, place) => Part::EventCount,
+        _ => Part::Earlier,
+    }
+}
+
+/// Whether a recording whose head is refused there got as far as E: its bytes
+/// before the place and an E of 0 make a whole recording.
+fn event_count_reached(bytes: &[u8], place: usize) -> bool {
+    let mut whole = bytes[..place].to_vec();
+    whole.extend_from_slice(&[0, 0]);
+    Oracle.replay(&whole, &[]).refusal == 0
+}
+
+fn table_before(bytes: &[u8]) -> Table {
+    let mut place = 0;
+    let tasks = usize::from(bytes[place]);
+    place += 1 + 4 * tasks;
+    let links = usize::from(bytes[place]);
+    let mut whole = bytes[..place + 1 + 3 * links].to_vec();
+    whole.extend_from_slice(&[0, 0]);
+    Walker::new(&whole).head().map(|(table, _)| table).unwrap_or_default()
+}
+
+fn shift_place(answer: &mut Answer) {
+    if let Some(rest) = answer.rest.get(1..) {
+        answer.place += 1;
+        answer.rest = rest;
+    }
+}
+
+fn keep_effect(bytes: &[u8], answer: &mut Answer) {
+    let event = match Walker::at(bytes, answer.place).look_at_event() {
+        Ok((event, _)) => event,
+        Err(_) => return,
+    };
+    let state = &mut answer.state;
+    match event {
+        Event::Arrival(set) => {
+            // As an arrival that moves each task before it meets the fault.
+            let fine =
+                right::tasks_of(set, state).filter(|task| !state.active(*task)).fold(0, |set, task| set | 1 << task);
+            let mut engine = right::Pointers { state: *state };
+            engine.apply(Event::Arrival(fine));
+            *state = engine.state;
+        }
+        Event::Start(task) if task < state.tasks => state.phase[usize::from(task)] = RUNNING,
+        Event::Finish(task, _) if task < state.tasks => state.phase[usize::from(task)] = IDLE,
+        _ => {}
+    }
+}
+
+fn room_first(bytes: &[u8], answer: &mut Answer) {
+    if bytes[answer.place] == 3 && answer.counts.reads as usize == answer.list.len() {
+        answer.refusal = 18;
+    }
+}
+
+fn arrival_events(bytes: &[u8], place: usize) -> u32 {
+    let mut walker = Walker::new(bytes);
+    let mut arrivals = 0;
+    if walker.head().is_err() {
+        return 0;
+    }
+    while walker.place() < place {
+        match walker.look_at_event() {
+            Ok((event, length)) => {
+                arrivals += matches!(event, Event::Arrival(_)) as u32;
+                walker.pass(length);
+            }
+            Err(_) => break,
+        }
+    }
+    arrivals
+}
+
+/// The last rule a link breaks in place of the first.
+fn falling_link_fault(bytes: &[u8], answer: &mut Answer) {
+    let tasks = usize::from(bytes[0]);
+    let first = 2 + 4 * tasks;
+    let links: Vec<Link> = bytes[first..answer.place + 3]
+        .chunks(3)
+        .map(|record| Link { writer: record[0], reader: record[1], kind: record[2] })
+        .collect();
+    if let Some((&last, earlier)) = links.split_last() {
+        answer.refusal = greatest_link_fault(tasks, earlier, last);
+    }
+}
