@@ -1,7 +1,7 @@
 //! The state as it is lent, saved and handed back, and when it is sound.
 
 use crate::engine::{IDLE, RUNNING};
-use crate::format::{link_refusal, Link, Table, MOST_LINKS, MOST_TASKS};
+use crate::format::{link_faults, link_refusal, Link, Table, MOST_LINKS, MOST_TASKS};
 
 /// Positions of one task: at most eight readers behind, and two.
 pub const MOST_POSITIONS: usize = 10;
@@ -62,7 +62,7 @@ impl State {
     }
 
     pub fn link(&self, number: usize) -> Link {
-        Link { writer: self.writer[number], reader: self.reader[number], kind: self.kind[number] }
+        Link::of([self.writer[number], self.reader[number], self.kind[number]])
     }
 
     /// N + 2 of a task. The links must name tasks of the table.
@@ -146,16 +146,9 @@ fn table_clause(state: &State) -> Option<Clause> {
     if links > MOST_LINKS {
         return Some(Clause::Links);
     }
-    let mut earlier = [Link { writer: 0, reader: 0, kind: 0 }; MOST_LINKS];
-    for number in 0..links {
-        let link = state.link(number);
-        let refusal = link_refusal(tasks, &earlier[..number], link);
-        if refusal != 0 {
-            return CLAUSES.iter().copied().find(|clause| *clause as u8 == refusal);
-        }
-        earlier[number] = link;
-    }
-    None
+    let links: Vec<Link> = (0..links).map(|number| state.link(number)).collect();
+    let refusal = link_faults(tasks, &links, link_refusal).next()?;
+    CLAUSES.iter().copied().find(|clause| *clause as u8 == refusal)
 }
 
 fn broken_beyond_table(state: &State) -> Vec<Clause> {

@@ -1,7 +1,7 @@
 //! Tables as a host lends them, and the ones that get tried: lawful ones,
 //! every single fault, faults that compete, and counts outside the limits.
 
-use crate::format::{link_refusal, Link, Table, MOST_LINKS, MOST_TASKS};
+use crate::format::{link_faults, link_refusal, Link, Table, MOST_LINKS, MOST_TASKS};
 use crate::nasty::competing_table;
 use crate::prng::Prng;
 use crate::random_table::{random_table, Size};
@@ -39,8 +39,8 @@ impl LentTable {
         lent
     }
 
-    pub fn link(&self, number: usize) -> Link {
-        Link { writer: self.writer[number], reader: self.reader[number], kind: self.kind[number] }
+    fn link(&self, number: usize) -> Link {
+        Link::of([self.writer[number], self.reader[number], self.kind[number]])
     }
 
     fn set_link(&mut self, number: usize, link: Link) {
@@ -68,15 +68,15 @@ impl LentTable {
         if self.links > MOST_LINKS {
             return Err(3);
         }
-        let mut links = Vec::with_capacity(self.links);
-        for number in 0..self.links {
-            let link = self.link(number);
-            match link_refusal(self.tasks, &links, link) {
-                0 => links.push(link),
-                refusal => return Err(refusal),
-            }
-        }
-        Ok(Table { defaults: self.defaults[..self.tasks].to_vec(), links })
+        let table = self.as_it_stands();
+        let fault = link_faults(self.tasks, &table.links, link_refusal).next();
+        fault.map_or(Ok(table), Err)
+    }
+
+    /// The table of counts within the limits, whatever its links say.
+    pub fn as_it_stands(&self) -> Table {
+        let links = (0..self.links).map(|number| self.link(number)).collect();
+        Table { defaults: self.defaults[..self.tasks].to_vec(), links }
     }
 }
 

@@ -132,10 +132,8 @@ fn arrival_events(bytes: &[u8], place: usize) -> u32 {
 fn falling_link_fault(bytes: &[u8], answer: &mut Answer) {
     let tasks = usize::from(bytes[0]);
     let first = 2 + 4 * tasks;
-    let links: Vec<Link> = bytes[first..answer.place + 3]
-        .chunks(3)
-        .map(|record| Link { writer: record[0], reader: record[1], kind: record[2] })
-        .collect();
+    let links: Vec<Link> =
+        bytes[first..answer.place + 3].chunks(3).map(|record| Link::of([record[0], record[1], record[2]])).collect();
     if let Some((&last, earlier)) = links.split_last() {
         answer.refusal = greatest_link_fault(tasks, earlier, last);
     }

@@ -1,7 +1,7 @@
 //! A judge of tables with a flaw: the right answer, bent.
 
 use super::Flaw;
-use crate::format::{link_refusal, Link, Table};
+use crate::format::{link_faults, link_refusal, Link};
 use crate::state::State;
 use crate::subject::{Made, Oracle, Subject};
 use crate::tables::LentTable;
@@ -10,12 +10,15 @@ use crate::tables::LentTable;
 pub fn distorted_table(flaw: Flaw, table: &LentTable, right: Made) -> Made {
     let in_links = (4..=9).contains(&right.refusal);
     match flaw {
-        Flaw::LinkFaultsFalling if in_links => Made { refusal: link_faults(table, greatest_link_fault)[0], ..right },
+        Flaw::LinkFaultsFalling if in_links => {
+            let last = link_faults(table.tasks, &table.as_it_stands().links, greatest_link_fault).next();
+            Made { refusal: last.unwrap_or(0), ..right }
+        }
         Flaw::LeastOfAllLinks if in_links => {
-            let least = link_faults(table, link_refusal).into_iter().min();
+            let least = link_faults(table.tasks, &table.as_it_stands().links, link_refusal).min();
             Made { refusal: least.unwrap_or(0), ..right }
         }
-        Flaw::EarlyTableKept if in_links => Made { state: State::fresh(&as_it_stands(table)), ..right },
+        Flaw::EarlyTableKept if in_links => Made { state: State::fresh(&table.as_it_stands()), ..right },
         Flaw::LinksBeforeTasks if right.refusal == 2 && table.links > 32 => Made { refusal: 3, ..right },
         Flaw::CountsCutToBytes => {
             let byte = |count: usize| usize::from(count as u8);
@@ -28,17 +31,6 @@ pub fn distorted_table(flaw: Flaw, table: &LentTable, right: Made) -> Made {
         Flaw::Unsound(clause) if clause as u8 == right.refusal => Made { refusal: 0, ..right },
         _ => right,
     }
-}
-
-/// What the links at fault break, one number for each of them.
-fn link_faults(table: &LentTable, fault: impl Fn(usize, &[Link], Link) -> u8) -> Vec<u8> {
-    let links = as_it_stands(table).links;
-    (0..links.len()).map(|l| fault(table.tasks, &links[..l], links[l])).filter(|fault| *fault != 0).collect()
-}
-
-/// The table of counts within the limits, whatever its links say.
-fn as_it_stands(table: &LentTable) -> Table {
-    Table { defaults: table.defaults[..table.tasks].to_vec(), links: (0..table.links).map(|l| table.link(l)).collect() }
 }
 
 /// The last rule that a link breaks, in place of the first.
