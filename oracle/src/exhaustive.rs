@@ -9,7 +9,7 @@
 use std::collections::HashSet;
 
 use crate::engine::{Engine, FreshEngine, IDLE};
-use crate::format::{Event, Link, Table};
+use crate::format::{Event, Link, Table, DELAYED, DIRECT};
 use crate::laws::sound_by_sentence;
 use crate::pointers::Pointers;
 use crate::subject::{OneAnswer, Subject};
@@ -22,6 +22,16 @@ pub struct Visited {
     pub depth: usize,
     /// No new state was left: every longer sequence is covered as well.
     pub closed: bool,
+}
+
+impl Visited {
+    /// What was visited of one more table.
+    pub fn add(&mut self, other: Visited) {
+        self.states += other.states;
+        self.transitions += other.transitions;
+        self.depth = self.depth.max(other.depth);
+        self.closed &= other.closed;
+    }
 }
 
 #[derive(Clone)]
@@ -100,28 +110,32 @@ impl Pair {
 
     /// The state of both engines with the values renamed.
     fn key(&self, table: &Table) -> Box<[u8]> {
-        let state = &self.pointers.state;
-        let tasks = table.defaults.len();
         let mut names = Names::default();
         let mut key = Vec::with_capacity(64);
-        for task in 0..tasks {
-            key.extend_from_slice(&[state.phase[task], state.newest[task], state.previous[task]]);
-            for position in 1..=state.positions(task) as u8 {
-                key.push(names.name(state.cells[state.cell(task, position)]));
-            }
-            let [last, before] = self.zero.last_outputs(task);
-            key.extend_from_slice(&[names.name(last), names.name(before)]);
-        }
-        for (number, link) in table.links.iter().enumerate() {
-            key.push(state.pointer[number]);
-            let idle = self.zero.phase(usize::from(link.reader)) == IDLE;
-            key.push(match self.zero.number_for(number) {
-                _ if idle => 255,
-                None => 254,
-                Some(value) => names.name(value),
-            });
-        }
+        (0..table.defaults.len()).for_each(|task| self.note_task(task, &mut names, &mut key));
+        (0..table.links.len()).for_each(|link| self.note_link(link, &mut names, &mut key));
         key.into_boxed_slice()
+    }
+
+    fn note_task(&self, task: usize, names: &mut Names, key: &mut Vec<u8>) {
+        let state = &self.pointers.state;
+        key.extend_from_slice(&[state.phase[task], state.newest[task], state.previous[task]]);
+        for position in 1..=state.positions(task) as u8 {
+            key.push(names.name(state.cells[state.cell(task, position)]));
+        }
+        let [last, before] = self.zero.last_outputs(task);
+        key.extend_from_slice(&[names.name(last), names.name(before)]);
+    }
+
+    fn note_link(&self, number: usize, names: &mut Names, key: &mut Vec<u8>) {
+        let state = &self.pointers.state;
+        key.push(state.pointer[number]);
+        let idle = self.zero.phase(usize::from(state.reader[number])) == IDLE;
+        key.push(match self.zero.number_for(number) {
+            _ if idle => 255,
+            None => 254,
+            Some(value) => names.name(value),
+        });
     }
 }
 
@@ -142,84 +156,96 @@ impl Names {
     }
 }
 
-/// Breadth first, level by level; an error is the history that shows it.
-pub fn explore(subject: &dyn Subject, table: &Table, depth: usize) -> Result<Visited, String> {
-    let events = alphabet(table);
-    let tasks = table.defaults.len();
-    let mut nodes = vec![Node { before: u32::MAX, event: 0 }];
-    let mut seen = HashSet::new();
-    seen.insert(Pair::fresh(table).key(table));
-    let mut visited = Visited { states: 1, ..Visited::default() };
-    let mut level = 0..1;
-    while visited.depth < depth && !level.is_empty() {
-        for number in level.clone() {
-            let pair = rebuild(table, &events, &nodes, number);
-            for (code, &event) in events.iter().enumerate() {
-                visited.transitions += 1;
-                let next = pair
-                    .give(subject, pair.filled(event, tasks))
-                    .map_err(|fault| format!("{} after {:?}", fault, path(&events, &nodes, number)))?;
-                if let Some(next) = next {
-                    if seen.insert(next.key(table)) {
-                        nodes.push(Node { before: number as u32, event: code as u8 });
-                    }
-                }
+/// The states of a table as they are found, each by the first way to it.
+struct Search<'a> {
+    subject: &'a dyn Subject,
+    table: &'a Table,
+    events: Vec<Event>,
+    nodes: Vec<Node>,
+    seen: HashSet<Box<[u8]>>,
+    transitions: usize,
+}
+
+impl<'a> Search<'a> {
+    fn new(subject: &'a dyn Subject, table: &'a Table) -> Search<'a> {
+        let nodes = vec![Node { before: u32::MAX, event: 0 }];
+        let seen = HashSet::from([Pair::fresh(table).key(table)]);
+        Search { subject, table, events: alphabet(table), nodes, seen, transitions: 0 }
+    }
+
+    /// Gives every event to the state of a node; a state not seen before
+    /// becomes a node.
+    fn step(&mut self, number: usize) -> Result<(), String> {
+        let pair = self.rebuild(number);
+        for (code, &event) in self.events.iter().enumerate() {
+            self.transitions += 1;
+            let next = pair
+                .give(self.subject, pair.filled(event, self.table.defaults.len()))
+                .map_err(|fault| format!("{} after {:?}", fault, self.path(number)))?;
+            if next.map_or(false, |next| self.seen.insert(next.key(self.table))) {
+                self.nodes.push(Node { before: number as u32, event: code as u8 });
             }
         }
-        level = level.end..nodes.len();
-        visited.depth += 1;
+        Ok(())
     }
-    visited.states = nodes.len();
-    visited.closed = level.is_empty();
-    Ok(visited)
+
+    /// The events that lead to a node.
+    fn path(&self, number: usize) -> Vec<Event> {
+        let mut back = Vec::new();
+        let mut node = &self.nodes[number];
+        while node.before != u32::MAX {
+            back.push(self.events[usize::from(node.event)]);
+            node = &self.nodes[node.before as usize];
+        }
+        back.reverse();
+        back
+    }
+
+    fn rebuild(&self, number: usize) -> Pair {
+        let mut pair = Pair::fresh(self.table);
+        for event in self.path(number) {
+            let event = pair.filled(event, self.table.defaults.len());
+            pair.pointers.apply(event);
+            pair.zero.apply(event);
+        }
+        pair
+    }
 }
 
-fn path(events: &[Event], nodes: &[Node], number: usize) -> Vec<Event> {
-    let mut back = Vec::new();
-    let mut node = &nodes[number];
-    while node.before != u32::MAX {
-        back.push(events[usize::from(node.event)]);
-        node = &nodes[node.before as usize];
+/// Breadth first, level by level; an error is the history that shows it.
+pub fn explore(subject: &dyn Subject, table: &Table, most: usize) -> Result<Visited, String> {
+    let mut search = Search::new(subject, table);
+    let mut level = 0..1;
+    let mut depth = 0;
+    while depth < most && !level.is_empty() {
+        level.clone().try_for_each(|number| search.step(number))?;
+        level = level.end..search.nodes.len();
+        depth += 1;
     }
-    back.reverse();
-    back
-}
-
-fn rebuild(table: &Table, events: &[Event], nodes: &[Node], number: usize) -> Pair {
-    let mut pair = Pair::fresh(table);
-    for event in path(events, nodes, number) {
-        let event = pair.filled(event, table.defaults.len());
-        pair.pointers.apply(event);
-        pair.zero.apply(event);
-    }
-    pair
+    let Search { nodes, transitions, .. } = search;
+    Ok(Visited { states: nodes.len(), transitions, depth, closed: level.is_empty() })
 }
 
 /// Every table of three tasks with the given number of links, apart from the
-/// order of the links: each pair behind is without, direct or delayed, each
-/// pair ahead is without or delayed.
+/// order of the links.
 pub fn three_task_tables(links: usize) -> Vec<Table> {
-    let behind = [(0, 1), (0, 2), (1, 2)];
-    let ahead = [(1, 0), (2, 0), (2, 1)];
-    let mut tables = Vec::new();
-    for code in 0..27 * 8 {
-        let mut chosen = Vec::new();
-        for (digit, &(writer, reader)) in behind.iter().enumerate() {
-            let choice = code / 8 / [1, 3, 9][digit] % 3;
-            if choice > 0 {
-                chosen.push(Link { writer, reader, kind: choice as u8 - 1 });
-            }
-        }
-        for (bit, &(writer, reader)) in ahead.iter().enumerate() {
-            if code >> bit & 1 == 1 {
-                chosen.push(Link { writer, reader, kind: 1 });
-            }
-        }
-        if chosen.len() == links {
-            tables.push(Table { defaults: defaults(3), links: chosen });
-        }
-    }
-    tables
+    let choices = (0..27 * 8).map(chosen_links).filter(|chosen| chosen.len() == links);
+    choices.map(|links| Table { defaults: defaults(3), links }).collect()
+}
+
+/// The links that a code below 27 * 8 chooses: each pair behind is without,
+/// direct or delayed, each pair ahead is without or delayed.
+fn chosen_links(code: usize) -> Vec<Link> {
+    let behind = [(1, 0, 1), (3, 0, 2), (9, 1, 2)].map(|(digit, writer, reader)| match code / 8 / digit % 3 {
+        0 => None,
+        1 => Some(Link { writer, reader, kind: DIRECT }),
+        _ => Some(Link { writer, reader, kind: DELAYED }),
+    });
+    let ahead = [(0, 1, 0), (1, 2, 0), (2, 2, 1)].map(|(bit, writer, reader)| match code >> bit & 1 {
+        0 => None,
+        _ => Some(Link { writer, reader, kind: DELAYED }),
+    });
+    behind.into_iter().chain(ahead).flatten().collect()
 }
 
 /// Defaults that no finish writes and that differ from task to task.

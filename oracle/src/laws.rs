@@ -309,9 +309,7 @@ fn with_allowed_changes(before: &State, event: Event, after: &State) -> State {
                 allowed.newest[task] = after.newest[task];
                 allowed.previous[task] = after.previous[task];
             }
-            for l in links_into(before, set) {
-                allowed.pointer[l] = after.pointer[l];
-            }
+            allow_pointers(&mut allowed, set, after);
         }
         Event::Start(task) => allowed.phase[usize::from(task)] = after.phase[usize::from(task)],
         Event::Read(_) => {}
@@ -320,12 +318,17 @@ fn with_allowed_changes(before: &State, event: Event, after: &State) -> State {
             let cell = task * 10 + usize::from(before.newest[task]) - 1;
             allowed.phase[task] = after.phase[task];
             allowed.cells[cell] = after.cells[cell];
-            for l in links_into(before, 1 << task) {
-                allowed.pointer[l] = after.pointer[l];
-            }
+            allow_pointers(&mut allowed, 1 << task, after);
         }
     }
     allowed
+}
+
+/// The pointers of links whose reader is in the set.
+fn allow_pointers(allowed: &mut State, set: u16, after: &State) {
+    for l in links_into(allowed, set) {
+        allowed.pointer[l] = after.pointer[l];
+    }
 }
 
 fn links_into(state: &State, set: u16) -> Vec<usize> {

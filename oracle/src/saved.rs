@@ -89,16 +89,20 @@ enum Field {
     Pointer(usize),
 }
 
-fn all_fields() -> Vec<Field> {
-    let mut fields = vec![Field::Tasks, Field::Links];
-    for t in 0..16 {
-        fields.extend([Field::Default(t), Field::Phase(t), Field::Newest(t), Field::Previous(t)]);
-        fields.extend([Field::Cell(t * MOST_POSITIONS), Field::Cell(t * MOST_POSITIONS + 9)]);
-    }
-    for l in 0..32 {
-        fields.extend([Field::Writer(l), Field::Reader(l), Field::Kind(l), Field::Pointer(l)]);
-    }
-    fields
+fn all_fields() -> impl Iterator<Item = Field> {
+    let counts = [Field::Tasks, Field::Links];
+    counts.into_iter().chain((0..16).flat_map(fields_of_task)).chain((0..32).flat_map(fields_of_link))
+}
+
+/// Of the positions the first and the last one.
+fn fields_of_task(t: usize) -> [Field; 6] {
+    let first = t * MOST_POSITIONS;
+    let last = first + MOST_POSITIONS - 1;
+    [Field::Default(t), Field::Phase(t), Field::Newest(t), Field::Previous(t), Field::Cell(first), Field::Cell(last)]
+}
+
+fn fields_of_link(l: usize) -> [Field; 4] {
+    [Field::Writer(l), Field::Reader(l), Field::Kind(l), Field::Pointer(l)]
 }
 
 /// The values either side of each line a field has, for a state.
@@ -137,23 +141,35 @@ fn set_field(state: &mut State, field: Field, value: u32) {
 
 /// Each field of a sound state set to each of its boundary values and to one
 /// random value.
-pub fn every_field_spoiled(prng: &mut Prng, sound: &State) -> Vec<State> {
+fn every_field_spoiled(prng: &mut Prng, sound: &State) -> Vec<State> {
     let mut states = Vec::new();
     for field in all_fields() {
         let mut values = boundary_values(sound, field);
         values.push(prng.word());
-        for value in values {
-            let mut state = *sound;
-            set_field(&mut state, field, value);
-            states.push(state);
-        }
+        states.extend(values.into_iter().map(|value| with_field(sound, field, value)));
     }
+    states
+}
+
+fn with_field(state: &State, field: Field, value: u32) -> State {
+    let mut changed = *state;
+    set_field(&mut changed, field, value);
+    changed
+}
+
+/// Spoiled in many ways: now and then every field in turn, always some fields
+/// at once, and states that owe nothing to the sound one.
+pub fn spoiled(prng: &mut Prng, sound: &State) -> Vec<State> {
+    let mut states = if prng.chance(2) { every_field_spoiled(prng, sound) } else { Vec::new() };
+    states.extend((0..20).map(|_| randomly_spoiled(prng, sound)));
+    states.push(any_bytes(prng));
+    states.push(crowded(prng));
     states
 }
 
 /// A few fields at once: small steps that often stay sound, so that accepted
 /// events on states no history leads to come up as well.
-pub fn randomly_spoiled(prng: &mut Prng, sound: &State) -> State {
+fn randomly_spoiled(prng: &mut Prng, sound: &State) -> State {
     let mut state = *sound;
     for _ in 0..prng.between(1, 4) {
         let task = prng.below(usize::from(sound.tasks));
@@ -183,7 +199,7 @@ pub fn randomly_spoiled(prng: &mut Prng, sound: &State) -> State {
 
 /// Task 0 has eight links to readers behind; a link of task 1 is turned into
 /// its ninth, or the count of links is taken past such a slot.
-pub fn crowded(prng: &mut Prng) -> State {
+fn crowded(prng: &mut Prng) -> State {
     let tasks = prng.between(10, 16) as u8;
     let mut links: Vec<Link> = (1..=8).map(|reader| Link { writer: 0, reader, kind: prng.below(2) as u8 }).collect();
     let at = prng.below(9);
@@ -202,7 +218,7 @@ fn prng_position(state: &State, task: usize) -> usize {
 }
 
 /// Any bytes at all in the first few fields, for the crudest states.
-pub fn any_bytes(prng: &mut Prng) -> State {
+fn any_bytes(prng: &mut Prng) -> State {
     let mut state = State::single();
     state.tasks = prng.pick(&[0, 1, 2, 3, 16, 17, 255]);
     state.links = prng.pick(&[0, 1, 2, 3, 32, 33, 255]);

@@ -48,12 +48,16 @@ impl State {
             // Positions past N + 2 hold the default as well.
             state.cells[first..first + MOST_POSITIONS].fill(default);
         }
-        for (number, link) in table.links.iter().enumerate().take(MOST_LINKS) {
-            state.writer[number] = link.writer;
-            state.reader[number] = link.reader;
-            state.kind[number] = link.kind;
-        }
+        state.set_links(&table.links);
         state
+    }
+
+    fn set_links(&mut self, links: &[Link]) {
+        for (number, link) in links.iter().enumerate().take(MOST_LINKS) {
+            self.writer[number] = link.writer;
+            self.reader[number] = link.reader;
+            self.kind[number] = link.kind;
+        }
     }
 
     /// What an early refusal answers with: one task, default 0, no links.
@@ -152,38 +156,38 @@ fn table_clause(state: &State) -> Option<Clause> {
 }
 
 fn broken_beyond_table(state: &State) -> Vec<Clause> {
+    let by_tasks = (0..usize::from(state.tasks)).flat_map(|task| broken_by_task(state, task));
+    let by_links = (0..usize::from(state.links)).flat_map(|number| broken_by_link(state, number));
     let mut broken = Vec::new();
-    let mut note = |clause: Clause| {
+    for clause in by_tasks.chain(by_links) {
         if !broken.contains(&clause) {
             broken.push(clause);
         }
-    };
-    for task in 0..usize::from(state.tasks) {
-        let positions = state.positions(task);
-        let inside = |position: u8| position >= 1 && usize::from(position) <= positions;
-        if state.phase[task] > RUNNING {
-            note(Clause::Phase);
-        }
-        if !inside(state.newest[task]) {
-            note(Clause::Newest);
-        }
-        if !inside(state.previous[task]) {
-            note(Clause::Previous);
-        }
-    }
-    for number in 0..usize::from(state.links) {
-        let link = state.link(number);
-        let pointer = state.pointer[number];
-        let active = state.active(usize::from(link.reader));
-        if usize::from(pointer) > state.positions(usize::from(link.writer)) {
-            note(Clause::Pointer);
-        }
-        if active && pointer == ABSENT {
-            note(Clause::ActiveReaderWithout);
-        }
-        if !active && link.reader_behind() && pointer != ABSENT {
-            note(Clause::IdleReaderWith);
-        }
     }
     broken
+}
+
+fn broken_by_task(state: &State, task: usize) -> impl Iterator<Item = Clause> {
+    let positions = state.positions(task);
+    let inside = |position: u8| position >= 1 && usize::from(position) <= positions;
+    those_broken([
+        (Clause::Phase, state.phase[task] > RUNNING),
+        (Clause::Newest, !inside(state.newest[task])),
+        (Clause::Previous, !inside(state.previous[task])),
+    ])
+}
+
+fn broken_by_link(state: &State, number: usize) -> impl Iterator<Item = Clause> {
+    let link = state.link(number);
+    let pointer = state.pointer[number];
+    let active = state.active(usize::from(link.reader));
+    those_broken([
+        (Clause::Pointer, usize::from(pointer) > state.positions(usize::from(link.writer))),
+        (Clause::ActiveReaderWithout, active && pointer == ABSENT),
+        (Clause::IdleReaderWith, !active && link.reader_behind() && pointer != ABSENT),
+    ])
+}
+
+fn those_broken(clauses: [(Clause, bool); 3]) -> impl Iterator<Item = Clause> {
+    clauses.into_iter().filter(|(_, broken)| *broken).map(|(clause, _)| clause)
 }

@@ -30,9 +30,8 @@ impl LentTable {
             reader: [0xA5; MOST_LINKS],
             kind: [0xA5; MOST_LINKS],
         };
-        for (slot, &default) in lent.defaults.iter_mut().zip(&table.defaults) {
-            *slot = default;
-        }
+        let slots = lent.tasks.min(MOST_TASKS);
+        lent.defaults[..slots].copy_from_slice(&table.defaults[..slots]);
         for (number, &link) in table.links.iter().enumerate().take(MOST_LINKS) {
             lent.set_link(number, link);
         }

@@ -31,15 +31,14 @@ pub fn every_cut(recording: Rc<Recording>) -> Vec<Case> {
 pub fn every_byte(recording: &Recording) -> Vec<Case> {
     let bytes = encode(recording);
     let room = reads(recording) + 1;
-    let mut cases = Vec::with_capacity(bytes.len() * 256);
-    for place in 0..bytes.len() {
-        for value in 0..=255 {
-            let mut changed = bytes.clone();
-            changed[place] = value;
-            cases.push(Case { bytes: changed, room, origin: Origin::Other });
-        }
-    }
-    cases
+    let changes = (0..bytes.len()).flat_map(|place| (0..=255).map(move |value| (place, value)));
+    changes.map(|(place, value)| Case::other(with_byte(&bytes, place, value), room)).collect()
+}
+
+fn with_byte(bytes: &[u8], place: usize, value: u8) -> Vec<u8> {
+    let mut changed = bytes.to_vec();
+    changed[place] = value;
+    changed
 }
 
 /// Large tables, and each 16th recording with up to 10,000 events.

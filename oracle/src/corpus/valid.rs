@@ -33,14 +33,8 @@ pub fn valid_long(prng: &mut Prng, number: usize) -> Case {
 /// Sixteen tasks, 32 links, 10,000 events. With everything arriving at once
 /// and no reads, the share of finishes, the longest records, is greatest.
 fn largest(prng: &mut Prng, most_bytes: bool) -> Case {
-    let mut links = Vec::new();
-    for writer in 0..4 {
-        for reader in 0..MOST_BEHIND as u8 {
-            links.push(Link { writer, reader: 8 + reader, kind: (writer + reader) % 2 });
-        }
-    }
     let defaults = (0..MOST_TASKS).map(|_| prng.word()).collect();
-    let table = Table { defaults, links };
+    let table = Table { defaults, links: crowded_links() };
     let events = if most_bytes {
         let mut round = vec![Event::Arrival(u16::MAX)];
         round.extend(
@@ -51,4 +45,10 @@ fn largest(prng: &mut Prng, most_bytes: bool) -> Case {
         random_events(prng, &table, MOST_EVENTS).0
     };
     valid_case(prng, Recording { table, events })
+}
+
+/// Four writers with eight readers behind each, direct and delayed in turn.
+fn crowded_links() -> Vec<Link> {
+    let pairs = (0..4).flat_map(|writer| (0..MOST_BEHIND as u8).map(move |reader| (writer, reader)));
+    pairs.map(|(writer, reader)| Link { writer, reader: 8 + reader, kind: (writer + reader) % 2 }).collect()
 }

@@ -77,16 +77,13 @@ impl Run<'_> {
     }
 
     pub fn corpus(&mut self, corpus: Corpus, quota: usize, prng: &mut Prng) -> usize {
-        let mut taken = 0;
+        let before = self.recordings;
         let mut number = 0;
-        while taken < quota {
-            for case in batch(corpus, number, prng) {
-                self.take_case(&case);
-                taken += 1;
-            }
+        while self.recordings - before < quota {
+            batch(corpus, number, prng).iter().for_each(|case| self.take_case(case));
             number += 1;
         }
-        taken
+        self.recordings - before
     }
 }
 

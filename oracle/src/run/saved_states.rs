@@ -5,7 +5,7 @@ use crate::engine::Engine;
 use crate::format::Event;
 use crate::laws;
 use crate::prng::Prng;
-use crate::saved::{any_bytes, crowded, event_for, every_field_spoiled, from_history, randomly_spoiled, Saved};
+use crate::saved::{event_for, from_history, spoiled, Saved};
 use crate::state::State;
 use crate::subject::{OneAnswer, Oracle, Subject};
 
@@ -38,7 +38,7 @@ impl Run<'_> {
     }
 
     /// A state from a history: the zero-time run of that history must agree.
-    fn take_sound(&mut self, saved: &mut Saved, event: Event) {
+    fn take_sound(&mut self, saved: &Saved, event: Event) {
         let answer = self.take_saved(&saved.state, event);
         let refusal = saved.zero.judge(event);
         let value = if refusal == 0 { saved.zero.clone().apply(event) } else { 0 };
@@ -51,11 +51,8 @@ impl Run<'_> {
     pub fn sound_states(&mut self, quota: usize, prng: &mut Prng) -> usize {
         let before = self.saved_states;
         while self.saved_states - before < quota {
-            let mut saved = from_history(prng);
-            for _ in 0..8 {
-                let event = event_for(prng, &saved.state, &saved);
-                self.take_sound(&mut saved, event);
-            }
+            let saved = from_history(prng);
+            (0..8).for_each(|_| self.take_sound(&saved, event_for(prng, &saved.state, &saved)));
         }
         self.saved_states - before
     }
@@ -63,17 +60,16 @@ impl Run<'_> {
     pub fn spoiled_states(&mut self, quota: usize, prng: &mut Prng) -> usize {
         let before = self.saved_states;
         while self.saved_states - before < quota {
-            let saved = from_history(prng);
-            let mut states = if prng.chance(2) { every_field_spoiled(prng, &saved.state) } else { Vec::new() };
-            states.extend((0..20).map(|_| randomly_spoiled(prng, &saved.state)));
-            states.push(any_bytes(prng));
-            states.push(crowded(prng));
-            for state in states {
-                let event = event_for(prng, &state, &saved);
-                self.take_saved(&state, event);
-            }
+            self.take_spoiled(&from_history(prng), prng);
         }
         self.saved_states - before
+    }
+
+    fn take_spoiled(&mut self, saved: &Saved, prng: &mut Prng) {
+        for state in spoiled(prng, &saved.state) {
+            let event = event_for(prng, &state, saved);
+            self.take_saved(&state, event);
+        }
     }
 }
 

@@ -13,12 +13,7 @@ impl Run<'_> {
         let mut total = Visited { closed: true, ..Visited::default() };
         for table in &tables {
             match explore(self.subject, table, depth) {
-                Ok(visited) => {
-                    total.states += visited.states;
-                    total.transitions += visited.transitions;
-                    total.depth = total.depth.max(visited.depth);
-                    total.closed &= visited.closed;
-                }
+                Ok(visited) => total.add(visited),
                 Err(fault) => self.differ("every sequence", || format!("{:?}\n{}", table, fault)),
             }
         }

@@ -31,9 +31,7 @@ impl Run<'_> {
         let before = self.tables;
         let mut number = 0;
         while self.tables - before < quota {
-            for table in tables::batch(number, prng) {
-                self.take_table(&table);
-            }
+            tables::batch(number, prng).iter().for_each(|table| self.take_table(table));
             number += 1;
         }
         self.tables - before
