@@ -33,15 +33,18 @@ fn agreed(what: &str, bytes: &[u8], room: usize) -> usize {
     ours.refusal as usize
 }
 
-/// Compares the answers to the timed recordings, which must be accepted, and to random ones, among which each refusal must occur. How
-/// many random ones earned each refusal.
-pub fn check(rows: &[Row]) -> [usize; REFUSALS] {
+/// The timed recordings must be accepted.
+fn check_timed(rows: &[Row]) {
     for row in rows {
         let refusal = agreed(&row.name, &row.bytes, EVENTS);
         if refusal != 0 {
             fail(format!("{}: refused with {}", row.name, refusal));
         }
     }
+}
+
+/// Among the random recordings each refusal must occur. How many of them earned each.
+fn check_random() -> [usize; REFUSALS] {
     let mut random = Random(1);
     let mut seen = [0; REFUSALS];
     for i in 0..RECORDINGS {
@@ -52,6 +55,13 @@ pub fn check(rows: &[Row]) -> [usize; REFUSALS] {
     if let Some(n) = seen.iter().position(|&times| times == 0) {
         fail(format!("no random recording was refused with {}", n));
     }
+    seen
+}
+
+/// Compares the answers to the timed recordings and to random ones. How many random ones earned each refusal.
+pub fn check(rows: &[Row]) -> [usize; REFUSALS] {
+    check_timed(rows);
+    let seen = check_random();
     println!(
         "bench: same answers (refusal, place, state, counts, list): {} timed recordings, {} random ones",
         rows.len(),

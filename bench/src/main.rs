@@ -32,25 +32,24 @@ fn median(mut times: Vec<f64>) -> f64 {
     times[times.len() / 2]
 }
 
+/// One repeat: nanoseconds an event. A short recording is replayed many times over in it.
+fn once(replay: Replay, row: &Row, numbers: &mut [u32]) -> f64 {
+    let times = EVENTS / row.events;
+    let begin = Instant::now();
+    for _ in 0..times {
+        let answer = replay(&row.bytes, numbers);
+        assert_eq!(answer.place, row.bytes.len());
+    }
+    begin.elapsed().as_nanos() as f64 / (times * row.events) as f64
+}
+
 /// Nanoseconds an event, each the median of the repeats, which take turns.
 fn timed(row: &Row, repeats: usize, numbers: &mut [u32]) -> [f64; 3] {
-    // a short recording is replayed many times over in one repeat
-    let times = EVENTS / row.events;
     let mut taken = REPLAYS.map(|_| Vec::new());
-    for repeat in 0..WARM_UP + repeats {
-        for (replay, taken) in REPLAYS.iter().zip(&mut taken) {
-            let begin = Instant::now();
-            for _ in 0..times {
-                let answer = replay(&row.bytes, numbers);
-                assert_eq!(answer.place, row.bytes.len());
-            }
-            let nanoseconds = begin.elapsed().as_nanos() as f64;
-            if repeat >= WARM_UP {
-                taken.push(nanoseconds / (times * row.events) as f64);
-            }
-        }
+    for _ in 0..WARM_UP + repeats {
+        REPLAYS.iter().zip(&mut taken).for_each(|(&replay, taken)| taken.push(once(replay, row, numbers)));
     }
-    taken.map(median)
+    taken.map(|times| median(times[WARM_UP..].to_vec()))
 }
 
 /// Times the rows and prints them as a table: the worst ratio of proved to ordinary over the rows of 10,000 events.

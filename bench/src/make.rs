@@ -1,4 +1,5 @@
 //! A recording as it is written.
+use std::ops::Range;
 
 /// Writer, reader, kind.
 pub type Link = (usize, usize, u8);
@@ -16,13 +17,9 @@ pub struct Maker {
 impl Maker {
     pub fn new(tasks: usize, links: &[Link], most: usize) -> Maker {
         let mut table = vec![tasks as u8];
-        for t in 0..tasks {
-            table.extend_from_slice(&(1000 + t as u32).to_le_bytes());
-        }
+        table.extend((0..tasks).flat_map(|t| (1000 + t as u32).to_le_bytes()));
         table.push(links.len() as u8);
-        for &(writer, reader, kind) in links {
-            table.extend_from_slice(&[writer as u8, reader as u8, kind]);
-        }
+        table.extend(links.iter().flat_map(|&(writer, reader, kind)| [writer as u8, reader as u8, kind]));
         Maker { table, events: Vec::new(), count: 0, most, links: links.to_vec(), value: 0 }
     }
 
@@ -61,12 +58,9 @@ impl Maker {
 
     /// A task reads by all its links, so many times over.
     pub fn reads(&mut self, task: usize, times: usize) {
-        for _ in 0..times {
-            for l in 0..self.links.len() {
-                if self.links[l].1 == task {
-                    self.read(l);
-                }
-            }
+        let own: Vec<usize> = (0..self.links.len()).filter(|&l| self.links[l].1 == task).collect();
+        for l in own.repeat(times) {
+            self.read(l);
         }
     }
 
@@ -75,6 +69,21 @@ impl Maker {
         self.start(task);
         self.reads(task, times);
         self.finish(task);
+    }
+
+    /// Tasks that have arrived run in order.
+    pub fn run_each(&mut self, tasks: Range<usize>, times: usize) {
+        for t in tasks {
+            self.run(t, times);
+        }
+    }
+
+    /// Tasks that have started go on in order: each reads by all its links and finishes.
+    pub fn end_each(&mut self, tasks: Range<usize>) {
+        for t in tasks {
+            self.reads(t, 1);
+            self.finish(t);
+        }
     }
 
     pub fn bytes(mut self) -> Vec<u8> {

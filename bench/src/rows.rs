@@ -23,37 +23,35 @@ fn spread(links: usize) -> Vec<Link> {
 
 /// Four writers with eight readers behind each: the last eight tasks.
 fn crowded() -> Vec<Link> {
-    let mut links = Vec::new();
-    for w in 0..4 {
-        for r in 8..TASKS {
-            links.push((w, r, if r % 2 == 0 { DIRECT } else { DELAYED }));
-        }
+    let pairs = (0..4).flat_map(|w| (8..TASKS).map(move |r| (w, r)));
+    pairs.map(|(w, r)| (w, r, if r % 2 == 0 { DIRECT } else { DELAYED })).collect()
+}
+
+/// So many events: a round of them over and over, the last one cut where it is full.
+fn rounds(tasks: usize, links: &[Link], events: usize, round: impl Fn(&mut Maker)) -> Maker {
+    let mut m = Maker::new(tasks, links, events);
+    while !m.full() {
+        round(&mut m);
     }
-    links
+    m
 }
 
 /// All tasks of a table arrive at once and run in order, each reading by all its links so many times over.
 fn at_once(tasks: usize, links: &[Link], times: usize, events: usize) -> Maker {
-    let mut m = Maker::new(tasks, links, events);
-    while !m.full() {
+    rounds(tasks, links, events, |m| {
         m.arrival((1 << tasks) - 1);
-        for t in 0..tasks {
-            m.run(t, times);
-        }
-    }
-    m
+        m.run_each(0..tasks, times);
+    })
 }
 
 /// One task at a time: it arrives, runs and finishes before the next one arrives.
 fn one_at_a_time(links: &[Link], times: usize) -> Maker {
-    let mut m = Maker::new(TASKS, links, EVENTS);
-    while !m.full() {
+    rounds(TASKS, links, EVENTS, |m| {
         for t in 0..TASKS {
             m.arrival(1 << t);
             m.run(t, times);
         }
-    }
-    m
+    })
 }
 
 /// The most reads there can be: an arrival, a start and 9,998 reads by the least urgent task.
@@ -66,39 +64,27 @@ fn reads_of_last(links: &[Link]) -> Maker {
 
 /// Each task is interrupted by the next more urgent one as soon as it runs; then all finish, the most urgent first.
 fn interrupted(links: &[Link]) -> Maker {
-    let mut m = Maker::new(TASKS, links, EVENTS);
-    while !m.full() {
+    rounds(TASKS, links, EVENTS, |m| {
         for t in (0..TASKS).rev() {
             m.arrival(1 << t);
             m.start(t);
             m.reads(t, 1);
         }
-        for t in 0..TASKS {
-            m.reads(t, 1);
-            m.finish(t);
-        }
-    }
-    m
+        m.end_each(0..TASKS);
+    })
 }
 
 /// The eight readers of four writers are interrupted one by one while the writers write, so that each reader holds another position.
 fn positions_full() -> Maker {
-    let mut m = Maker::new(TASKS, &crowded(), EVENTS);
-    while !m.full() {
+    rounds(TASKS, &crowded(), EVENTS, |m| {
         for r in (8..TASKS).rev() {
             m.arrival(1 << r);
             m.start(r);
             m.arrival(0b1111);
-            for w in 0..4 {
-                m.run(w, 0);
-            }
+            m.run_each(0..4, 0);
         }
-        for r in 8..TASKS {
-            m.reads(r, 1);
-            m.finish(r);
-        }
-    }
-    m
+        m.end_each(8..TASKS);
+    })
 }
 
 pub fn rows() -> Vec<Row> {
@@ -125,18 +111,17 @@ fn different() -> Vec<Row> {
 
 /// The same recording with more and more events, tasks, or links.
 fn growing() -> Vec<Row> {
-    let mut rows = Vec::new();
-    for events in [100, 1_000, EVENTS] {
+    let by_events = [100, 1_000, EVENTS].map(|events| {
         let name = format!("growth by events: {}, 16 tasks, 32 links", events);
-        rows.push(row(name, at_once(TASKS, &spread(LINKS), 1, events)));
-    }
-    for tasks in [1, 4, 16] {
+        row(name, at_once(TASKS, &spread(LINKS), 1, events))
+    });
+    let by_tasks = [1, 4, 16].map(|tasks| {
         let name = format!("growth by tasks: {}, no links", tasks);
-        rows.push(row(name, at_once(tasks, &[], 0, EVENTS)));
-    }
-    for links in [0, 8, 32] {
+        row(name, at_once(tasks, &[], 0, EVENTS))
+    });
+    let by_links = [0, 8, 32].map(|links| {
         let name = format!("growth by links: {}, 16 tasks, no reads", links);
-        rows.push(row(name, at_once(TASKS, &spread(links), 0, EVENTS)));
-    }
-    rows
+        row(name, at_once(TASKS, &spread(links), 0, EVENTS))
+    });
+    [by_events, by_tasks, by_links].into_iter().flatten().collect()
 }
