@@ -11,6 +11,7 @@ mod ordinary;
 mod proved;
 mod random;
 mod rows;
+mod table;
 
 use answer::Replay;
 use parnusild::EVENTS;
