@@ -42,10 +42,12 @@ module _ (ahead : ℕ → ℕ → Bool) (T L : ℕ) (W W′ R R′ K K′ : ℕ 
   judged-same size = rw (leading-same (fault ahead T W R K) (fault ahead T W′ R′ K′) L fault-same)
 
 -- ---- lists of a fresh state
-copied-at : (size n : ℕ) (xs : List ℕ) → n ≤ size → (i : ℕ) → i < n → at (copied size n xs) i ≡ at xs i
+-- a copied list has what it was copied from
+pub copied-at : (size n : ℕ) (xs : List ℕ) → n ≤ size → (i : ℕ) → i < n → at (copied size n xs) i ≡ at xs i
 copied-at size n xs l i h = upto-at (λ i x. at xs i) n (replicate size 0) i 0 h (omega (arith, length-replicate {A = ℕ} size 0))
 
-copied-length : (size n : ℕ) (xs : List ℕ) → length (copied size n xs) ≡ size
+-- and its own length
+pub copied-length : (size n : ℕ) (xs : List ℕ) → length (copied size n xs) ≡ size
 copied-length size n xs = length-upto (λ i x. at xs i) n (replicate size 0) ∙ length-replicate {A = ℕ} size 0
 
 filled-length : (size : ℕ) (D : List ℕ) → length (filled size D) ≡ size * 10

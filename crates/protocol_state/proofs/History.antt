@@ -34,7 +34,8 @@ module _ {ahead : ℕ → ℕ → Bool} {size : Size} {q₀ : Saved} {o : Outcom
   pub reached-sound : isSound ahead size (o .state) ≡ true
   reached-sound = says-sound ahead size (o .state) (r .sound)
 
-  judged-history : (e : Event ℕ) → judgedOn ahead (o .state) e ≡ judged (table ahead q₀) (urgent (table ahead q₀)) (o .history) e
+  -- the state's refusal is what the table and the history say
+  pub judged-history : (e : Event ℕ) → judgedOn ahead (o .state) e ≡ judged (table ahead q₀) (urgent (table ahead q₀)) (o .history) e
   judged-history e =
       judged-by-history (o .state) (r .sound) (o .history) (r .agrees) e ∙ ap (λ (T : Table ℕ). judged T (urgent T) (o .history) e) (r .same)
 
@@ -64,7 +65,8 @@ module _ {ahead : ℕ → ℕ → Bool} {size : Size} {q₀ : Saved} {o : Outcom
   noted (read l) ok p t = rw (reached-number l ok, r .read)
   noted (finish u v) ok p t = r .read
 
-after-done : (ahead : ℕ → ℕ → Bool) (size : Size) (o : Outcome) (e : Event ℕ) (q : Saved) (v : ℕ) → give ahead size (o .state) e ≡ reply q 0 v
+-- an event that is done: its state, and it joins the history
+pub after-done : (ahead : ℕ → ℕ → Bool) (size : Size) (o : Outcome) (e : Event ℕ) (q : Saved) (v : ℕ) → give ahead size (o .state) e ≡ reply q 0 v
     → after ahead size o e ≡ record { state = q; history = e ∷ o .history; numbers = note e v (o .numbers) }
 unfolding after
 after-done ahead size o e q v i = rw i
