@@ -10,31 +10,24 @@ use borrow.Author.Tests.{eqb-true, eqb-false}
 use lib.Dec.{eqb}
 use lib.ListN.{length, replicate, length-replicate, List·getD-eq-default}
 use Rattle.lists.proofs.Lists.{upto-at, length-upto}
-use Rattle.protocol.specs.Table.{toBehind}
 use Rattle.protocol.specs.History.{arrivals, starts, finishes}
 use Rattle.protocol.specs.Published.{Fresh}
 use Rattle.protocol_state.specs.Saved.{Size, Shape, at, cellOf, isPosition, table, boxes}
-use Rattle.protocol_state.specs.Rules.{joins, faultOf, fault, judgedTable}
+use Rattle.protocol_state.specs.Rules.{fault, judgedTable}
 use Rattle.protocol_state.specs.Sound.{isSound, Sound}
 use Rattle.protocol_state.specs.Fresh.{copied, filled, freshOf, single, Made, made}
 use Rattle.protocol_state.specs.Reached.{Agrees}
-use Rattle.protocol_state.proofs.Places.{replicated, repeated, zeros, between, some-same, count-same, leading-same}
+use Rattle.protocol_state.proofs.Places.{replicated, repeated, zeros, between, leading-same}
 use Rattle.protocol_state.proofs.Rules as rules
 use Rattle.protocol_state.proofs.Sound.{says-sound}
 
 -- ---- tables that agree link by link
-same-fault : (ahead : ℕ → ℕ → Bool) (T : ℕ) {w w′ r r′ k k′ n n′ : ℕ} {b b′ : Bool} → w ≡ w′ → r ≡ r′ → k ≡ k′ → b ≡ b′ → n ≡ n′
-    → faultOf ahead T w r k b n ≡ faultOf ahead T w′ r′ k′ b′ n′
-same-fault ahead T ew er ek eb en = rw (ew, er, ek, eb, en)
-
 module _ (ahead : ℕ → ℕ → Bool) (T L : ℕ) (W W′ R R′ K K′ : ℕ → ℕ)
     (sameW : (l : ℕ) → l < L → W l ≡ W′ l) (sameR : (l : ℕ) → l < L → R l ≡ R′ l) (sameK : (l : ℕ) → l < L → K l ≡ K′ l) where
   fault-same : (l : ℕ) → l < L → fault ahead T W R K l ≡ fault ahead T W′ R′ K′ l
   unfolding fault
   fault-same l h =
-      same-fault ahead T (sameW l h) (sameR l h) (sameK l h)
-      (some-same (joins W R (W l) (R l)) (joins W′ R′ (W′ l) (R′ l)) l (λ j i. rw (sameW j (omega arith), sameR j (omega arith), sameW l h, sameR l h)))
-      (count-same (toBehind ahead W R (W l)) (toBehind ahead W′ R′ (W′ l)) l (λ j i. rw (sameW j (omega arith), sameR j (omega arith), sameW l h)))
+      rw (sameW l h, sameR l h, sameK l h) (rules.fault-agrees ahead T l (W′ l) (R′ l) (K′ l) (λ j i. sameW j (omega arith)) (λ j i. sameR j (omega arith)))
 
   -- so the tables earn one refusal
   judged-same : (size : Size) → judgedTable ahead T W R K size L ≡ judgedTable ahead T W′ R′ K′ size L

@@ -12,14 +12,23 @@ use Rattle.lists.proofs.Bools.{and-left, and-right, and-not, and-if, or-left, o
 use Rattle.lists.proofs.Lists.{some-not, some-of-none, leading-zero}
 use Rattle.protocol.specs.Table.{Lawful, toBehind, behinds}
 use Rattle.protocol_state.specs.Saved.{Size, Saved, at, table}
-use Rattle.protocol_state.specs.Rules.{Ranks, joins, fault, Obeys, judgedTable}
-use Rattle.protocol_state.proofs.Places.{leading-none-other}
+use Rattle.protocol_state.specs.Rules.{Ranks, joins, faultAfter, fault, Obeys, judgedTable}
+use Rattle.protocol_state.proofs.Places.{some-same, count-same, leading-none-other}
 
 -- the earlier task is ahead: fixed priorities are an order of tasks
 pub ltb-ranks : Ranks ltb
 ltb-ranks = record {
   either = λ u t d e. lt-ltb t u (omega (arith, ltb-false u t e));
 }
+
+-- a link's fault depends only on the links before it
+pub fault-agrees : (ahead : ℕ → ℕ → Bool) (T : ℕ) {W W′ R R′ : ℕ → ℕ} (n w r k : ℕ) → ((j : ℕ) → j < n → W j ≡ W′ j) → ((j : ℕ) → j < n → R j ≡ R′ j)
+    → faultAfter ahead T W R n w r k ≡ faultAfter ahead T W′ R′ n w r k
+fault-agrees ahead T {W} {W′} {R} {R′} n w r k x y =
+    rw (
+      some-same (joins W R w r) (joins W′ R′ w r) n (λ j h. rw (x j h, y j h)),
+      count-same (toBehind ahead W R w) (toBehind ahead W′ R′ w) n (λ j h. rw (x j h, y j h)),
+    )
 
 module _ (ahead : ℕ → ℕ → Bool) (T : ℕ) (W R K : ℕ → ℕ) where
   -- a link that earns no refusal obeys the rules 4 to 9
