@@ -13,8 +13,7 @@ use Rattle.protocol_state.specs.Judge.{judgedTask, judgedRead, judgedOn}
 use Rattle.protocol_state.specs.Next.{next, valueOf}
 use Rattle.protocol_state.specs.Sound.{isSound}
 use Rattle.protocol_state.specs.Give.{reply, settled, give}
-use Rattle.protocol_state.proofs.Sound.{sound-says}
-use Rattle.protocol_state.proofs.Keeps as keeps
+use Rattle.protocol_state.proofs.Sound.{sound-room}
 use Rattle.protocol_state.proofs.Give.{unsound, refused}
 
 -- where each sound state answers an event by r, its answer is known
@@ -28,13 +27,13 @@ module _ (q : Saved) (i : ℕ) (far : 255 < i) where
   task-far : (k : ℕ) → isSound ltb base q ≡ true → judgedTask ltb k i (q .tasks) (at (q .phase)) ≡ 12
   unfolding judgedTask
   task-far k s =
-      let c = keeps.counts q (sound-says ltb base q s) in
+      let c = sound-room _ _ _ _ _ _ _ _ _ _ _ s in
       let h : leb (q .tasks) i ≡ true = le-leb (q .tasks) i (omega arith) in rw h
 
   link-far : isSound ltb base q ≡ true → judgedRead ltb i (q .tasks) (q .links) (at (q .reader)) (at (q .phase)) ≡ 12
   unfolding judgedRead
   link-far s =
-      let c = keeps.counts q (sound-says ltb base q s) in
+      let c = sound-room _ _ _ _ _ _ _ _ _ _ _ s in
       let h : leb (q .links) i ≡ true = le-leb (q .links) i (omega arith) in rw h
 
   pub start-far : settled (isSound ltb base q) 12 q q 0 ≡ give ltb base q (start i)

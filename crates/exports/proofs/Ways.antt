@@ -6,18 +6,17 @@ use mathlib.Core.Bool.{Bool, true, false, not}
 use mathlib.Core.List.{List, [], _∷_}
 use Prim.Native.Nat.{ℕ, _≤_}
 use native.Mathlib.Omega.{arith}
-use borrow.Author.Tests.{eqb-true, not-true, not-false}
+use borrow.Author.Tests.{not-true}
 use types.Run.{OneOf}
 use denote.Enum.Declared.{tagOf}
-use Rattle.lists.proofs.Bools.{and-left}
-use lib.Dec.{eqb, ltb}
+use lib.Dec.{ltb}
+use Rattle.lists.proofs.Bools.{passed}
 use Rattle.protocol_state.specs.Saved.{Saved, base, at}
 use Rattle.protocol_state.specs.Rules.{judgedTable}
 use Rattle.protocol_state.specs.Judge.{judgedOn}
 use Rattle.protocol_state.specs.Next.{next, valueOf}
 use Rattle.protocol_state.specs.Sound.{soundParts, isSound}
 use Rattle.protocol_state.specs.Give.{reply, give}
-use Rattle.protocol_state.proofs.Rules as rules
 use Rattle.protocol_state.proofs.Give.{unsound, refused, done}
 use Rattle.mailbox_parts.specs.Plain.{plain}
 use Rattle.mailbox_parts.specs.Becomes.{savedOf, Becomes}
@@ -47,15 +46,6 @@ module _ (q : Saved) (e : Event) {k v : ℕ} (s : isSound ltb base q ≡ true) (
   allowed : {q′ : Saved} → k ≡ 0 → v ≡ valueOf q (plain e) → q′ ≡ next ltb q (plain e) → reply q′ 0 v ≡ give ltb base q (plain e)
   allowed z t b = rw (b, t) (sym (done (judgedOn ltb q (plain e)) q (next ltb q (plain e)) (valueOf q (plain e)) s (sym judged ∙ z)))
 
--- the counts of a sound state are within the room
-pub counts : (T L : ℕ) (W R K ph n p x : ℕ → ℕ) → soundParts ltb base T L W R K ph n p x ≡ true → (T ≤ base .tasks) × (L ≤ base .links)
-unfolding soundParts
-counts T L W R K ph n p x s = let c = rules.counts ltb T W R K base L (eqb-true _ 0 (and-left (eqb (judgedTable ltb T W R K base L) 0) _ s)) in (c .1, c .2)
-
--- the test that the code makes: it passed
-pub passed : (b : Bool) {sound : Bool} → b ≡ sound → not b ≡ false → sound ≡ true
-passed b test n = sym test ∙ not-false b n
-
 -- the same of the parts that are lent, whatever the defaults are
 module _ {T L : ℕ} {W R K ph n p C x : List ℕ} where
   module _ {e : Event} {k v : ℕ} (s : isSound ltb base (savedOf T L [] ph n p C W R K x) ≡ true) (judged : k ≡ judgedOn ltb (savedOf T L [] ph n p C W R K x) (plain e)) where
@@ -75,7 +65,7 @@ module _ {T L : ℕ} {W R K ph n p C x : List ℕ} where
       pub answered-none :
           {b : Bool} {r : ℕ} → b ≡ isSound ltb base (savedOf T L [] ph n p C W R K x) → not b ≡ false → OneOf (1 ∷ 2 ∷ []) (tagOf A.the-type a) → r ≡ numberOf a →
           Answered kind which value T L W R K ph n p C x ph n p C x r 0
-      answered-none {b} test h o i = record { call = λ D. rw i (sym (none (savedOf T L D ph n p C W R K x) a (passed b test h) o) ∙ says (savedOf T L D ph n p C W R K x)) }
+      answered-none test h o i = record { call = λ D. rw i (sym (none (savedOf T L D ph n p C W R K x) a (passed test h) o) ∙ says (savedOf T L D ph n p C W R K x)) }
 
       pub answered-event :
           {e : Event} {ph′ n′ p′ C′ x′ : List ℕ} {r v : ℕ} → a ≡ asked.Known e → Given e T L W R K ph n p C x ph′ n′ p′ C′ x′ r v →

@@ -2,17 +2,16 @@
 -- Assumes nothing.
 use mathlib.Core.Path.{_≡_, sym, ap, _∙_}
 use mathlib.Core.Bool.{Bool, true, false, not}
-use Prim.Native.Nat.{ℕ, _≤_}
-use borrow.Author.Tests.{not-true, not-false}
+use Prim.Native.Nat.{ℕ}
+use borrow.Author.Tests.{not-true}
 use lib.Dec.{ltb}
+use Rattle.lists.proofs.Bools.{passed}
 use Rattle.protocol.specs.Event.{Event}
 use Rattle.protocol_state.specs.Saved.{Saved, Shape, base}
 use Rattle.protocol_state.specs.Judge.{judgedOn}
 use Rattle.protocol_state.specs.Next.{next, valueOf}
 use Rattle.protocol_state.specs.Sound.{isSound}
 use Rattle.protocol_state.specs.Give.{reply}
-use Rattle.protocol_state.proofs.Sound.{sound-says}
-use Rattle.protocol_state.proofs.Keeps as keeps
 use Rattle.protocol_state.proofs.Give.{unsound, refused, done, give-sound}
 use Rattle.mailbox.specs.States.{saved, stepOf, given, refusedStep, StaysSound}
 use Rattle.mailbox.specs.declared.State.{State}
@@ -20,13 +19,6 @@ use Rattle.mailbox.specs.declared.Step.{Step}
 
 -- the test that the code makes: it failed, or it passed
 module _ (q : State) {b : Bool} (test : b ≡ isSound ltb base (saved q)) where
-  passed : not b ≡ false → isSound ltb base (saved q) ≡ true
-  passed n = sym test ∙ not-false b n
-
-  -- the counts of a sound state are within the room
-  pub counts : not b ≡ false → (q .tasks ≤ base .tasks) × (q .links ≤ base .links)
-  counts n = let c = keeps.counts (saved q) (sound-says ltb base (saved q) (passed n)) in (c .1, c .2)
-
   module _ (e : Event ℕ) {r : Step} where
     pub given-unsound : not b ≡ true → r ≡ refusedStep q 19 → r ≡ given q e
     given-unsound n i = i ∙ ap stepOf (sym (unsound (judgedOn ltb (saved q) e) (saved q) (next ltb (saved q) e) (valueOf (saved q) e) (sym test ∙ not-true b n)))
@@ -35,12 +27,12 @@ module _ (q : State) {b : Bool} (test : b ≡ isSound ltb base (saved q)) where
       pub given-refused : not b ≡ false → (k ≡ 0 → ⊥) → r ≡ refusedStep q k → r ≡ given q e
       given-refused n z i =
           i ∙ ap (refusedStep q) judged
-          ∙ ap stepOf (sym (refused (judgedOn ltb (saved q) e) (saved q) (next ltb (saved q) e) (valueOf (saved q) e) (passed n) (λ j. z (judged ∙ j))))
+          ∙ ap stepOf (sym (refused (judgedOn ltb (saved q) e) (saved q) (next ltb (saved q) e) (valueOf (saved q) e) (passed test n) (λ j. z (judged ∙ j))))
 
       pub given-done : {p : Saved} {v : ℕ} → not b ≡ false → k ≡ 0 → p ≡ next ltb (saved q) e → v ≡ valueOf (saved q) e → r ≡ stepOf (reply p 0 v) → r ≡ given q e
       given-done n z s t i =
           i ∙ rw (s, t)
-          (ap stepOf (sym (done (judgedOn ltb (saved q) e) (saved q) (next ltb (saved q) e) (valueOf (saved q) e) (passed n) (sym judged ∙ z))))
+          (ap stepOf (sym (done (judgedOn ltb (saved q) e) (saved q) (next ltb (saved q) e) (valueOf (saved q) e) (passed test n) (sym judged ∙ z))))
 
 -- whatever is handed back as the protocol's reply
 pub stays : (q : State) (e : Event ℕ) {r : Step} → Shape base (saved q) → r ≡ given q e → StaysSound q r

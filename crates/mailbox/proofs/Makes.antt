@@ -3,7 +3,7 @@
 use mathlib.Core.Path.{_≡_, sym, _∙_}
 use mathlib.Core.Bool.{true, false}
 use mathlib.Core.List.{List}
-use Prim.Native.Nat.{ℕ, _≤_}
+use Prim.Native.Nat.{ℕ}
 use native.Mathlib.Omega.{arith}
 use borrow.Author.Tests.{eq-eqb, ne-eqb}
 use lib.Dec.{eqb, ltb}
@@ -11,17 +11,12 @@ use Rattle.protocol_state.specs.Saved.{base, at}
 use Rattle.protocol_state.specs.Rules.{judgedTable}
 use Rattle.protocol_state.specs.Fresh.{freshOf, single, made}
 use Rattle.protocol_state.specs.Sound.{isSound}
-use Rattle.protocol_state.proofs.Rules as rules
 use Rattle.protocol_state.proofs.Freshes.{made-sound}
 use Rattle.mailbox.specs.States.{saved, stateOf, madeOf}
 use Rattle.mailbox.specs.declared.State.{State}
 use Rattle.mailbox.specs.declared.Made.{Made}
 
 module _ (T L : ℕ) (D W R K : List ℕ) {k : ℕ} (judged : k ≡ judgedTable ltb T (at W) (at R) (at K) base L) where
-  -- the counts of a table that earns no refusal are within the room
-  pub table-counts : k ≡ 0 → (T ≤ base .tasks) × (L ≤ base .links)
-  table-counts z = let c = rules.counts ltb T (at W) (at R) (at K) base L (sym judged ∙ z) in (c .1, c .2)
-
   pub made-refused : {q : State} → (k ≡ 0 → ⊥) → q ≡ stateOf (single base) → record { refusal = k; state = q } ≡ madeOf (made ltb base T L D W R K)
   unfolding made
   made-refused n i =

@@ -1,13 +1,11 @@
 -- What a table is judged, and whether a state is sound, way by way.
 -- Assumes nothing.
-use mathlib.Core.Path.{_≡_, refl, sym, _∙_}
-use mathlib.Core.Bool.{Bool, true, false, cond, _&&_, _||_}
+use mathlib.Core.Path.{_≡_, sym, _∙_}
+use mathlib.Core.Bool.{Bool, true, false, _&&_, _||_}
 use Prim.Native.Nat.{ℕ, _≤_, _<_}
-use native.Mathlib.Omega.{arith}
-use borrow.Author.Tests.{lt-ltb, le-ltb, ltb-false, eq-eqb, ne-eqb}
+use borrow.Author.Tests.{lt-ltb, le-ltb, eq-eqb, ne-eqb}
 use lib.Dec.{eqb, ltb}
 use Rattle.lists.specs.Lists.{every, leading}
-use Rattle.lists.proofs.Bools.{or-right}
 use Rattle.protocol_state.specs.Saved.{base}
 use Rattle.protocol_state.specs.Rules.{fault, judgedTable}
 use Rattle.protocol_state.specs.Sound.{taskOk, pointerOk, soundParts}
@@ -24,17 +22,6 @@ module _ (T L : ℕ) (W R K : ℕ → ℕ) where
   pub link-fault : {r : ℕ} → (eqb T 0 || ltb (base .tasks) T) ≡ false → L ≤ base .links → r ≡ leading (fault ltb T W R K) L → r ≡ judgedTable ltb T W R K base L
   unfolding judgedTable
   link-fault e l h = rw (e, le-ltb (base .links) L l) h
-
-  -- a table without a refusal has room
-  pub counts : judgedTable ltb T W R K base L ≡ 0 → (T ≤ base .tasks) × (L ≤ base .links)
-  unfolding judgedTable
-  counts e = go (eqb T 0 || ltb (base .tasks) T) (ltb (base .links) L) refl refl e where
-    go :
-        (a b : Bool) → (eqb T 0 || ltb (base .tasks) T) ≡ a → ltb (base .links) L ≡ b → cond a 2 (cond b 3 (leading (fault ltb T W R K) L)) ≡ 0 →
-        (T ≤ base .tasks) × (L ≤ base .links)
-    go true b ea eb z = absurd (omega arith)
-    go false true ea eb z = absurd (omega arith)
-    go false false ea eb z = (ltb-false (base .tasks) T (or-right (eqb T 0) (ltb (base .tasks) T) ea), ltb-false (base .links) L eb)
 
   module _ (ph n p x : ℕ → ℕ) where
     pub unsound : {r : ℕ} → r ≡ judgedTable ltb T W R K base L → (r ≡ 0 → ⊥) → false ≡ soundParts ltb base T L W R K ph n p x

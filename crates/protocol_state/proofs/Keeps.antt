@@ -75,13 +75,9 @@ module _ {ahead : ℕ → ℕ → Bool} {size : Size} (q : Saved) (G : Sound ahe
   pub obeys : (l : ℕ) → l < q .links → Obeys ahead (q .tasks) (at (q .writer)) (at (q .reader)) (at (q .kind)) l
   obeys = rules.obeyed ahead (q .tasks) (at (q .writer)) (at (q .reader)) (at (q .kind)) size (q .links) (G .rules)
 
-  -- its counts fit
-  pub counts : (1 ≤ q .tasks) × (q .tasks ≤ size .tasks) × (q .links ≤ size .links)
-  counts = rules.counts ahead (q .tasks) (at (q .writer)) (at (q .reader)) (at (q .kind)) size (q .links) (G .rules)
-
-  -- there is room for them
+  -- there is room for its counts
   pub room : (q .tasks ≤ size .tasks) × (q .links ≤ size .links)
-  room = (counts .1, counts .2)
+  room = rules.room ahead (q .tasks) (at (q .writer)) (at (q .reader)) (at (q .kind)) size (q .links) (G .rules)
 
   -- and no task has more than 8 links to readers behind
   pub few : (t : ℕ) → behindsOf ahead q t ≤ 8

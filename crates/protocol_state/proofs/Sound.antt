@@ -12,6 +12,7 @@ use Rattle.protocol_state.specs.Saved.{Size, Saved, at}
 use Rattle.protocol_state.specs.Rules.{judgedTable}
 use Rattle.protocol_state.specs.Sound.{within, taskOk, pointerOk, soundParts, isSound, behindsOf, Sound}
 use Rattle.protocol_state.proofs.Places.{between, is-between, or-not}
+use Rattle.protocol_state.proofs.Rules as rules
 
 -- what a pointer y must be: absent at an idle reader, if the writer is ahead; present at an active one
 present-is : (b a : Bool) (y : ℕ) → b ≡ false → cond b (not a || eqb y 0) (leb 1 y) ≡ true → 1 ≤ y
@@ -26,6 +27,11 @@ pointer-is : (b a : Bool) (y : ℕ) → (b ≡ false → 1 ≤ y) → (b ≡ tru
 pointer-is false a y p n = le-leb 1 y (p refl)
 pointer-is true true y p n = eq-eqb y 0 (n refl refl)
 pointer-is true false y p n = refl
+
+-- where the test passes, there is room for the counts
+pub sound-room : (ahead : ℕ → ℕ → Bool) (size : Size) (T L : ℕ) (W R K ph n p x : ℕ → ℕ) → soundParts ahead size T L W R K ph n p x ≡ true → (T ≤ size .tasks) × (L ≤ size .links)
+unfolding soundParts
+sound-room ahead size T L W R K ph n p x s = rules.room ahead T W R K size L (eqb-true _ 0 (and-left (eqb (judgedTable ahead T W R K size L) 0) _ s))
 
 module _ (ahead : ℕ → ℕ → Bool) (size : Size) (q : Saved) where
   abbrev aTask : ℕ → Bool

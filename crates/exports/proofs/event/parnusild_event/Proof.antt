@@ -2,7 +2,8 @@
 -- Assumes nothing.
 use mathlib.Core.Path.{refl}
 use borrow.Author.Needs.{needs}
-use Rattle.exports.proofs.Ways.{passed, answered-unsound, answered-none, answered-event}
+use Rattle.lists.proofs.Bools.{passed}
+use Rattle.exports.proofs.Ways.{answered-unsound, answered-none, answered-event}
 use Rattle.exports.proofs.event.parnusild_event.Statement.{statement}
 use Rattle.exports.proofs.event.parnusild_event.Tie as tie
 
@@ -27,7 +28,7 @@ returns-2 c =
     answered-none (a .result) (a .ensures) (c .before .before .before .before .is-sound .ensures) (c .before .before .before .if1 .left) (c .before .match .keys2) (c .number-of .ensures)
 
 give-requires : tie.Need-give-requires
-give-requires c κs = (refl, passed (c .before .before .before .before .before .before .before .before .before .before .before .is-sound .result) (c .before .before .before .before .before .before .before .before .before .before .before .is-sound .ensures) (c .before .before .before .before .before .before .before .before .before .before .if1 .left))
+give-requires c κs = (refl, passed (c .before .before .before .before .before .before .before .before .before .before .before .is-sound .ensures) (c .before .before .before .before .before .before .before .before .before .before .if1 .left))
 
 returns-3 : tie.Need-returns-3
 returns-3 c =

@@ -2,9 +2,11 @@
 -- Assumes nothing.
 use mathlib.Core.Path.{refl}
 use borrow.Author.Needs.{needs}
+use Rattle.lists.proofs.Bools.{passed}
+use Rattle.protocol_state.proofs.Sound.{sound-room}
 use Rattle.mailbox_parts.specs.Plain.{plain}
 use Rattle.mailbox_parts.proofs.Room.{judged-within, becomes-within}
-use Rattle.mailbox.proofs.Answers.{counts, given-unsound, given-refused, given-done, stays}
+use Rattle.mailbox.proofs.Answers.{given-unsound, given-refused, given-done, stays}
 use Rattle.mailbox.proofs.State.event.Statement.{statement}
 use Rattle.mailbox.proofs.State.event.Tie as tie
 
@@ -32,7 +34,7 @@ returns-2 c =
     let d = c .before .before .before .before .before .before .before in
     let a = d .before .before .args in
     let s = d .before .sound .ensures in
-    let k = judged-within (counts (a .self) (s .0) (d .if1 .left)) (plain (a .e)) _ _ (c .before .before .judge .ensures) in
+    let k = judged-within (sound-room _ _ _ _ _ _ _ _ _ _ _ (passed (s .0) (d .if1 .left))) (plain (a .e)) _ _ (c .before .before .judge .ensures) in
     let g = given-refused (a .self) (s .0) (plain (a .e)) k (d .if1 .left) (c .before .if2 .taken) (c .refused2 .ensures) in
     (g, stays (a .self) (plain (a .e)) (s .1) g)
 
@@ -49,7 +51,7 @@ returns-3 c =
     let d = j .before .before .before .before .before .before in
     let a = d .before .before .args in
     let s = d .before .sound .ensures in
-    let room = counts (a .self) (s .0) (d .if1 .left) in
+    let room = sound-room _ _ _ _ _ _ _ _ _ _ _ (passed (s .0) (d .if1 .left)) in
     let k = judged-within room (plain (a .e)) _ _ (j .before .judge .ensures) in
     let n = becomes-within room (c .do-event .ensures) in
     let g = given-done (a .self) (s .0) (plain (a .e)) k (d .if1 .left) (j .if2 .left) (n .state (a .self .defaults)) (v .value-of .ensures) refl in

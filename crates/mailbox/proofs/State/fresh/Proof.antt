@@ -1,7 +1,9 @@
 -- `mailbox::State::fresh` meets its contract: each way out is one law on tables.
 -- Assumes nothing.
+use mathlib.Core.Path.{sym, _∙_}
 use borrow.Author.Needs.{needs}
-use Rattle.mailbox.proofs.Makes.{table-counts, made-refused, made-fresh, makes-sound}
+use Rattle.protocol_state.proofs.Rules.{room}
+use Rattle.mailbox.proofs.Makes.{made-refused, made-fresh, makes-sound}
 use Rattle.mailbox.proofs.State.fresh.Statement.{statement}
 use Rattle.mailbox.proofs.State.fresh.Tie as tie
 
@@ -19,8 +21,7 @@ returns c =
 
 fresh-of-requires : tie.Need-fresh-of-requires
 fresh-of-requires c κs =
-    let a = c .before .before .before .before .before .before .before .before .before .args in
-    table-counts (a .tasks) (a .links) (a .t3) (a .t4) (a .t5) (a .t6) (c .before .before .before .before .before .judge-table .ensures) (c .before .before .before .before .if1 .left)
+    room _ _ _ _ _ _ _ (sym (c .before .before .before .before .before .judge-table .ensures) ∙ c .before .before .before .before .if1 .left)
 
 returns-2 : tie.Need-returns-2
 returns-2 c =

@@ -1,8 +1,9 @@
 -- `mailbox_checks::sound::is_sound` meets its contract: a table with a refusal, and one without, which has room.
 -- Assumes nothing.
 use mathlib.Core.Path.{sym, _∙_}
-use Rattle.mailbox_checks.proofs.Judged.{counts, unsound, sound}
 use borrow.Author.Needs.{needs}
+use Rattle.protocol_state.proofs.Rules.{room}
+use Rattle.mailbox_checks.proofs.Judged.{unsound, sound}
 use Rattle.mailbox_checks.proofs.sound.is_sound.Statement.{statement}
 use Rattle.mailbox_checks.proofs.sound.is_sound.Tie as tie
 
@@ -13,10 +14,10 @@ returns : tie.Need-returns
 returns c = unsound _ _ _ _ _ _ _ _ _ (c .before .judge-table .ensures) (c .if1 .taken)
 
 tasks-ok-requires : tie.Need-tasks-ok-requires
-tasks-ok-requires c κs = counts _ _ _ _ _ (sym (c .before .judge-table .ensures) ∙ c .if1 .left)
+tasks-ok-requires c κs = room _ _ _ _ _ _ _ (sym (c .before .judge-table .ensures) ∙ c .if1 .left)
 
 pointers-ok-requires : tie.Need-pointers-ok-requires
-pointers-ok-requires c κs = counts _ _ _ _ _ (sym (c .before .before .judge-table .ensures) ∙ c .before .if1 .left) .1
+pointers-ok-requires c κs = room _ _ _ _ _ _ _ (sym (c .before .before .judge-table .ensures) ∙ c .before .if1 .left) .1
 
 returns-2 : tie.Need-returns-2
 returns-2 c =
