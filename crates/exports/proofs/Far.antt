@@ -7,21 +7,20 @@ use Prim.Native.Nat.{ℕ, _<_}
 use native.Mathlib.Omega.{arith}
 use borrow.Author.Tests.{le-leb}
 use lib.Dec.{leb, ltb}
-use Rattle.protocol.specs.Event.{Event, arrival, start, read, finish}
+use Rattle.protocol.specs.Event.{Event, start, read, finish}
 use Rattle.protocol_state.specs.Saved.{Saved, base, at}
 use Rattle.protocol_state.specs.Judge.{judgedTask, judgedRead, judgedOn}
-use Rattle.protocol_state.specs.Next.{next, valueOf}
 use Rattle.protocol_state.specs.Sound.{isSound}
 use Rattle.protocol_state.specs.Give.{reply, settled, give}
 use Rattle.protocol_state.proofs.Sound.{sound-room}
-use Rattle.protocol_state.proofs.Give.{unsound, refused}
+use Rattle.protocol_state.proofs.Give.{unsound, refused, give-unsound, give-refused}
 
 -- where each sound state answers an event by r, its answer is known
 pub refused-by : (q : Saved) (e : Event ℕ) (r : ℕ) → r ≢ 0 → (isSound ltb base q ≡ true → judgedOn ltb q e ≡ r) → settled (isSound ltb base q) r q q 0 ≡ give ltb base q e
 refused-by q e r n j = go (isSound ltb base q) refl where
   go : (b : Bool) → isSound ltb base q ≡ b → settled (isSound ltb base q) r q q 0 ≡ give ltb base q e
-  go false s = unsound r q q 0 s ∙ sym (unsound (judgedOn ltb q e) q (next ltb q e) (valueOf q e) s)
-  go true s = refused r q q 0 s n ∙ ap (λ (k : ℕ). reply q k 0) (sym (j s)) ∙ sym (refused (judgedOn ltb q e) q (next ltb q e) (valueOf q e) s (λ z. n (sym (j s) ∙ z)))
+  go false s = unsound r q q 0 s ∙ sym (give-unsound ltb base q e s)
+  go true s = refused r q q 0 s n ∙ ap (λ (k : ℕ). reply q k 0) (sym (j s)) ∙ sym (give-refused ltb base q e s (λ z. n (sym (j s) ∙ z)))
 
 module _ (q : Saved) (i : ℕ) (far : 255 < i) where
   task-far : (k : ℕ) → isSound ltb base q ≡ true → judgedTask ltb k i (q .tasks) (at (q .phase)) ≡ 12

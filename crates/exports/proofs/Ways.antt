@@ -1,23 +1,22 @@
 -- A call, way by way: unsound, no event, refused, done.
 -- Assumes nothing.
-use mathlib.Core.Path.{_≡_, refl, sym, ap, _∙_}
+use mathlib.Core.Path.{_≡_, sym, ap, _∙_}
 use mathlib.Core.Logic.{⊎-elim}
 use mathlib.Core.Bool.{Bool, true, false, not}
 use mathlib.Core.List.{List, [], _∷_}
-use Prim.Native.Nat.{ℕ, _≤_}
+use Prim.Native.Nat.{ℕ}
 use native.Mathlib.Omega.{arith}
 use borrow.Author.Tests.{not-true}
 use types.Run.{OneOf}
 use denote.Enum.Declared.{tagOf}
 use lib.Dec.{ltb}
 use Rattle.lists.proofs.Bools.{passed}
-use Rattle.protocol_state.specs.Saved.{Saved, base, at}
-use Rattle.protocol_state.specs.Rules.{judgedTable}
+use Rattle.protocol_state.specs.Saved.{Saved, base}
 use Rattle.protocol_state.specs.Judge.{judgedOn}
 use Rattle.protocol_state.specs.Next.{next, valueOf}
-use Rattle.protocol_state.specs.Sound.{soundParts, isSound}
+use Rattle.protocol_state.specs.Sound.{isSound}
 use Rattle.protocol_state.specs.Give.{reply, give}
-use Rattle.protocol_state.proofs.Give.{unsound, refused, done}
+use Rattle.protocol_state.proofs.Give.{unsound, refused, give-unsound, give-refused, give-done}
 use Rattle.mailbox_parts.specs.Plain.{plain}
 use Rattle.mailbox_parts.specs.Becomes.{savedOf, Becomes}
 use Rattle.mailbox_parts.specs.declared.event.Event.{Event}
@@ -29,7 +28,7 @@ use Rattle.exports.proofs.call.Asked as A
 
 -- an unsound state is answered 19, whatever is called
 never : (q : Saved) (c : Call) → isSound ltb base q ≡ false → answered q c ≡ reply q 19 0
-never q (known e) s = unsound (judgedOn ltb q e) q (next ltb q e) (valueOf q e) s
+never q (known e) s = give-unsound ltb base q e s
 never q unknown s = unsound 11 q q 0 s
 
 -- what is no event is answered by its number
@@ -41,10 +40,10 @@ none q asked.Unknown s o = refused 11 q q 0 s (λ z. omega arith)
 -- an event that a sound state refuses, and one that it does
 module _ (q : Saved) (e : Event) {k v : ℕ} (s : isSound ltb base q ≡ true) (judged : k ≡ judgedOn ltb q (plain e)) where
   held : (k ≡ 0 → ⊥) → v ≡ 0 → reply q k v ≡ give ltb base q (plain e)
-  held z i = rw (i, judged) (sym (refused (judgedOn ltb q (plain e)) q (next ltb q (plain e)) (valueOf q (plain e)) s (λ j. z (judged ∙ j))))
+  held z i = rw (i, judged) (sym (give-refused ltb base q (plain e) s (λ j. z (judged ∙ j))))
 
   allowed : {q′ : Saved} → k ≡ 0 → v ≡ valueOf q (plain e) → q′ ≡ next ltb q (plain e) → reply q′ 0 v ≡ give ltb base q (plain e)
-  allowed z t b = rw (b, t) (sym (done (judgedOn ltb q (plain e)) q (next ltb q (plain e)) (valueOf q (plain e)) s (sym judged ∙ z)))
+  allowed z t b = rw (b, t) (sym (give-done ltb base q (plain e) s (sym judged ∙ z)))
 
 -- the same of the parts that are lent, whatever the defaults are
 module _ {T L : ℕ} {W R K ph n p C x : List ℕ} where

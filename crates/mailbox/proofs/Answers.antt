@@ -12,7 +12,7 @@ use Rattle.protocol_state.specs.Judge.{judgedOn}
 use Rattle.protocol_state.specs.Next.{next, valueOf}
 use Rattle.protocol_state.specs.Sound.{isSound}
 use Rattle.protocol_state.specs.Give.{reply}
-use Rattle.protocol_state.proofs.Give.{unsound, refused, done, give-sound}
+use Rattle.protocol_state.proofs.Give.{give-unsound, give-refused, give-done, give-sound}
 use Rattle.mailbox.specs.States.{saved, stepOf, given, refusedStep, StaysSound}
 use Rattle.mailbox.specs.declared.State.{State}
 use Rattle.mailbox.specs.declared.Step.{Step}
@@ -21,18 +21,18 @@ use Rattle.mailbox.specs.declared.Step.{Step}
 module _ (q : State) {b : Bool} (test : b ≡ isSound ltb base (saved q)) where
   module _ (e : Event ℕ) {r : Step} where
     pub given-unsound : not b ≡ true → r ≡ refusedStep q 19 → r ≡ given q e
-    given-unsound n i = i ∙ ap stepOf (sym (unsound (judgedOn ltb (saved q) e) (saved q) (next ltb (saved q) e) (valueOf (saved q) e) (sym test ∙ not-true b n)))
+    given-unsound n i = i ∙ ap stepOf (sym (give-unsound ltb base (saved q) e (sym test ∙ not-true b n)))
 
     module _ {k : ℕ} (judged : k ≡ judgedOn ltb (saved q) e) where
       pub given-refused : not b ≡ false → (k ≡ 0 → ⊥) → r ≡ refusedStep q k → r ≡ given q e
       given-refused n z i =
           i ∙ ap (refusedStep q) judged
-          ∙ ap stepOf (sym (refused (judgedOn ltb (saved q) e) (saved q) (next ltb (saved q) e) (valueOf (saved q) e) (passed test n) (λ j. z (judged ∙ j))))
+          ∙ ap stepOf (sym (give-refused ltb base (saved q) e (passed test n) (λ j. z (judged ∙ j))))
 
       pub given-done : {p : Saved} {v : ℕ} → not b ≡ false → k ≡ 0 → p ≡ next ltb (saved q) e → v ≡ valueOf (saved q) e → r ≡ stepOf (reply p 0 v) → r ≡ given q e
       given-done n z s t i =
           i ∙ rw (s, t)
-          (ap stepOf (sym (done (judgedOn ltb (saved q) e) (saved q) (next ltb (saved q) e) (valueOf (saved q) e) (passed test n) (sym judged ∙ z))))
+          (ap stepOf (sym (give-done ltb base (saved q) e (passed test n) (sym judged ∙ z))))
 
 -- whatever is handed back as the protocol's reply
 pub stays : (q : State) (e : Event ℕ) {r : Step} → Shape base (saved q) → r ≡ given q e → StaysSound q r
