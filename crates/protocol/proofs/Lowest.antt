@@ -62,7 +62,7 @@ module _ {Val : Type 0} (T : Table Val) (s : Boxes Val) (t : ℕ) where
   }
     where
       range : (1 ≤ first gone m 1) × (first gone m 1 ≤ N T t + 2)
-      range = lowest-in-range (toBehind (T .ahead) (T .writer) (T .reader) t) (s .pointer) m (T .links) (s .newest t) few
+      range = lowest-in-range (toBehind (T .ahead) (T .writer) (T .reader) t) (s .pointer) m (T .links) (s .newest t)
 
   -- a free position always exists, and the lowest lies in 1 to N + 2
   pub lowest-exists : Lowest T s t (lowest T s t)

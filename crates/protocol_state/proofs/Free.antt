@@ -31,8 +31,8 @@ module _ (ahead : ℕ → ℕ → Bool) (q : Saved) (t x : ℕ) where
   lowestAt = lowestFree ahead (at (q .writer)) (at (q .reader)) (at (q .pointer)) (q .links) t x
 
   -- lies in 1 to N + 2
-  pub lowest-position : behindsOf ahead q t ≤ 8 → Position ahead q t lowestAt
-  lowest-position few = lowest-in-range (toBehind ahead (at (q .writer)) (at (q .reader)) t) (at (q .pointer)) 9 (q .links) x (omega arith)
+  pub lowest-position : Position ahead q t lowestAt
+  lowest-position = lowest-in-range (toBehind ahead (at (q .writer)) (at (q .reader)) t) (at (q .pointer)) 9 (q .links) x
 
 -- and is the lowest free one
 pub lowest-free : (ahead : ℕ → ℕ → Bool) (q : Saved) (t : ℕ) → behindsOf ahead q t ≤ 8 → Lowest (table ahead q) (boxes q) t (lowestAt ahead q t (boxes q .newest t))

@@ -104,7 +104,7 @@ module _ {ahead : ℕ → ℕ → Bool} {size : Size} (q : Saved) (G : Sound ahe
       newest-good : (t : ℕ) → t < q .tasks → Position ahead q t (at (newestAfter ahead s q) t)
       newest-good t l = rw (newest-at ahead q S s small (room .0) t 0) (go (has s t)) where
         go : (b : Bool) → Position ahead q t (cond b (lowestAt ahead q t (at (q .newest) t)) (at (q .newest) t))
-        go true = lowest-position ahead q t (at (q .newest) t) (few t)
+        go true = lowest-position ahead q t (at (q .newest) t)
         go false = G .newest t l
 
       previous-good : (t : ℕ) → t < q .tasks → Position ahead q t (at (previousAfter ahead s q) t)
