@@ -10,14 +10,10 @@ use Rattle.lists.specs.Lists.{some, every}
 use Rattle.protocol_state.specs.Saved.{active}
 use Rattle.protocol_state.specs.Decision.{decided}
 use Rattle.protocol_state.specs.Judge.{mayArrive, judgedArrival, judgedTask, judgedRead}
+use Rattle.protocol_state.proofs.Places.{some-same}
 use Rattle.mailbox_judge.proofs.Sets.{shifted}
 
 -- under fixed priorities the tasks ahead of t are those before it
-some-same : (f : ℕ → Bool) (t n : ℕ) → n ≤ t → some (λ u. ltb u t && f u) n ≡ some f n
-unfolding some
-some-same f t zero l = refl
-some-same f t (suc n) l = rw (lt-ltb n t (omega arith), some-same f t n (omega arith))
-
 pub some-ahead : (f : ℕ → Bool) (t n : ℕ) → t ≤ n → some (λ u. ltb u t && f u) n ≡ some f t
 unfolding some
 some-ahead f t zero l =
@@ -31,7 +27,7 @@ some-ahead f t (suc n) l = go (leb t n) refl (some-ahead f t n) refl where
   go false e ih one =
       let h : n < t = leb-false t n e in
       let s : suc n ≡ t = omega arith in
-      rw (lt-ltb n t h, some-same f t n (omega arith)) (one ∙ ap (some f) s)
+      rw (lt-ltb n t h, some-same (λ u. ltb u t && f u) f n (λ u i. rw (lt-ltb u t (omega arith)))) (one ∙ ap (some f) s)
 
 -- b says whether each may arrive, u what that means, and a shift by T whether there is a task past the table
 pub arrival-judged :

@@ -1,12 +1,13 @@
 -- Demand 2, ranges: positions and pointers stay in range in every run with a free choice, an active reader's pointers are there, and those of an inactive one from writers ahead are absent.
 -- Assumes nothing.
 use mathlib.Core.Path.{_≡_, refl, sym, _∙_}
-use mathlib.Core.Bool.{Bool, true, false, cond, true≢false}
+use mathlib.Core.Bool.{Bool, true, false, true≢false}
 use mathlib.Core.List.{List, [], _∷_}
 use Prim.Native.Nat.{ℕ, suc, _+_, _≤_, _<_}
 use native.Mathlib.Omega.{arith}
 use native.Mathlib.Decide.{ℕ-discrete}
 use borrow.Author.Tests.{le-ltb, lt-ltb}
+use Rattle.lists.proofs.Bools.{cond-small}
 use Rattle.protocol.specs.Event.{Event, arrival, start, read, finish, has}
 use Rattle.protocol.specs.Table.{Table, N, behind}
 use Rattle.protocol.specs.History.{arrivals, finishes, active}
@@ -16,11 +17,6 @@ use Rattle.protocol.specs.Ranges.{Position, Ranged}
 use Rattle.protocol.proofs.Counts.{arrivals-in, arrivals-out, finishes-same, finishes-other}
 use Rattle.protocol.proofs.Effects.{previous-in, previous-out, pointer-direct, pointer-delayed, pointer-out, pointer-other, pointer-gone}
 use Rattle.protocol.proofs.Invariant.{Bounded, bounded, unfinished}
-
--- a number, or 0 in its place, keeps to the bound
-cleared-le : (b : Bool) (p n : ℕ) → p ≤ n → cond b 0 p ≤ n
-cleared-le true p n q = let z : 0 ≤ n = omega arith in z
-cleared-le false p n q = q
 
 module _ {Val : Type 0} (T : Table Val) where
   -- what it says of link l, by whether the reader is active, and the pointer p
@@ -105,7 +101,7 @@ module _ {Val : Type 0} (T : Table Val) where
       link : (l : ℕ) → l < T .links → Dec (T .reader l ≡ t) → Pointed l (active (finish t v ∷ h) (T .reader l)) (s′ .pointer l)
       link l k (yes e) =
           let a : active (finish t v ∷ h) (T .reader l) ≡ false = rw e (le-ltb (finishes (finish t v ∷ h) t) (arrivals h t) (omega (arith, finishes-same h t v))) in
-          rw a (rw (F .pointer l) (cleared-le (leaves T t l) (s .pointer l) _ (R .pointer l k)), λ x. absurd (true≢false (sym x)), λ b x. pointer-gone T F l k e b)
+          rw a (rw (F .pointer l) (cond-small (leaves T t l) (omega arith) (R .pointer l k)), λ x. absurd (true≢false (sym x)), λ b x. pointer-gone T F l k e b)
       link l k (no n) = rw (finishes-other h t (T .reader l) v (λ x. n (sym x)), pointer-other T F l n) (links-of R l k)
 
   module _ (may : Policy Val) where

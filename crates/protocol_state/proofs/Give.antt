@@ -8,6 +8,7 @@ use native.Mathlib.Omega.{arith}
 use borrow.Author.Tests.{eqb-true, eqb-false, ne-eqb}
 use lib.Dec.{eqb, leb}
 use Rattle.lists.specs.Lists.{every}
+use Rattle.lists.proofs.Bools.{cond-small}
 use Rattle.protocol.specs.Event.{Event, arrival, start, read, finish}
 use Rattle.protocol_state.specs.Saved.{Size, Saved, Shape, at}
 use Rattle.protocol_state.specs.Decision.{decided}
@@ -16,7 +17,6 @@ use Rattle.protocol_state.specs.Next.{next, valueOf}
 use Rattle.protocol_state.specs.Sound.{isSound}
 use Rattle.protocol_state.specs.Give.{Reply, reply, settled, give}
 use Rattle.protocol_state.proofs.Decision.{decided-small}
-use Rattle.protocol_state.proofs.Places.{cond-small}
 use Rattle.protocol_state.proofs.Sound.{sound-says, says-sound}
 use Rattle.protocol_state.proofs.Keeps.{next-shape, next-sound}
 

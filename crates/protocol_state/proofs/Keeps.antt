@@ -9,6 +9,7 @@ use borrow.Author.Tests.{eq-eqb, ne-eqb, lt-ltb}
 use lib.Dec.{eqb}
 use lib.ListN.{set, length-set}
 use lib.Seq.{getD-set-same, getD-set-other}
+use Rattle.lists.proofs.Bools.{cond-small}
 use Rattle.lists.proofs.Lists.{length-upto}
 use Rattle.protocol.specs.Event.{Event, arrival, start, read, finish, has}
 use Rattle.protocol.specs.Published.{leaves}
@@ -225,15 +226,11 @@ module _ {ahead : ℕ → ℕ → Bool} {size : Size} (q : Saved) (G : Sound ahe
           phase = phases-good t (decided 3 (at (q .phase) t)) finish-known (omega (arith, decided-finish .1));
           newest = G .newest;
           previous = G .previous;
-          pointer = λ l h. rw (freed-at l) (pointer l h (leaves (table ahead q) t l));
+          pointer = λ l h. rw (freed-at l) (cond-small (leaves (table ahead q) t l) (omega arith) (G .pointer l h));
           present = λ l h n. present l h (ℕ-discrete (at (q .reader) l) t) n;
           absent = λ l h a z. absent l h (ℕ-discrete (at (q .reader) l) t) a z;
         }
           where
-            pointer : (l : ℕ) → l < q .links → (b : Bool) → cond b 0 (at (q .pointer) l) ≤ behindsOf ahead q (at (q .writer) l) + 2
-            pointer l h true = omega arith
-            pointer l h false = G .pointer l h
-
             present : (l : ℕ) → l < q .links → Dec (at (q .reader) l ≡ t) → (at (finished ahead t v q .phase) (at (q .reader) l) ≡ 0 → ⊥) → 1 ≤ at (finished ahead t v q .pointer) l
             present l h (yes e) n = absurd (n (rw e (was-running .1)))
             present l h (no e) n = rw (others-stay l h e) (G .present l h (λ z. n (getD-set-other (q .phase) t (at (q .reader) l) _ 0 e ∙ z)))

@@ -85,11 +85,6 @@ unfolding leading
 leading-none-other f zero h = refl
 leading-none-other f (suc n) h = rw (leading-none-other f n (λ k l. h k (omega arith)), h n (omega arith))
 
--- one of two numbers that are at most m
-pub cond-small : (b : Bool) {x y m : ℕ} → x ≤ m → y ≤ m → cond b x y ≤ m
-cond-small true a c = a
-cond-small false a c = c
-
 -- ---- allowed events
 -- an allowed arrival is of a set of tasks that their phases let arrive
 pub arrival-allowed : (s T : ℕ) (ph : ℕ → ℕ) → judgedArrival s T ph ≡ 0 → (s < 2 ^ T) × ((t : ℕ) → t < T → has s t ≡ true → allows (decided 0 (ph t)) ≡ true)
