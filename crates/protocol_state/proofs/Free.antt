@@ -8,12 +8,12 @@ use native.Mathlib.Nat.{not-suc-le-zero, le-of-suc-le-suc}
 use native.Mathlib.Omega.{arith}
 use lib.ListN.{getD, length}
 use Rattle.lists.proofs.Search.{lowest-in-range}
-use Rattle.protocol.specs.Table.{toBehind}
+use Rattle.protocol.specs.Table.{toBehind, N}
+use Rattle.protocol.specs.Ranges.{Position}
 use Rattle.protocol.specs.Published.{Lowest}
 use Rattle.protocol.specs.Free.{lowestFree}
 use Rattle.protocol.proofs.Lowest.{search-lowest}
 use Rattle.protocol_state.specs.Saved.{Size, Saved, Shape, at, table, boxes}
-use Rattle.protocol_state.specs.Sound.{behindsOf, Position}
 
 -- within a list it is all one what stands past its end
 inside : (xs : List ℕ) (k d : ℕ) → k < length xs → getD xs k d ≡ at xs k
@@ -31,9 +31,9 @@ module _ (ahead : ℕ → ℕ → Bool) (q : Saved) (t x : ℕ) where
   lowestAt = lowestFree ahead (at (q .writer)) (at (q .reader)) (at (q .pointer)) (q .links) t x
 
   -- lies in 1 to N + 2
-  pub lowest-position : Position ahead q t lowestAt
+  pub lowest-position : Position (table ahead q) t lowestAt
   lowest-position = lowest-in-range (toBehind ahead (at (q .writer)) (at (q .reader)) t) (at (q .pointer)) 9 (q .links) x
 
 -- and is the lowest free one
-pub lowest-free : (ahead : ℕ → ℕ → Bool) (q : Saved) (t : ℕ) → behindsOf ahead q t ≤ 8 → Lowest (table ahead q) (boxes q) t (lowestAt ahead q t (boxes q .newest t))
+pub lowest-free : (ahead : ℕ → ℕ → Bool) (q : Saved) (t : ℕ) → N (table ahead q) t ≤ 8 → Lowest (table ahead q) (boxes q) t (lowestAt ahead q t (boxes q .newest t))
 lowest-free ahead q t few = search-lowest (table ahead q) (boxes q) t 9 (omega arith)

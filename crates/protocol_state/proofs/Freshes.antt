@@ -12,7 +12,7 @@ use lib.ListN.{length, replicate, length-replicate, List·getD-eq-default}
 use Rattle.lists.proofs.Lists.{upto-at, length-upto}
 use Rattle.protocol.specs.History.{arrivals, starts, finishes}
 use Rattle.protocol.specs.Published.{Fresh}
-use Rattle.protocol_state.specs.Saved.{Size, Shape, at, cellOf, isPosition, table, boxes}
+use Rattle.protocol_state.specs.Saved.{Size, Shape, at, cellOf, positions, oneTo, table, boxes}
 use Rattle.protocol_state.specs.Rules.{fault, judgedTable}
 use Rattle.protocol_state.specs.Sound.{isSound, Sound}
 use Rattle.protocol_state.specs.Fresh.{copied, filled, freshOf, single, Made, made}
@@ -84,10 +84,10 @@ module _ (size : Size) (T L : ℕ) (D W R K : List ℕ) where
     newest = repeated (size .tasks) 1;
     previous = repeated (size .tasks) 1;
     pointer = zeros (size .links);
-    cell = λ t p. cell t p (isPosition p) refl;
+    cell = λ t p. cell t p (oneTo positions p) refl;
   }
     where
-      cell : (t p : ℕ) (b : Bool) → isPosition p ≡ b → cond b (at (filled (size .tasks) (copied (size .tasks) T D)) (cellOf t p)) (at (copied (size .tasks) T D) t) ≡ at (copied (size .tasks) T D) t
+      cell : (t p : ℕ) (b : Bool) → oneTo positions p ≡ b → cond b (at (filled (size .tasks) (copied (size .tasks) T D)) (cellOf t p)) (at (copied (size .tasks) T D) t) ≡ at (copied (size .tasks) T D) t
       cell t p true e = filled-at (size .tasks) (copied (size .tasks) T D) (copied-length (size .tasks) T D) t p (between 10 p e)
       cell t p false e = refl
 

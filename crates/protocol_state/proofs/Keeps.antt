@@ -12,6 +12,8 @@ use lib.Seq.{getD-set-same, getD-set-other}
 use Rattle.lists.proofs.Bools.{cond-small}
 use Rattle.lists.proofs.Lists.{length-upto}
 use Rattle.protocol.specs.Event.{Event, arrival, start, read, finish, has}
+use Rattle.protocol.specs.Table.{N}
+use Rattle.protocol.specs.Ranges.{Position}
 use Rattle.protocol.specs.Published.{leaves}
 use Rattle.protocol.proofs.Schedule.{has-below}
 use Rattle.protocol_state.specs.Saved.{Size, Saved, Shape, at, delayedKind, table}
@@ -19,7 +21,7 @@ use Rattle.protocol_state.specs.Rules.{Obeys}
 use Rattle.protocol_state.specs.Decision.{decided}
 use Rattle.protocol_state.specs.Judge.{judgedArrival, judgedTask, judgedOn}
 use Rattle.protocol_state.specs.Next.{previousAt, pointerAt, phaseAt, newestAt, freedAt, newestAfter, previousAfter, pointerAfter, phaseAfter, arrived, started, finished, next}
-use Rattle.protocol_state.specs.Sound.{behindsOf, Position, Sound}
+use Rattle.protocol_state.specs.Sound.{Sound}
 use Rattle.protocol_state.proofs.Decision.{arrives-idle, starts-waiting, finishes-running}
 use Rattle.protocol_state.proofs.Places.{changed, arrival-allowed, task-allowed}
 use Rattle.protocol_state.proofs.Rules as rules
@@ -81,7 +83,7 @@ module _ {ahead : ℕ → ℕ → Bool} {size : Size} (q : Saved) (G : Sound ahe
   room = rules.room ahead (q .tasks) (at (q .writer)) (at (q .reader)) (at (q .kind)) size (q .links) (G .rules)
 
   -- and no task has more than 8 links to readers behind
-  pub few : (t : ℕ) → behindsOf ahead q t ≤ 8
+  pub few : (t : ℕ) → N (table ahead q) t ≤ 8
   few = rules.few ahead (q .tasks) (at (q .writer)) (at (q .reader)) (at (q .kind)) size (q .links) (G .rules)
 
   module _ (S : Shape size q) where
@@ -102,15 +104,15 @@ module _ {ahead : ℕ → ℕ → Bool} {size : Size} (q : Saved) (G : Sound ahe
       pub phase-kept : (t : ℕ) → has s t ≡ false → at (phaseAfter ahead s q) t ≡ at (q .phase) t
       phase-kept t e = phase-at ahead q S s small (room .0) t ∙ rw e
 
-      newest-good : (t : ℕ) → t < q .tasks → Position ahead q t (at (newestAfter ahead s q) t)
+      newest-good : (t : ℕ) → t < q .tasks → Position (table ahead q) t (at (newestAfter ahead s q) t)
       newest-good t l = rw (newest-at ahead q S s small (room .0) t 0) (go (has s t)) where
-        go : (b : Bool) → Position ahead q t (cond b (lowestAt ahead q t (at (q .newest) t)) (at (q .newest) t))
+        go : (b : Bool) → Position (table ahead q) t (cond b (lowestAt ahead q t (at (q .newest) t)) (at (q .newest) t))
         go true = lowest-position ahead q t (at (q .newest) t)
         go false = G .newest t l
 
-      previous-good : (t : ℕ) → t < q .tasks → Position ahead q t (at (previousAfter ahead s q) t)
+      previous-good : (t : ℕ) → t < q .tasks → Position (table ahead q) t (at (previousAfter ahead s q) t)
       previous-good t l = rw (previous-at ahead q S s small (room .0) t 0) (go (has s t)) where
-        go : (b : Bool) → Position ahead q t (cond b (at (q .newest) t) (at (q .previous) t))
+        go : (b : Bool) → Position (table ahead q) t (cond b (at (q .newest) t) (at (q .previous) t))
         go true = G .newest t l
         go false = G .previous t l
 
@@ -120,9 +122,9 @@ module _ {ahead : ℕ → ℕ → Bool} {size : Size} (q : Saved) (G : Sound ahe
         go true e = omega (arith, were-idle t e .1)
         go false e = rw (phase-kept t e) (G .phase t l)
 
-      aim-good : (l : ℕ) → l < q .links → Position ahead q (at (q .writer) l) (aim ahead s q l)
+      aim-good : (l : ℕ) → l < q .links → Position (table ahead q) (at (q .writer) l) (aim ahead s q l)
       aim-good l h = go (delayedKind (at (q .kind) l)) where
-        go : (b : Bool) → Position ahead q (at (q .writer) l) (cond b (at (previousAfter ahead s q) (at (q .writer) l)) (at (newestAfter ahead s q) (at (q .writer) l)))
+        go : (b : Bool) → Position (table ahead q) (at (q .writer) l) (cond b (at (previousAfter ahead s q) (at (q .writer) l)) (at (newestAfter ahead s q) (at (q .writer) l)))
         go true = previous-good (at (q .writer) l) (obeys l h .writer)
         go false = newest-good (at (q .writer) l) (obeys l h .writer)
 
@@ -143,7 +145,7 @@ module _ {ahead : ℕ → ℕ → Bool} {size : Size} (q : Saved) (G : Sound ahe
         absent = λ l h a z. absent l h (has s (at (q .reader) l)) refl a z;
       }
         where
-          pointer : (l : ℕ) → l < q .links → (b : Bool) → has s (at (q .reader) l) ≡ b → at (pointerAfter ahead s q) l ≤ behindsOf ahead q (at (q .writer) l) + 2
+          pointer : (l : ℕ) → l < q .links → (b : Bool) → has s (at (q .reader) l) ≡ b → at (pointerAfter ahead s q) l ≤ N (table ahead q) (at (q .writer) l) + 2
           pointer l h true e = rw (aimed l h e) (aim-good l h .1)
           pointer l h false e = rw (stays l h e) (G .pointer l h)
 

@@ -12,7 +12,7 @@ use Rattle.lists.specs.Lists.{upto, every, some, count, leading}
 use Rattle.lists.proofs.Bools.{and-left, and-right, and-both, or-right, cond-zero, else-zero}
 use Rattle.lists.proofs.Lists.{upto-at, upto-past, every-at}
 use Rattle.protocol.specs.Event.{has}
-use Rattle.protocol_state.specs.Saved.{at}
+use Rattle.protocol_state.specs.Saved.{at, oneTo}
 use Rattle.protocol_state.specs.Decision.{decided}
 use Rattle.protocol_state.specs.Judge.{allows, mayArrive, judgedArrival, preempted, judgedTask, judgedRead}
 
@@ -41,10 +41,10 @@ zeros n k = repeated n 0 k
 
 -- ---- tests
 -- y is one of 1 to m: where the test passes, and where it is so
-pub between : (m y : ℕ) → (leb 1 y && leb y m) ≡ true → (1 ≤ y) × (y ≤ m)
+pub between : (m y : ℕ) → oneTo m y ≡ true → (1 ≤ y) × (y ≤ m)
 between m y e = (leb-true 1 y (and-left (leb 1 y) _ e), leb-true y m (and-right (leb 1 y) _ e))
 
-pub is-between : (m y : ℕ) → (1 ≤ y) × (y ≤ m) → (leb 1 y && leb y m) ≡ true
+pub is-between : (m y : ℕ) → (1 ≤ y) × (y ≤ m) → oneTo m y ≡ true
 is-between m y h = and-both (le-leb 1 y (h .0)) (le-leb y m (h .1))
 
 -- who is asked passes

@@ -8,9 +8,10 @@ use lib.Dec.{eqb, ltb, leb}
 use Rattle.lists.specs.Lists.{every}
 use Rattle.lists.proofs.Bools.{and-left, and-right, and-both}
 use Rattle.lists.proofs.Lists.{every-at, every-of}
-use Rattle.protocol_state.specs.Saved.{Size, Saved, at}
+use Rattle.protocol.specs.Table.{N}
+use Rattle.protocol_state.specs.Saved.{Size, Saved, at, table}
 use Rattle.protocol_state.specs.Rules.{judgedTable}
-use Rattle.protocol_state.specs.Sound.{within, taskOk, pointerOk, soundParts, isSound, behindsOf, Sound}
+use Rattle.protocol_state.specs.Sound.{within, taskOk, pointerOk, soundParts, isSound, Sound}
 use Rattle.protocol_state.proofs.Places.{between, is-between, or-not}
 use Rattle.protocol_state.proofs.Rules as rules
 
@@ -53,10 +54,10 @@ module _ (ahead : ℕ → ℕ → Bool) (size : Size) (q : Saved) where
       record {
         rules = eqb-true judgement 0 (and-left (eqb judgement 0) _ e);
         phase = λ t l. ltb-true (at (q .phase) t) 3 (and-left (ltb (at (q .phase) t) 3) _ (tasks t l));
-        newest = λ t l. between (behindsOf ahead q t + 2) (at (q .newest) t)
-            (and-left (within (behindsOf ahead q t) (at (q .newest) t)) _ (and-right (ltb (at (q .phase) t) 3) _ (tasks t l)));
-        previous = λ t l. between (behindsOf ahead q t + 2) (at (q .previous) t)
-            (and-right (within (behindsOf ahead q t) (at (q .newest) t)) _ (and-right (ltb (at (q .phase) t) 3) _ (tasks t l)));
+        newest = λ t l. between (N (table ahead q) t + 2) (at (q .newest) t)
+            (and-left (within (N (table ahead q) t) (at (q .newest) t)) _ (and-right (ltb (at (q .phase) t) 3) _ (tasks t l)));
+        previous = λ t l. between (N (table ahead q) t + 2) (at (q .previous) t)
+            (and-right (within (N (table ahead q) t) (at (q .newest) t)) _ (and-right (ltb (at (q .phase) t) 3) _ (tasks t l)));
         pointer = λ l h. leb-true (at (q .pointer) l) _ (and-left (leb (at (q .pointer) l) _) _ (pointers l h));
         present = λ l h n. present-is _ (ahead (at (q .writer) l) (at (q .reader) l)) (at (q .pointer) l) (ne-eqb _ 0 n) (and-right (leb (at (q .pointer) l) _) _ (pointers l h));
         absent = λ l h a z. absent-is _ (ahead (at (q .writer) l) (at (q .reader) l)) (at (q .pointer) l) (eq-eqb _ 0 z) a (and-right (leb (at (q .pointer) l) _) _ (pointers l h));

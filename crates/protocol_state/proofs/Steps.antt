@@ -12,12 +12,13 @@ use lib.ListN.{getD, length, set}
 use lib.Seq.{getD-set-same, getD-set-other}
 use Rattle.lists.proofs.Bools.{and-left}
 use Rattle.protocol.specs.Event.{Event, arrival, start, read, finish, has}
+use Rattle.protocol.specs.Ranges.{Position}
 use Rattle.protocol.specs.Published.{Lowest, Arrived, Finished, Step, comes, number}
 use Rattle.protocol.proofs.Schedule.{has-below}
-use Rattle.protocol_state.specs.Saved.{Size, Saved, Shape, at, cellOf, isPosition, delayedKind, table, boxes}
+use Rattle.protocol_state.specs.Saved.{Size, Saved, Shape, at, cellOf, positions, oneTo, delayedKind, table, boxes}
 use Rattle.protocol_state.specs.Judge.{judgedArrival, judgedTask, judgedOn}
 use Rattle.protocol_state.specs.Next.{newestAfter, previousAfter, arrived, finished, next, valueOf}
-use Rattle.protocol_state.specs.Sound.{Position, Sound}
+use Rattle.protocol_state.specs.Sound.{Sound}
 use Rattle.protocol_state.proofs.Decision.{reads-running}
 use Rattle.protocol_state.proofs.Places.{between, is-between, task-allowed, read-allowed}
 use Rattle.protocol_state.proofs.Free.{boxes-inside, lowest-free}
@@ -30,23 +31,23 @@ cell-apart u p t y a b e = omega arith
 
 -- a store at position y of task t, read at position p of task u
 stored : (xs : List ℕ) (t y v d u p : ℕ) → (1 ≤ y) × (y ≤ 10) → cellOf t y < length xs
-    → cond (isPosition p) (at (set xs (cellOf t y) v) (cellOf u p)) d ≡ cond (eqb u t && eqb p y) v (cond (isPosition p) (at xs (cellOf u p)) d)
+    → cond (oneTo positions p) (at (set xs (cellOf t y) v) (cellOf u p)) d ≡ cond (eqb u t && eqb p y) v (cond (oneTo positions p) (at xs (cellOf u p)) d)
 stored xs t y v d u p b l = go (ℕ-discrete u t) (ℕ-discrete p y) where
   other : ((u ≡ t) × (p ≡ y) → ⊥) → (eqb u t && eqb p y) ≡ false
-      → cond (isPosition p) (at (set xs (cellOf t y) v) (cellOf u p)) d ≡ cond (eqb u t && eqb p y) v (cond (isPosition p) (at xs (cellOf u p)) d)
-  other n e = rw e (two (isPosition p) refl) where
-    two : (c : Bool) → isPosition p ≡ c → cond c (at (set xs (cellOf t y) v) (cellOf u p)) d ≡ cond c (at xs (cellOf u p)) d
+      → cond (oneTo positions p) (at (set xs (cellOf t y) v) (cellOf u p)) d ≡ cond (eqb u t && eqb p y) v (cond (oneTo positions p) (at xs (cellOf u p)) d)
+  other n e = rw e (two (oneTo positions p) refl) where
+    two : (c : Bool) → oneTo positions p ≡ c → cond c (at (set xs (cellOf t y) v) (cellOf u p)) d ≡ cond c (at xs (cellOf u p)) d
     two true i = getD-set-other xs (cellOf t y) (cellOf u p) v 0 (λ k. n (cell-apart u p t y (between 10 p i) b k))
     two false i = refl
 
   go : Dec (u ≡ t) → Dec (p ≡ y)
-      → cond (isPosition p) (at (set xs (cellOf t y) v) (cellOf u p)) d ≡ cond (eqb u t && eqb p y) v (cond (isPosition p) (at xs (cellOf u p)) d)
+      → cond (oneTo positions p) (at (set xs (cellOf t y) v) (cellOf u p)) d ≡ cond (eqb u t && eqb p y) v (cond (oneTo positions p) (at xs (cellOf u p)) d)
   go (yes i) (yes k) = rw (i, k, is-between 10 y b, eq-eqb t t refl, eq-eqb y y refl) (getD-set-same xs (cellOf t y) v 0 l)
   go (yes i) (no k) = other (λ h. k (h .1)) (rw (eq-eqb u t i) (ne-eqb p y k))
   go (no i) k = other (λ h. i (h .0)) (rw (ne-eqb u t i))
 
 module _ {ahead : ℕ → ℕ → Bool} {size : Size} (q : Saved) (S : Shape size q) (G : Sound ahead size q) where
-  place : (t y : ℕ) → Position ahead q t y → (1 ≤ y) × (y ≤ 10)
+  place : (t y : ℕ) → Position (table ahead q) t y → (1 ≤ y) × (y ≤ 10)
   place t y h = omega (arith, keeps.few q G t, h .0, h .1)
 
   has-room : (t : ℕ) → t < q .tasks → t < size .tasks

@@ -80,9 +80,9 @@ active p = not (eqb p 0)
 abbrev pub busy : Saved → ℕ → Bool
 busy q t = active (at (q .phase) t)
 
--- p is one of the positions that a task can have at all
-abbrev pub isPosition : ℕ → Bool
-isPosition p = leb 1 p && leb p positions
+-- p is one of 1 to m
+abbrev pub oneTo : ℕ → ℕ → Bool
+oneTo m p = leb 1 p && leb p m
 
 -- its boxes; past the lists all is as in fresh boxes, and what is no position holds the default
 abbrev pub boxes : Saved → Boxes ℕ
@@ -90,5 +90,5 @@ boxes q = record {
   newest = λ t. getD (q .newest) t 1;
   previous = λ t. getD (q .previous) t 1;
   pointer = at (q .pointer);
-  cell = λ t p. cond (isPosition p) (at (q .cells) (cellOf t p)) (at (q .defaults) t);
+  cell = λ t p. cond (oneTo positions p) (at (q .cells) (cellOf t p)) (at (q .defaults) t);
 }

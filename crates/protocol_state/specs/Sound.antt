@@ -5,13 +5,14 @@ use mathlib.Core.Bool.{Bool, true, cond, not, _&&_, _||_}
 use Prim.Native.Nat.{ℕ, _+_, _≤_, _<_}
 use lib.Dec.{eqb, ltb, leb}
 use Rattle.lists.specs.Lists.{every}
-use Rattle.protocol.specs.Table.{behinds}
-use Rattle.protocol_state.specs.Saved.{Size, Saved, at}
+use Rattle.protocol.specs.Table.{behinds, N}
+use Rattle.protocol.specs.Ranges.{Position}
+use Rattle.protocol_state.specs.Saved.{Size, Saved, at, table, oneTo}
 use Rattle.protocol_state.specs.Rules.{judgedTable}
 
 -- y is one of N + 2 positions
 abbrev pub within : ℕ → ℕ → Bool
-within N y = leb 1 y && leb y (N + 2)
+within N y = oneTo (N + 2) y
 
 -- a task with this phase, newest and previous, and N links to readers behind: one of the three phases, both positions in 1 to N + 2
 abbrev pub taskIs : ℕ → ℕ → ℕ → ℕ → Bool
@@ -40,22 +41,14 @@ module _ (ahead : ℕ → ℕ → Bool) where
   isSound size q =
       soundParts size (q .tasks) (q .links) (at (q .writer)) (at (q .reader)) (at (q .kind)) (at (q .phase)) (at (q .newest)) (at (q .previous)) (at (q .pointer))
 
-  -- N of a task
-  abbrev pub behindsOf : Saved → ℕ → ℕ
-  behindsOf q t = behinds ahead (at (q .writer)) (at (q .reader)) t (q .links)
-
-  -- y is one of its positions
-  abbrev pub Position : Saved → ℕ → ℕ → Type 0
-  Position q t y = (1 ≤ y) × (y ≤ behindsOf q t + 2)
-
   -- document 01's sentence: the table keeps rules 2 to 9, newest and previous lie in 1 to N + 2, each present pointer does so for its writer,
   -- no pointer of an active reader is absent, and every pointer from a writer ahead of an idle reader is absent. `phase` says besides that a saved
   -- number is one of the three phases: the document knows no other
   pub record Sound (size : Size) (q : Saved) : Type 0 where
     pub rules : judgedTable ahead (q .tasks) (at (q .writer)) (at (q .reader)) (at (q .kind)) size (q .links) ≡ 0
     pub phase : (t : ℕ) → t < q .tasks → at (q .phase) t < 3
-    pub newest : (t : ℕ) → t < q .tasks → Position q t (at (q .newest) t)
-    pub previous : (t : ℕ) → t < q .tasks → Position q t (at (q .previous) t)
-    pub pointer : (l : ℕ) → l < q .links → at (q .pointer) l ≤ behindsOf q (at (q .writer) l) + 2
+    pub newest : (t : ℕ) → t < q .tasks → Position (table ahead q) t (at (q .newest) t)
+    pub previous : (t : ℕ) → t < q .tasks → Position (table ahead q) t (at (q .previous) t)
+    pub pointer : (l : ℕ) → l < q .links → at (q .pointer) l ≤ N (table ahead q) (at (q .writer) l) + 2
     pub present : (l : ℕ) → l < q .links → (at (q .phase) (at (q .reader) l) ≡ 0 → ⊥) → 1 ≤ at (q .pointer) l
     pub absent : (l : ℕ) → l < q .links → ahead (at (q .writer) l) (at (q .reader) l) ≡ true → at (q .phase) (at (q .reader) l) ≡ 0 → at (q .pointer) l ≡ 0
