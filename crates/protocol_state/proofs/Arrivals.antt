@@ -16,7 +16,7 @@ use Rattle.protocol_state.specs.Next.{newestAfter, previousAfter, pointe
 use Rattle.protocol_state.proofs.Places.{changed}
 use Rattle.protocol_state.proofs.Free.{lowestAt}
 
-module _ (ahead : ℕ → ℕ → Bool) {size : Size} (q : Saved) (S : Shape size q) (s : ℕ) (small : s < 2 ^ (q .tasks)) where
+module _ {size : Size} (q : Saved) (S : Shape size q) (s : ℕ) (small : s < 2 ^ (q .tasks)) where
   -- the set has tasks of the table only
   in-set : (t : ℕ) → (ltb t (q .tasks) && has s t) ≡ has s t
   in-set t = go (has s t) refl where
@@ -26,26 +26,26 @@ module _ (ahead : ℕ → ℕ → Bool) {size : Size} (q : Saved) (S : Shape siz
 
   module _ (fits : q .tasks ≤ size .tasks) where
     -- a task of the set takes the lowest free position
-    pub newest-at : (t d : ℕ) → getD (newestAfter ahead s q) t d
+    pub newest-at : (ahead : ℕ → ℕ → Bool) (t d : ℕ) → getD (newestAfter ahead s q) t d
         ≡ cond (has s t) (lowestAt ahead q t (getD (q .newest) t d)) (getD (q .newest) t d)
     unfolding newestAfter
-    newest-at t d =
+    newest-at ahead t d =
         changed (has s) (lowestFree ahead (at (q .writer)) (at (q .reader)) (at (q .pointer)) (q .links)) (q .tasks) (q .newest) (omega (arith, S .newest)) t d
         ∙ rw (in-set t)
 
     -- and its newest becomes its previous
-    pub previous-at : (t d : ℕ) → getD (previousAfter ahead s q) t d ≡ cond (has s t) (at (q .newest) t) (getD (q .previous) t d)
+    pub previous-at : (t d : ℕ) → getD (previousAfter s q) t d ≡ cond (has s t) (at (q .newest) t) (getD (q .previous) t d)
     unfolding previousAfter
     previous-at t d = changed (has s) (λ i x. at (q .newest) i) (q .tasks) (q .previous) (omega (arith, S .previous)) t d ∙ rw (in-set t)
 
     -- it comes to the phase that the table decides
-    pub phase-at : (t : ℕ) → at (phaseAfter ahead s q) t ≡ cond (has s t) (decided 0 (at (q .phase) t)) (at (q .phase) t)
+    pub phase-at : (t : ℕ) → at (phaseAfter s q) t ≡ cond (has s t) (decided 0 (at (q .phase) t)) (at (q .phase) t)
     unfolding phaseAfter
     phase-at t = changed (has s) (λ i x. decided 0 x) (q .tasks) (q .phase) (omega (arith, S .phase)) t 0 ∙ rw (in-set t)
 
 -- where link l's pointer goes, once the writers' part is done
 abbrev pub aim : (ℕ → ℕ → Bool) → ℕ → Saved → ℕ → ℕ
-aim ahead s q l = cond (delayedKind (at (q .kind) l)) (at (previousAfter ahead s q) (at (q .writer) l)) (at (newestAfter ahead s q) (at (q .writer) l))
+aim ahead s q l = cond (delayedKind (at (q .kind) l)) (at (previousAfter s q) (at (q .writer) l)) (at (newestAfter ahead s q) (at (q .writer) l))
 
 -- a link whose reader is in the set goes there, and no other
 pub pointer-at : (ahead : ℕ → ℕ → Bool) {size : Size} (q : Saved) → Shape size q → (s : ℕ) → q .links ≤ size .links → (l : ℕ)

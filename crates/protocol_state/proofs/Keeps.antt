@@ -47,7 +47,7 @@ next-shape ahead {size} {q} S (arrival s) = record {
   writer = S .writer;
   reader = S .reader;
   kind = S .kind;
-  pointer = length-upto (pointerAt s (at (q .writer)) (at (q .reader)) (at (q .kind)) (at (newestAfter ahead s q)) (at (previousAfter ahead s q))) (q .links) (q .pointer) ∙ S .pointer;
+  pointer = length-upto (pointerAt s (at (q .writer)) (at (q .reader)) (at (q .kind)) (at (newestAfter ahead s q)) (at (previousAfter s q))) (q .links) (q .pointer) ∙ S .pointer;
 }
 next-shape ahead {size} {q} S (start t) = record {
   defaults = S .defaults;
@@ -94,37 +94,37 @@ module _ {ahead : ℕ → ℕ → Bool} {size : Size} (q : Saved) (G : Sound ahe
       small = arrival-allowed s (q .tasks) (at (q .phase)) ok .0
 
       -- who arrives was idle, and waits now
-      pub were-idle : (t : ℕ) → has s t ≡ true → (at (q .phase) t ≡ 0) × (at (phaseAfter ahead s q) t ≡ 1)
+      pub were-idle : (t : ℕ) → has s t ≡ true → (at (q .phase) t ≡ 0) × (at (phaseAfter s q) t ≡ 1)
       were-idle t e =
           let k : t < q .tasks = has-below s (q .tasks) t small e in
           let i = arrives-idle (at (q .phase) t) (G .phase t k) (arrival-allowed s (q .tasks) (at (q .phase)) ok .1 t k e) in
-          (i .0, phase-at ahead q S s small (room .0) t ∙ rw e (i .1))
+          (i .0, phase-at q S s small (room .0) t ∙ rw e (i .1))
 
       -- the others are in the phase that they were in
-      pub phase-kept : (t : ℕ) → has s t ≡ false → at (phaseAfter ahead s q) t ≡ at (q .phase) t
-      phase-kept t e = phase-at ahead q S s small (room .0) t ∙ rw e
+      pub phase-kept : (t : ℕ) → has s t ≡ false → at (phaseAfter s q) t ≡ at (q .phase) t
+      phase-kept t e = phase-at q S s small (room .0) t ∙ rw e
 
       newest-good : (t : ℕ) → t < q .tasks → Position (table ahead q) t (at (newestAfter ahead s q) t)
-      newest-good t l = rw (newest-at ahead q S s small (room .0) t 0) (go (has s t)) where
+      newest-good t l = rw (newest-at q S s small (room .0) ahead t 0) (go (has s t)) where
         go : (b : Bool) → Position (table ahead q) t (cond b (lowestAt ahead q t (at (q .newest) t)) (at (q .newest) t))
         go true = lowest-position ahead q t (at (q .newest) t)
         go false = G .newest t l
 
-      previous-good : (t : ℕ) → t < q .tasks → Position (table ahead q) t (at (previousAfter ahead s q) t)
-      previous-good t l = rw (previous-at ahead q S s small (room .0) t 0) (go (has s t)) where
+      previous-good : (t : ℕ) → t < q .tasks → Position (table ahead q) t (at (previousAfter s q) t)
+      previous-good t l = rw (previous-at q S s small (room .0) t 0) (go (has s t)) where
         go : (b : Bool) → Position (table ahead q) t (cond b (at (q .newest) t) (at (q .previous) t))
         go true = G .newest t l
         go false = G .previous t l
 
-      phase-good : (t : ℕ) → t < q .tasks → at (phaseAfter ahead s q) t < 3
+      phase-good : (t : ℕ) → t < q .tasks → at (phaseAfter s q) t < 3
       phase-good t l = go (has s t) refl where
-        go : (b : Bool) → has s t ≡ b → at (phaseAfter ahead s q) t < 3
+        go : (b : Bool) → has s t ≡ b → at (phaseAfter s q) t < 3
         go true e = omega (arith, were-idle t e .1)
         go false e = rw (phase-kept t e) (G .phase t l)
 
       aim-good : (l : ℕ) → l < q .links → Position (table ahead q) (at (q .writer) l) (aim ahead s q l)
       aim-good l h = go (delayedKind (at (q .kind) l)) where
-        go : (b : Bool) → Position (table ahead q) (at (q .writer) l) (cond b (at (previousAfter ahead s q) (at (q .writer) l)) (at (newestAfter ahead s q) (at (q .writer) l)))
+        go : (b : Bool) → Position (table ahead q) (at (q .writer) l) (cond b (at (previousAfter s q) (at (q .writer) l)) (at (newestAfter ahead s q) (at (q .writer) l)))
         go true = previous-good (at (q .writer) l) (obeys l h .writer)
         go false = newest-good (at (q .writer) l) (obeys l h .writer)
 
@@ -149,12 +149,12 @@ module _ {ahead : ℕ → ℕ → Bool} {size : Size} (q : Saved) (G : Sound ahe
           pointer l h true e = rw (aimed l h e) (aim-good l h .1)
           pointer l h false e = rw (stays l h e) (G .pointer l h)
 
-          present : (l : ℕ) → l < q .links → (b : Bool) → has s (at (q .reader) l) ≡ b → (at (phaseAfter ahead s q) (at (q .reader) l) ≡ 0 → ⊥) → 1 ≤ at (pointerAfter ahead s q) l
+          present : (l : ℕ) → l < q .links → (b : Bool) → has s (at (q .reader) l) ≡ b → (at (phaseAfter s q) (at (q .reader) l) ≡ 0 → ⊥) → 1 ≤ at (pointerAfter ahead s q) l
           present l h true e n = rw (aimed l h e) (aim-good l h .0)
           present l h false e n = rw (stays l h e) (G .present l h (λ z. n (phase-kept (at (q .reader) l) e ∙ z)))
 
           absent : (l : ℕ) → l < q .links → (b : Bool) → has s (at (q .reader) l) ≡ b → ahead (at (q .writer) l) (at (q .reader) l) ≡ true
-              → at (phaseAfter ahead s q) (at (q .reader) l) ≡ 0 → at (pointerAfter ahead s q) l ≡ 0
+              → at (phaseAfter s q) (at (q .reader) l) ≡ 0 → at (pointerAfter ahead s q) l ≡ 0
           absent l h true e a z = absurd (omega (arith, were-idle (at (q .reader) l) e .1))
           absent l h false e a z = stays l h e ∙ G .absent l h a (sym (phase-kept (at (q .reader) l) e) ∙ z)
 
@@ -178,10 +178,10 @@ module _ {ahead : ℕ → ℕ → Bool} {size : Size} (q : Saved) (G : Sound ahe
       decided-start = starts-waiting (at (q .phase) t) (G .phase t start-known) (task-allowed ahead 1 t (q .tasks) (at (q .phase)) ok .1)
 
       -- who starts waited, and runs now
-      pub was-waiting : (at (q .phase) t ≡ 1) × (at (started ahead t q .phase) t ≡ 2)
+      pub was-waiting : (at (q .phase) t ≡ 1) × (at (started t q .phase) t ≡ 2)
       was-waiting = (decided-start .0, phase-same t _ start-known ∙ decided-start .1)
 
-      started-sound : Sound ahead size (started ahead t q)
+      started-sound : Sound ahead size (started t q)
       started-sound = record {
         rules = G .rules;
         phase = phases-good t (decided 1 (at (q .phase) t)) start-known (omega (arith, decided-start .1));
@@ -192,12 +192,12 @@ module _ {ahead : ℕ → ℕ → Bool} {size : Size} (q : Saved) (G : Sound ahe
         absent = λ l h a z. absent l h (ℕ-discrete (at (q .reader) l) t) a z;
       }
         where
-          present : (l : ℕ) → l < q .links → Dec (at (q .reader) l ≡ t) → (at (started ahead t q .phase) (at (q .reader) l) ≡ 0 → ⊥) → 1 ≤ at (q .pointer) l
+          present : (l : ℕ) → l < q .links → Dec (at (q .reader) l ≡ t) → (at (started t q .phase) (at (q .reader) l) ≡ 0 → ⊥) → 1 ≤ at (q .pointer) l
           present l h (yes e) n = G .present l h (rw e (λ z. omega (arith, was-waiting .0)))
           present l h (no e) n = G .present l h (λ z. n (getD-set-other (q .phase) t (at (q .reader) l) _ 0 e ∙ z))
 
           absent : (l : ℕ) → l < q .links → Dec (at (q .reader) l ≡ t) → ahead (at (q .writer) l) (at (q .reader) l) ≡ true
-              → at (started ahead t q .phase) (at (q .reader) l) ≡ 0 → at (q .pointer) l ≡ 0
+              → at (started t q .phase) (at (q .reader) l) ≡ 0 → at (q .pointer) l ≡ 0
           absent l h (yes e) a z = absurd (omega (arith, was-waiting .1, rw e at z))
           absent l h (no e) a z = G .absent l h a (sym (getD-set-other (q .phase) t (at (q .reader) l) _ 0 e) ∙ z)
 

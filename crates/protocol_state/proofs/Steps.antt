@@ -60,8 +60,8 @@ module _ {ahead : ℕ → ℕ → Bool} {size : Size} (q : Saved) (S : Shape siz
   arrived-step : (s : ℕ) → judgedArrival s (q .tasks) (at (q .phase)) ≡ 0 → Arrived (table ahead q) (Lowest (table ahead q)) s (boxes q) (boxes (arrived ahead s q))
   arrived-step s ok = record {
     previous = λ t. previous t (has s t) refl;
-    chosen = λ t e. rw (newest-at ahead q S s small (keeps.room q G .0) t 1, e) (lowest-free ahead q t (keeps.few q G t));
-    kept = λ t e. newest-at ahead q S s small (keeps.room q G .0) t 1 ∙ rw e;
+    chosen = λ t e. rw (newest-at q S s small (keeps.room q G .0) ahead t 1, e) (lowest-free ahead q t (keeps.few q G t));
+    kept = λ t e. newest-at q S s small (keeps.room q G .0) ahead t 1 ∙ rw e;
     pointer = λ l. pointer-at ahead q S s (keeps.room q G .1) l ∙ pointer l (comes (table ahead q) s l) refl;
     cell = λ t p. refl;
   }
@@ -72,12 +72,12 @@ module _ {ahead : ℕ → ℕ → Bool} {size : Size} (q : Saved) (S : Shape siz
       after : Shape size (arrived ahead s q)
       after = keeps.next-shape ahead S (arrival s)
 
-      previous : (t : ℕ) (b : Bool) → has s t ≡ b → getD (previousAfter ahead s q) t 1 ≡ cond b (getD (q .newest) t 1) (getD (q .previous) t 1)
-      previous t true e = previous-at ahead q S s small (keeps.room q G .0) t 1 ∙ rw e (sym (newest-inside t (has-below s (q .tasks) t small e)))
-      previous t false e = previous-at ahead q S s small (keeps.room q G .0) t 1 ∙ rw e
+      previous : (t : ℕ) (b : Bool) → has s t ≡ b → getD (previousAfter s q) t 1 ≡ cond b (getD (q .newest) t 1) (getD (q .previous) t 1)
+      previous t true e = previous-at q S s small (keeps.room q G .0) t 1 ∙ rw e (sym (newest-inside t (has-below s (q .tasks) t small e)))
+      previous t false e = previous-at q S s small (keeps.room q G .0) t 1 ∙ rw e
 
       pointer : (l : ℕ) (b : Bool) → comes (table ahead q) s l ≡ b → cond b (aim ahead s q l) (at (q .pointer) l)
-          ≡ cond b (cond (delayedKind (at (q .kind) l)) (getD (previousAfter ahead s q) (at (q .writer) l) 1) (getD (newestAfter ahead s q) (at (q .writer) l) 1)) (at (q .pointer) l)
+          ≡ cond b (cond (delayedKind (at (q .kind) l)) (getD (previousAfter s q) (at (q .writer) l) 1) (getD (newestAfter ahead s q) (at (q .writer) l) 1)) (at (q .pointer) l)
       pointer l false e = refl
       pointer l true e =
           let w = has-room (at (q .writer) l) (keeps.obeys q G l (ltb-true l (q .links) (and-left (ltb l (q .links)) _ e)) .writer) in

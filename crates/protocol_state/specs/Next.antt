@@ -43,9 +43,21 @@ pointerAt s W R K newest previous l x = aimed s (W l) (R l) (K l) newest previou
 abbrev pub phaseAt : ℕ → ℕ → ℕ → ℕ
 phaseAt s t x = cond (has s t) (decided 0 x) x
 
+-- the previous positions after the arrival of the set s
+unfoldable pub previousAfter : ℕ → Saved → List ℕ
+previousAfter s q = upto (previousAt s (at (q .newest))) (q .tasks) (q .previous)
+
+-- the phases
+unfoldable pub phaseAfter : ℕ → Saved → List ℕ
+phaseAfter s q = upto (phaseAt s) (q .tasks) (q .phase)
+
 -- the phases after an event of kind k by task t
 abbrev pub phasesAfter : ℕ → ℕ → List ℕ → List ℕ
 phasesAfter k t ph = set ph t (decided k (at ph t))
+
+-- start: the task is running, and nothing else changes
+abbrev pub started : ℕ → Saved → Saved
+started t q = withParts q (phasesAfter 1 t (q .phase)) (q .newest) (q .previous) (q .cells) (q .pointer)
 
 -- the number that link l reads: the one at its pointer in its writer's positions
 abbrev pub numberOf : ℕ → (ℕ → ℕ) → (ℕ → ℕ) → (ℕ → ℕ) → ℕ
@@ -68,26 +80,14 @@ module _ (ahead : ℕ → ℕ → Bool) where
   unfoldable pub newestAfter : ℕ → Saved → List ℕ
   newestAfter s q = upto (newestAt s (at (q .writer)) (at (q .reader)) (at (q .pointer)) (q .links)) (q .tasks) (q .newest)
 
-  -- the previous positions
-  unfoldable pub previousAfter : ℕ → Saved → List ℕ
-  previousAfter s q = upto (previousAt s (at (q .newest))) (q .tasks) (q .previous)
-
   -- the pointers, set only after the writers' part
   unfoldable pub pointerAfter : ℕ → Saved → List ℕ
   pointerAfter s q =
       upto (pointerAt s (at (q .writer)) (at (q .reader)) (at (q .kind)) (at (newestAfter s q)) (at (previousAfter s q))) (q .links) (q .pointer)
 
-  -- the phases
-  unfoldable pub phaseAfter : ℕ → Saved → List ℕ
-  phaseAfter s q = upto (phaseAt s) (q .tasks) (q .phase)
-
   -- arrival of the set s: no mailbox changes
   abbrev pub arrived : ℕ → Saved → Saved
   arrived s q = withParts q (phaseAfter s q) (newestAfter s q) (previousAfter s q) (q .cells) (pointerAfter s q)
-
-  -- start: the task is running, and nothing else changes
-  abbrev pub started : ℕ → Saved → Saved
-  started t q = withParts q (phasesAfter 1 t (q .phase)) (q .newest) (q .previous) (q .cells) (q .pointer)
 
   -- finish: the value goes to the newest position, pointers from writers ahead become absent, the task is idle
   abbrev pub finished : ℕ → ℕ → Saved → Saved
