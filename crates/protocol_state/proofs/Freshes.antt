@@ -16,7 +16,7 @@ use Rattle.protocol_state.specs.Saved.{Size, Shape, at, cellOf, position
 use Rattle.protocol_state.specs.Rules.{fault, judgedTable}
 use Rattle.protocol_state.specs.Sound.{isSound, Sound}
 use Rattle.protocol_state.specs.Fresh.{copied, filled, freshOf, single, Made, made}
-use Rattle.protocol_state.specs.Reached.{Agrees}
+use Rattle.protocol_state.specs.Reached.{idle, Agrees}
 use Rattle.protocol_state.proofs.Places.{replicated, repeated, zeros, between, leading-same}
 use Rattle.protocol_state.proofs.Rules as rules
 use Rattle.protocol_state.proofs.Sound.{says-sound}
@@ -75,7 +75,7 @@ module _ (size : Size) (T L : ℕ) (D W R K : List ℕ) where
   -- nothing has happened, and every task is idle
   pub fresh-agrees : Agrees [] (freshOf size T L D W R K)
   unfolding freshOf arrivals starts finishes
-  fresh-agrees t = record { begun = omega arith; come = omega arith; once = omega arith; phase = rw (zeros (size .tasks) t) }
+  fresh-agrees t = rw (zeros (size .tasks) t) idle
 
   -- its boxes are fresh
   pub fresh-boxes : (ahead : ℕ → ℕ → Bool) → Fresh (table ahead (freshOf size T L D W R K)) (boxes (freshOf size T L D W R K))

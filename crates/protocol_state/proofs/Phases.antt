@@ -6,12 +6,13 @@ use mathlib.Core.List.{List, _∷_}
 use Prim.Native.Nat.{ℕ, suc, _^_, _<_}
 use native.Mathlib.Omega.{arith}
 use native.Mathlib.Decide.{ℕ-discrete}
-use borrow.Author.Tests.{lt-ltb, le-ltb, lt-leb, leb-false, eqb-true, eqb-false}
+use borrow.Author.Tests.{lt-ltb, le-ltb, lt-leb, leb-false}
 use lib.Dec.{eqb, ltb, leb}
 use lib.Seq.{getD-set-other}
 use Rattle.lists.specs.Lists.{some}
 use Rattle.protocol.specs.Event.{Event, arrival, start, read, finish, has}
-use Rattle.protocol.specs.History.{arrivals, starts, finishes, active, waiting, running}
+use Rattle.protocol.specs.History.{arrivals, starts, finishes, active}
+use Rattle.protocol.specs.History as history
 use Rattle.protocol.specs.Schedule.{urgent, judged}
 use Rattle.protocol.proofs.Counts.{arrivals-in, arrivals-out, starts-same, starts-other, finishes-same, finishes-other}
 use Rattle.protocol_state.specs.Saved.{Size, Saved, Shape, at, table}
@@ -19,20 +20,20 @@ use Rattle.protocol_state.specs.Decision.{decided}
 use Rattle.protocol_state.specs.Judge.{allows, mayArrive, judgedArrival, preempted, judgedTask, judgedRead, judgedOn}
 use Rattle.protocol_state.specs.Next.{next}
 use Rattle.protocol_state.specs.Sound.{Sound}
-use Rattle.protocol_state.specs.Reached.{Stands, Agrees}
+use Rattle.protocol_state.specs.Reached.{Stands, idle, waiting, running, Agrees}
 use Rattle.protocol_state.proofs.Decision.{decided-rule}
 use Rattle.protocol_state.proofs.Places.{some-same, every-none-fails}
 use Rattle.protocol_state.proofs.Keeps.{obeys, were-idle, phase-kept, was-waiting, was-running}
 
 -- ---- a step of one task
 arrives : {a s f : ℕ} → Stands 0 a s f → Stands 1 (suc a) s f
-arrives c = record { begun = c .begun; come = omega arith; once = omega arith; phase = omega arith }
+arrives idle = waiting
 
 begins : {a s f : ℕ} → Stands 1 a s f → Stands 2 a (suc s) f
-begins c = record { begun = omega arith; come = omega arith; once = c .once; phase = omega arith }
+begins waiting = running
 
 ends : {a s f : ℕ} → Stands 2 a s f → Stands 0 a s (suc f)
-ends c = record { begun = omega arith; come = c .come; once = omega arith; phase = omega arith }
+ends running = idle
 
 -- each allowed event keeps phases and history in agreement
 pub agrees-next : {ahead : ℕ → ℕ → Bool} {size : Size} {q : Saved} → Shape size q → Sound ahead size q → (h : List (Event ℕ)) → Agrees h q
@@ -59,27 +60,23 @@ agrees-next {ahead} {size} {q} S G h A (finish u v) ok t = go (ℕ-discrete t u)
   go (no e) = rw (getD-set-other (q .phase) u t _ 0 e, finishes-other h u t v (λ k. e (sym k))) (A t)
 
 -- ---- a phase, by the counts
-module _ {p a s f : ℕ} (c : Stands p a s f) where
-  -- active exactly if not idle
-  pub active-is : ltb f a ≡ not (eqb p 0)
-  active-is = go (eqb p 0) refl where
-    go : (b : Bool) → eqb p 0 ≡ b → ltb f a ≡ not b
-    go true e = le-ltb f a (omega (arith, eqb-true p 0 e))
-    go false e = lt-ltb f a (omega (arith, eqb-false p 0 e))
+-- active exactly if not idle
+pub active-is : {p a s f : ℕ} → Stands p a s f → ltb f a ≡ not (eqb p 0)
+active-is (idle {n}) = le-ltb n n (omega arith)
+active-is (waiting {n}) = lt-ltb n (suc n) (omega arith)
+active-is (running {n}) = lt-ltb n (suc n) (omega arith)
 
-  -- waiting by the history exactly in phase 1
-  waiting-is : ltb s a ≡ eqb p 1
-  waiting-is = go (eqb p 1) refl where
-    go : (b : Bool) → eqb p 1 ≡ b → ltb s a ≡ b
-    go true e = lt-ltb s a (omega (arith, eqb-true p 1 e))
-    go false e = le-ltb s a (omega (arith, eqb-false p 1 e))
+-- waiting by the history exactly in phase 1
+waiting-is : {p a s f : ℕ} → Stands p a s f → ltb s a ≡ eqb p 1
+waiting-is (idle {n}) = le-ltb n n (omega arith)
+waiting-is (waiting {n}) = lt-ltb n (suc n) (omega arith)
+waiting-is (running {n}) = le-ltb (suc n) (suc n) (omega arith)
 
-  -- running by the history exactly in phase 2
-  running-is : ltb f s ≡ eqb p 2
-  running-is = go (eqb p 2) refl where
-    go : (b : Bool) → eqb p 2 ≡ b → ltb f s ≡ b
-    go true e = lt-ltb f s (omega (arith, eqb-true p 2 e))
-    go false e = le-ltb f s (omega (arith, eqb-false p 2 e))
+-- running by the history exactly in phase 2
+running-is : {p a s f : ℕ} → Stands p a s f → ltb f s ≡ eqb p 2
+running-is (idle {n}) = le-ltb n n (omega arith)
+running-is (waiting {n}) = le-ltb n n (omega arith)
+running-is (running {n}) = lt-ltb n (suc n) (omega arith)
 
 swap : (x y : ℕ) (b : Bool) → cond (not b) x y ≡ cond b y x
 swap x y true = refl
@@ -106,8 +103,8 @@ module _ {ahead : ℕ → ℕ → Bool} {size : Size} (q : Saved) (G : Sound ahe
 
   running-turn : (k t y : ℕ) → decided k (at (q .phase) t) ≡ cond (eqb (at (q .phase) t) 2) y 15 → allows y ≡ true
       → cond (allows (decided k (at (q .phase) t))) (cond (preempted ahead t (q .tasks) (at (q .phase))) 16 0) (decided k (at (q .phase) t))
-      ≡ cond (running h t) (cond (urgent (table ahead q) h t) 0 16) 15
-  running-turn k t y d ok = in-turn k t 2 y 15 (running h t) (running-is (A t)) d ok refl
+      ≡ cond (history.running h t) (cond (urgent (table ahead q) h t) 0 16) 15
+  running-turn k t y d ok = in-turn k t 2 y 15 (history.running h t) (running-is (A t)) d ok refl
 
   -- an arrival: who may arrive is not active
   may-arrive : (m t : ℕ) → t < q .tasks → mayArrive m (at (q .phase)) t ≡ not (has m t && active h t)
@@ -123,7 +120,7 @@ module _ {ahead : ℕ → ℕ → Bool} {size : Size} (q : Saved) (G : Sound ahe
   judged-by-history (arrival m) = guarded (eqb m 0 || leb (2 ^ (q .tasks)) m) _ _ (λ e.
       rw (every-none-fails (mayArrive m (at (q .phase))) (λ t. has m t && active h t) (q .tasks) (may-arrive m)) (swap 0 13 (some (λ t. has m t && active h t) (q .tasks))))
   judged-by-history (start t) = guarded (leb (q .tasks) t) _ _ (λ e.
-      in-turn 1 t 1 2 14 (waiting h t) (waiting-is (A t)) (decided-rule 1 (at (q .phase) t) (omega arith) (G .phase t (leb-false (q .tasks) t e))) refl refl)
+      in-turn 1 t 1 2 14 (history.waiting h t) (waiting-is (A t)) (decided-rule 1 (at (q .phase) t) (omega arith) (G .phase t (leb-false (q .tasks) t e))) refl refl)
   judged-by-history (read l) = guarded (leb (q .links) l) _ _ (λ e.
       let r : at (q .reader) l < q .tasks = obeys q G l (leb-false (q .links) l e) .reader in
       rw (lt-leb (q .tasks) (at (q .reader) l) r)

@@ -3,7 +3,7 @@
 use mathlib.Core.Path.{_≡_}
 use mathlib.Core.Bool.{Bool}
 use mathlib.Core.List.{List}
-use Prim.Native.Nat.{ℕ, suc, _+_, _≤_}
+use Prim.Native.Nat.{ℕ, suc}
 use Rattle.protocol.specs.Event.{Event}
 use Rattle.protocol.specs.History.{arrivals, starts, finishes}
 use Rattle.protocol.specs.Schedule.{urgent}
@@ -12,12 +12,11 @@ use Rattle.protocol_state.specs.Saved.{Size, Saved, Shape, at, table, bo
 use Rattle.protocol_state.specs.Sound.{Sound}
 use Rattle.protocol_state.specs.Give.{Outcome}
 
--- a task in phase p that arrived a times, started s times and finished f times: 0 if all are one, 1 if one arrival is ahead, 2 if its start is too
-pub record Stands (p a s f : ℕ) : Type 0 where
-  pub begun : f ≤ s
-  pub come : s ≤ a
-  pub once : a ≤ suc f
-  pub phase : p + (f + f) ≡ a + s
+-- `Stands p a s f`: a task in phase p, with a arrivals, s starts and f finishes. Idle: all as many; waiting: one arrival more; running: and its start
+pub data Stands : ℕ → ℕ → ℕ → ℕ → Type 0 where
+  idle : {n : ℕ} → Stands 0 n n n
+  waiting : {n : ℕ} → Stands 1 (suc n) n n
+  running : {n : ℕ} → Stands 2 (suc n) (suc n) n
 
 -- every task stands as the history says
 abbrev pub Agrees : List (Event ℕ) → Saved → Type 0
