@@ -103,15 +103,20 @@ unfolding replay
 reached-replay [] r = r
 reached-replay (e ∷ es) r = reached-replay es (reached-after r e)
 
--- whatever events are given to the fresh state of a table that earns no refusal
-pub reached : (ahead : ℕ → ℕ → Bool) (size : Size) (T L : ℕ) (D W R K : List ℕ) → judgedTable ahead T (at W) (at R) (at K) size L ≡ 0 → (es : List (Event ℕ))
-    → Reached ahead size (freshOf size T L D W R K) (replay ahead size (begin (freshOf size T L D W R K)) es)
+-- the fresh state of a table that earns no refusal, before any event
+pub reached-fresh : (ahead : ℕ → ℕ → Bool) (size : Size) (T L : ℕ) (D W R K : List ℕ) → judgedTable ahead T (at W) (at R) (at K) size L ≡ 0
+    → Reached ahead size (freshOf size T L D W R K) (begin (freshOf size T L D W R K))
 unfolding numbers
-reached ahead size T L D W R K ok es = reached-replay es (record {
+reached-fresh ahead size T L D W R K ok = record {
   shape = freshes.fresh-shape size T L D W R K;
   sound = freshes.fresh-sound size T L D W R K ahead ok;
   same = refl;
   agrees = freshes.fresh-agrees size T L D W R K;
   run = published.fresh (freshes.fresh-boxes size T L D W R K ahead);
   read = refl;
-})
+}
+
+-- and whatever events are given to it
+pub reached : (ahead : ℕ → ℕ → Bool) (size : Size) (T L : ℕ) (D W R K : List ℕ) → judgedTable ahead T (at W) (at R) (at K) size L ≡ 0 → (es : List (Event ℕ))
+    → Reached ahead size (freshOf size T L D W R K) (replay ahead size (begin (freshOf size T L D W R K)) es)
+reached ahead size T L D W R K ok es = reached-replay es (reached-fresh ahead size T L D W R K ok)
