@@ -1,5 +1,5 @@
 -- Demand 3, in closed form: each number read is the one from the run where tasks take no time, and the output of an unfinished run is never read.
--- It holds for every free choice, every policy that lets a task run in its turn only, and every type of value.
+-- It holds for every table that is `Lawful`, every free choice, every policy that lets a task run in its turn only, and every type of value.
 -- Assumes nothing.
 use mathlib.Core.Path.{_≡_, refl}
 use mathlib.Core.Bool.{Bool, true, false}

@@ -89,7 +89,7 @@ module _ {Val : Type 0} where
   abbrev pub stamp : List (Event Val) → ℕ → ℕ
   stamp h t = clock (upTo h t)
 
-  -- the value of task w's finish number k; the default d for number 0
+  -- the value of task w's finish number k; the default d for number 0, and for a run not yet finished, which is shown never to be read (`Settled`)
   unfoldable pub output : Val → List (Event Val) → ℕ → ℕ → Val
   output d [] w k = d
   output d (arrival m ∷ h) w k = output d h w k
