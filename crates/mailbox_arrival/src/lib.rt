@@ -1,4 +1,4 @@
-// What an arrival does: the writers' part, then the readers' part, then the phases.
+// What an arrival does: the writers' part, with the phases, then the readers' part.
 ghost use mathlib.Core.Path.{_≡_};
 ghost use mathlib.Core.Bool.{_&&_};
 ghost use Prim.Native.Nat.{_≤_, _<_, min};
@@ -62,7 +62,8 @@ fn is_taken(
     (x == p) | held(writer, reader, pointer, links, t, p)
 }
 
-// The lowest free position of task `t`, whose newest is `x`. Of ten positions at most nine are taken, so the last needs no test.
+// The lowest free position of task `t`, whose newest is `x`. In a table that keeps the rules at most nine of ten positions are taken,
+// so the last needs no test.
 fn lowest_free(
     writer: &[u8; LINKS],
     reader: &[u8; LINKS],
