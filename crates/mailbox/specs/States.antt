@@ -13,6 +13,7 @@ use Rattle.mailbox.specs.declared.State.{State}
 use Rattle.mailbox.specs.declared.Step.{Step}
 use Rattle.mailbox.specs.declared.Made.{Made}
 
+-- the code's state as the protocol's saved state
 abbrev pub saved : State → Saved
 saved q = record {
   tasks = q .tasks;
@@ -28,6 +29,7 @@ saved q = record {
   pointer = q .pointer;
 }
 
+-- and back
 abbrev pub stateOf : Saved → State
 stateOf q = record {
   tasks = q .tasks;
@@ -47,6 +49,7 @@ stateOf q = record {
 abbrev pub stepOf : Reply → Step
 stepOf r = record { state = stateOf (r .state); answer = record { refusal = r .refusal; value = r .value } }
 
+-- what a table makes, as the code hands it back
 abbrev pub madeOf : fresh.Made → Made
 madeOf m = record { refusal = m .refusal; state = stateOf (m .state) }
 
@@ -54,6 +57,7 @@ madeOf m = record { refusal = m .refusal; state = stateOf (m .state) }
 abbrev pub given : State → Event ℕ → Step
 given q e = stepOf (give ltb base (saved q) e)
 
+-- a refusal: the state as lent, the value 0
 abbrev pub refusedStep : State → ℕ → Step
 refusedStep q r = record { state = q; answer = record { refusal = r; value = 0 } }
 

@@ -6,6 +6,7 @@ use Rattle.protocol.specs.Event.{arrival, start, read, finish}
 use Rattle.mailbox_parts.specs.declared.event.Event.{Event}
 use Rattle.mailbox_parts.specs.declared.event.Event.the-variants.{Arrival, Start, Read, Finish}
 
+-- kind by kind
 abbrev pub plain : Event → protocol.Event ℕ
 plain (Arrival s) = arrival s
 plain (Start t) = start t
