@@ -34,7 +34,7 @@ module _ {ahead : ℕ → ℕ → Bool} {size : Size} {q₀ : Saved} {o : Outcom
   pub reached-sound : isSound ahead size (o .state) ≡ true
   reached-sound = says-sound ahead size (o .state) (r .sound)
 
-  -- the state's refusal is what the table and the history say
+  -- 12 to 16, as the state judges them, are what the table and the history say
   pub judged-history : (e : Event ℕ) → judgedOn ahead (o .state) e ≡ judged (table ahead q₀) (urgent (table ahead q₀)) (o .history) e
   judged-history e =
       judged-by-history (o .state) (r .sound) (o .history) (r .agrees) e ∙ ap (λ (T : Table ℕ). judged T (urgent T) (o .history) e) (r .same)
