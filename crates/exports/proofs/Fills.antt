@@ -1,6 +1,6 @@
 -- A state put into the lent parts is the one that was made, or that a replay ended in.
 -- Assumes nothing.
-use mathlib.Core.Path.{_≡_, refl, ap, _∙_}
+use mathlib.Core.Path.{_≡_, ap, _∙_}
 use mathlib.Core.List.{List}
 use Prim.Native.Nat.{ℕ}
 use Rattle.protocol_state.specs.Saved.{Saved}

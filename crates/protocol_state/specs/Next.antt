@@ -47,7 +47,7 @@ phaseAt s t x = cond (has s t) (decided 0 x) x
 unfoldable pub previousAfter : ℕ → Saved → List ℕ
 previousAfter s q = upto (previousAt s (at (q .newest))) (q .tasks) (q .previous)
 
--- the phases
+-- and the phases
 unfoldable pub phaseAfter : ℕ → Saved → List ℕ
 phaseAfter s q = upto (phaseAt s) (q .tasks) (q .phase)
 

@@ -1,6 +1,5 @@
 -- `mailbox_arrival::arrive` meets its contract: what the calls ensure, put together.
 -- Assumes nothing.
-use native.Mathlib.Omega.{arith}
 use borrow.Author.Needs.{needs}
 use Rattle.mailbox_arrival.proofs.arrive.Statement.{statement}
 use Rattle.mailbox_arrival.proofs.arrive.Tie as tie

@@ -1,6 +1,5 @@
 -- `exports::call::ask` meets its contract: each kind by its case.
 -- Assumes nothing.
-use mathlib.Core.Path.{refl}
 use borrow.Author.Needs.{needs}
 use borrow.Author.Tests.{ne-eqb}
 use Rattle.exports.specs.Calls.{called}
