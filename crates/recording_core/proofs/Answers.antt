@@ -14,10 +14,10 @@ use Rattle.protocol.specs.Schedule.{urgent}
 use Rattle.protocol.specs.ZeroTime.{ideals, Settled}
 use Rattle.protocol.specs.Published.{Lowest, Run}
 use Rattle.protocol.specs.Instant.{Order, zeroRun, looked, theres}
-use Rattle.protocol_state.specs.Saved.{Size, Saved, table, boxes}
+use Rattle.protocol_state.specs.Saved.{Size, Saved, table, boxes, busy}
 use Rattle.protocol_state.specs.Rules.{Ranks}
 use Rattle.protocol_state.proofs.Numbers.{reached-settled, reached-zero-run}
-use Rattle.protocol_state.proofs.Totals.{busy, reached-totals}
+use Rattle.protocol_state.proofs.Totals.{reached-totals}
 use Rattle.recording_core.specs.Playing.{Playing}
 use Rattle.recording_core.specs.Promise.{placed}
 use Rattle.recording_core.specs.Right.{Right}

@@ -21,8 +21,9 @@ use Rattle.protocol_state.specs.Judge.{judgedOn}
 use Rattle.protocol_state.specs.Next.{next, valueOf}
 use Rattle.protocol_state.specs.Fresh.{freshOf}
 use Rattle.protocol_state.specs.Give.{Outcome, note, after, replay}
+use Rattle.protocol_state.specs.Reached.{Reached}
 use Rattle.protocol_state.proofs.Give.{done, give-refusal}
-use Rattle.protocol_state.proofs.History.{Reached, reached-sound, reached-refusal, reached-after, reached}
+use Rattle.protocol_state.proofs.History.{reached-sound, reached-refusal, reached-after, reached}
 use Rattle.protocol_state.proofs.Numbers.{reached-ideals}
 use Rattle.recording_format.specs.Play.{Allowed, finally}
 use Rattle.recording_core.specs.Playing.{Playing, noCounts, full, noRoom, listedBy, judgedIn, steppedIn}

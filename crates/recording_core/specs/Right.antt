@@ -9,7 +9,7 @@ use Rattle.protocol.specs.Event.{Event}
 use Rattle.protocol.specs.History.{reads, counts}
 use Rattle.protocol.specs.ZeroTime.{ideals}
 use Rattle.protocol_state.specs.Saved.{Size, Saved, table}
-use Rattle.protocol_state.proofs.History.{Reached}
+use Rattle.protocol_state.specs.Reached.{Reached}
 use Rattle.recording_format.specs.Stands.{Stands}
 use Rattle.recording_format.specs.Format.{encodes, FitEach}
 use Rattle.recording_format.specs.Play.{Reply}

@@ -14,10 +14,9 @@ use Rattle.protocol.specs.Schedule.{urgent}
 use Rattle.protocol.specs.Published.{Lowest, Run}
 use Rattle.protocol.specs.Instant.{upward}
 use Rattle.protocol.proofs.Upward.{upward-order}
-use Rattle.protocol_state.specs.Saved.{Saved, base, table, boxes}
+use Rattle.protocol_state.specs.Saved.{Saved, base, table, boxes, busy}
 use Rattle.protocol_state.specs.Fresh.{freshOf}
 use Rattle.protocol_state.proofs.Rules.{ltb-ranks}
-use Rattle.protocol_state.proofs.Totals.{busy}
 use Rattle.recording_format.specs.Format.{got}
 use Rattle.recording_format.specs.Play.{Reply, reply, Cut}
 use Rattle.recording_format.specs.Section.{Faulty}
