@@ -11,6 +11,7 @@ use Rattle.protocol.specs.Event.{Event}
 use Rattle.protocol_state.specs.Saved.{at}
 use Rattle.protocol_state.specs.Rules.{Ranks, judgedTable}
 use Rattle.protocol_state.proofs.Rules.{obeys, no-fault}
+use Rattle.protocol_state.proofs.History.{reached-possible}
 use Rattle.recording_format.specs.Number.{Bytes}
 use Rattle.recording_format.specs.Stands.{Stands}
 use Rattle.recording_format.specs.Format.{got, encodes, FitEach}
@@ -31,7 +32,7 @@ use Rattle.recording_format.proofs.WholeRecords.{cut-as-whole}
 use Rattle.recording_core.specs.Playing.{Playing, coreOf, judgedIn, steppedIn}
 use Rattle.recording_core.specs.Promise.{past, freshTable, refusedBy, tableOf, Genuine}
 use Rattle.recording_core.specs.Right.{Right, WithTable}
-use Rattle.recording_core.proofs.Right.{refused-by, right-fresh, right-finally, allowed-happens, happens-allowed}
+use Rattle.recording_core.proofs.Right.{refused-by, right-fresh, right-finally, happens-allowed}
 
 -- any default is allowed
 any-allowed : (qs ds : List ℕ) → Allowed anyDefault andDefault qs ds
@@ -61,6 +62,7 @@ module _ {ahead : ℕ → ℕ → Bool} (ranks : Ranks ahead) (most : Limits) (o
     recorded-genuine r =
         let n = length-listed ls in
         let ok : Fine ahead most ds ls = rw n (recorded-judged ahead most (coreOf ahead (most .size) out) s ds ls es r) in
+        let R = goes-on ds ls es ok (r .played .allowed) in
         record {
           bytes = r .bytes;
           fits = (r .tasked .fits, (r .linked .fits, r .played .fits));
@@ -68,8 +70,8 @@ module _ {ahead : ℕ → ℕ → Bool} (ranks : Ranks ahead) (most : Limits) (o
           few-links = links-within most (length ls) (r .linked .few);
           few-events = events-within most (length es) (r .played .few);
           rules = λ l k. obeys ahead (length ds) (at (listed ls .writer)) (at (listed ls .reader)) (at (listed ls .kind)) l (allowed-no-fault ahead (length ds) ls (r .linked .allowed) l (rw n k));
-          happens = allowed-happens ranks es (begins ds ls ok) (r .played .allowed);
-          room = goes-on ds ls es ok (r .played .allowed) .room;
+          happens = reached-possible (R .reached);
+          room = R .room;
         }
 
   -- demand 2: accepted only if genuine

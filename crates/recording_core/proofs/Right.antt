@@ -12,7 +12,7 @@ use Rattle.lists.proofs.Bools.{cond-zero}
 use Rattle.protocol.specs.Event.{Event, arrival, start, read, finish}
 use Rattle.protocol.specs.Table.{Table}
 use Rattle.protocol.specs.History.{Counts, reads, counts}
-use Rattle.protocol.specs.Schedule.{urgent, Possible, judged}
+use Rattle.protocol.specs.Schedule.{Policy, urgent, Possible, AllPossible, judged}
 use Rattle.protocol.specs.ZeroTime.{ideals}
 use Rattle.protocol.proofs.Schedule.{judged-possible, possible-judged}
 use Rattle.protocol_state.specs.Saved.{Size, Saved, at, table}
@@ -27,7 +27,7 @@ use Rattle.protocol_state.proofs.History.{reached-sound, reached-refusal, reach
 use Rattle.protocol_state.proofs.Numbers.{reached-ideals}
 use Rattle.recording_format.specs.Play.{Allowed, finally}
 use Rattle.recording_core.specs.Playing.{Playing, noCounts, full, noRoom, listedBy, judgedIn, steppedIn}
-use Rattle.recording_core.specs.Promise.{past, Happens, placed, refusedBy}
+use Rattle.recording_core.specs.Promise.{past, placed, refusedBy}
 use Rattle.recording_core.specs.Right.{Right}
 use Rattle.recording_core.proofs.Counting.{counts-none, counts-next}
 
@@ -54,6 +54,12 @@ reads-past h (arrival m ∷ es) = reads-past (arrival m ∷ h) es
 reads-past h (start u ∷ es) = reads-past (start u ∷ h) es
 reads-past h (read l ∷ es) = omega (arith, reads-past (read l ∷ h) es)
 reads-past h (finish u v ∷ es) = reads-past (finish u v ∷ h) es
+
+-- of events that could happen, the first ones could
+past-possible : (T : Table ℕ) (may : Policy ℕ) (h es : List (Event ℕ)) → AllPossible T may (past h es) → AllPossible T may h
+unfolding AllPossible past
+past-possible T may h [] p = p
+past-possible T may h (e ∷ es) p = past-possible T may (e ∷ h) es p .1
 
 first-same : {x y : ℕ} {xs ys : List ℕ} → x ∷ xs ≡ y ∷ ys → x ≡ y
 first-same {x} e = ap front e
@@ -161,22 +167,15 @@ module _ {ahead : ℕ → ℕ → Bool} (ranks : Ranks ahead) {size : Size} {q�
   right-finally [] R A = R
   right-finally (e ∷ es) R A = right-finally es (right-next R ranks e (A .0)) (A .1)
 
-  -- events are accepted only if they could happen
-  pub allowed-happens : (es : List (Event ℕ)) {h : List (Event ℕ)} {q : Playing} → Right ahead size q₀ out h q → Allowed (judgedIn ahead size) (steppedIn ahead size) q es
-      → Happens (table ahead q₀) (urgent (table ahead q₀)) h es
-  unfolding Allowed Happens
-  allowed-happens [] R A = tt
-  allowed-happens (e ∷ es) R A = (allowed-could R e (A .0) .0, allowed-happens es (right-next R ranks e (A .0)) (A .1))
-
-  -- and always if they could, and there is room for their numbers
-  pub happens-allowed : (es : List (Event ℕ)) {h : List (Event ℕ)} {q : Playing} → Right ahead size q₀ out h q → Happens (table ahead q₀) (urgent (table ahead q₀)) h es
+  -- events are accepted if they could happen, each in its turn, and there is room for their numbers
+  pub happens-allowed : (es : List (Event ℕ)) {h : List (Event ℕ)} {q : Playing} → Right ahead size q₀ out h q → AllPossible (table ahead q₀) (urgent (table ahead q₀)) (past h es)
       → reads (past h es) ≤ length out → Allowed (judgedIn ahead size) (steppedIn ahead size) q es
-  unfolding Allowed Happens past
+  unfolding Allowed AllPossible past
   happens-allowed [] R A r = tt
   happens-allowed (e ∷ es) {h} R A r =
       let m : reads (e ∷ h) ≤ reads (past (e ∷ h) es) = reads-past (e ∷ h) es in
-      let z = could-allowed R e (A .0) (omega arith) in
-      (z, happens-allowed es (right-next R ranks e z) (A .1) r)
+      let z = could-allowed R e (past-possible (table ahead q₀) (urgent (table ahead q₀)) (e ∷ h) es A .0) (omega arith) in
+      (z, happens-allowed es (right-next R ranks e z) A r)
 
 -- the fresh state of a table that earns no refusal
 pub right-fresh : (ahead : ℕ → ℕ → Bool) (size : Size) (n L : ℕ) (D W R K out : List ℕ) → judgedTable ahead n (at W) (at R) (at K) size L ≡ 0
