@@ -20,10 +20,10 @@ use Rattle.protocol_state.specs.Rules.{Ranks, judgedTable}
 use Rattle.protocol_state.specs.Judge.{judgedOn}
 use Rattle.protocol_state.specs.Next.{next, valueOf}
 use Rattle.protocol_state.specs.Fresh.{freshOf}
-use Rattle.protocol_state.specs.Give.{Outcome, note, after, replay}
+use Rattle.protocol_state.specs.Give.{Outcome, note, replay}
 use Rattle.protocol_state.specs.Reached.{Reached}
-use Rattle.protocol_state.proofs.Give.{done, give-refusal}
-use Rattle.protocol_state.proofs.History.{reached-sound, reached-refusal, reached-after, reached}
+use Rattle.protocol_state.proofs.Give.{give-done}
+use Rattle.protocol_state.proofs.History.{reached-sound, judged-history, after-done, reached-after, reached}
 use Rattle.protocol_state.proofs.Numbers.{reached-ideals}
 use Rattle.recording_format.specs.Play.{Allowed, finally}
 use Rattle.recording_core.specs.Playing.{Playing, noCounts, full, noRoom, listedBy, judgedIn, steppedIn}
@@ -91,17 +91,7 @@ room-enough (start u) h out r = refl
 room-enough (read k) h out r = rw (lt-leb (length out) (reads h) (omega arith))
 room-enough (finish u v) h out r = refl
 
-module _ {ahead : ℕ → ℕ → Bool} {size : Size} {q₀ : Saved} where
-  -- an event that the core allows, as one more of a replay
-  after-next : {o : Outcome} → Reached ahead size q₀ o → (e : Event ℕ) → judgedOn ahead (o .state) e ≡ 0
-      → after ahead size o e ≡ record { state = next ahead (o .state) e; history = e ∷ o .history; numbers = note e (valueOf (o .state) e) (o .numbers) }
-  unfolding after
-  after-next {o} r e z = rw (done (judgedOn ahead (o .state) e) (o .state) (next ahead (o .state) e) (valueOf (o .state) e) (reached-sound r) z)
-
 module _ {ahead : ℕ → ℕ → Bool} {size : Size} {q₀ : Saved} {out : List ℕ} {h : List (Event ℕ)} {q : Playing} (R : Right ahead size q₀ out h q) where
-  judged-is : (e : Event ℕ) → judgedOn ahead (q .state) e ≡ judged (table ahead q₀) (urgent (table ahead q₀)) h e
-  judged-is e = sym (give-refusal ahead size (q .state) e (reached-sound (R .reached))) ∙ reached-refusal (R .reached) e
-
   reads-is : q .counts .reads ≡ reads h
   reads-is = ap (λ (c : Counts). c .reads) (R .counts)
 
@@ -111,7 +101,7 @@ module _ {ahead : ℕ → ℕ → Bool} {size : Size} {q₀ : Saved} {out : List
   -- the refusal of an event is what the table and the history alone say
   pub refused-by : (e : Event ℕ) → judgedIn ahead size q e ≡ refusedBy (table ahead q₀) out h e
   unfolding judgedIn
-  refused-by e = rw (judged-is e, list-length, reads-is)
+  refused-by e = rw (judged-history (R .reached) e, list-length, reads-is)
 
   -- an event is accepted only if it could happen and there is room
   allowed-could : (e : Event ℕ) → judgedIn ahead size q e ≡ 0 → Possible (table ahead q₀) (urgent (table ahead q₀)) h e × (reads (e ∷ h) ≤ length out)
@@ -134,7 +124,10 @@ module _ {ahead : ℕ → ℕ → Bool} {size : Size} {q₀ : Saved} {out : List
     noted = record { state = next ahead (q .state) e; history = e ∷ h; numbers = note e (valueOf (q .state) e) (ideals (table ahead q₀) h) }
 
     noted-reached : Reached ahead size q₀ noted
-    noted-reached = subst (λ (o : Outcome). Reached ahead size q₀ o) (after-next (R .reached) e core-allows) (reached-after (R .reached) e)
+    noted-reached =
+        subst (λ (o : Outcome). Reached ahead size q₀ o)
+        (after-done ahead size (record { state = q .state; history = h; numbers = ideals (table ahead q₀) h }) e _ _ (give-done ahead size (q .state) e (reached-sound (R .reached)) core-allows))
+        (reached-after (R .reached) e)
 
     noted-ideals : note e (valueOf (q .state) e) (ideals (table ahead q₀) h) ≡ ideals (table ahead q₀) (e ∷ h)
     noted-ideals = reached-ideals ranks noted-reached
