@@ -52,7 +52,7 @@ module _ {ahead : ℕ → ℕ → Bool} (ranks : Ranks ahead) (most : Limits) (o
 
   -- and events that are accepted leave it right
   goes-on : (ds : List ℕ) (ls : List Link) (es : List (Event ℕ)) → Fine ahead most ds ls
-      → Allowed (judgedIn ahead (most .size)) (steppedIn ahead (most .size)) (coreOf ahead (most .size) out .start ds (listed ls)) es
+      → Allowed (judgedIn ahead) (steppedIn ahead) (coreOf ahead (most .size) out .start ds (listed ls)) es
       → Right ahead (most .size) (freshTable (most .size) ds ls) out (past [] es) (stateAfter (coreOf ahead (most .size) out) ds ls es)
   goes-on ds ls es ok a = right-finally ranks es (begins ds ls ok) a
 
@@ -110,13 +110,13 @@ module _ {ahead : ℕ → ℕ → Bool} (ranks : Ranks ahead) (most : Limits) (o
     -- the power cut: of an accepted recording only the first m bytes are kept, at least through E. The answer has 1 at the first record that isn't whole,
     -- and the state after the whole records
     pub power-cut : (m : ℕ) → throughE ds ls ≤ m → m < length s
-        → Cut events (steppedIn ahead (most .size)) (coreOf ahead (most .size) out .start ds (listed ls)) es (throughE ds ls) m (recording ahead most (coreOf ahead (most .size) out) (take m s))
+        → Cut events (steppedIn ahead) (coreOf ahead (most .size) out .start ds (listed ls)) es (throughE ds ls) m (recording ahead most (coreOf ahead (most .size) out) (take m s))
     power-cut m h l = recorded-cut ahead most (coreOf ahead (most .size) out) s ds ls es genuine-recorded m h l
 
     -- "The answer is that of its whole records (state, counts, list)": the recording of those records alone is accepted, at the place and with the state
     -- of the answer x to the cut
     pub cut-whole :
-        (m : ℕ) {x : Reply Playing} (c : Cut events (steppedIn ahead (most .size)) (coreOf ahead (most .size) out .start ds (listed ls)) es (throughE ds ls) m x) →
+        (m : ℕ) {x : Reply Playing} (c : Cut events (steppedIn ahead) (coreOf ahead (most .size) out .start ds (listed ls)) es (throughE ds ls) m x) →
         recording ahead most (coreOf ahead (most .size) out) (encodeRecording ds ls (c .whole)) ≡ reply 0 (x .place) (x .state)
     cut-whole m c = cut-as-whole ahead most (coreOf ahead (most .size) out) s ds ls es genuine-recorded m c
 
@@ -131,7 +131,7 @@ module _ {ahead : ℕ → ℕ → Bool} (ranks : Ranks ahead) (most : Limits) (o
       single e = inl (ap (λ (y : Reply Playing). y .state) e)
 
       table : {r p : ℕ} (ds : List ℕ) (ls : List Link) (m : ℕ) (es : List (Event ℕ)) → TableTo ahead most s ds ls m → FitEach events es → Stands s (m + 2) (encodes events es) p
-          → Allowed (judgedIn ahead (most .size)) (steppedIn ahead (most .size)) (coreOf ahead (most .size) out .start ds (listed ls)) es
+          → Allowed (judgedIn ahead) (steppedIn ahead) (coreOf ahead (most .size) out .start ds (listed ls)) es
           → x ≡ reply r p (stateAfter (coreOf ahead (most .size) out) ds ls es) → (x .state ≡ coreOf ahead (most .size) out .single) ⊎ WithTable ahead most out s x
       table ds ls m es t f b a e =
           inr (rw e (record { tasks = ds; links = ls; happened = es; place = m; stands = t; fits = f; read = b; right = goes-on ds ls es (table-ok t) a }))
@@ -143,13 +143,13 @@ module _ {ahead : ℕ → ℕ → Bool} (ranks : Ranks ahead) (most : Limits) (o
       go (linkRecord ds m ls r p n t f e) = single e
       go (eventCount ds ls r p n t u e) = single e
       go (eventRecord ds ls m es r p n t f e) =
-          table ds ls m es t (f .played .fits) (faulty-records events (eventLimit most) (judgedIn ahead (most .size)) (steppedIn ahead (most .size)) f) (f .played .allowed) e
+          table ds ls m es t (f .played .fits) (faulty-records events (eventLimit most) (judgedIn ahead) (steppedIn ahead) f) (f .played .allowed) e
       go (extraBytes ds ls m es p t w h e) = table ds ls m es t (w .kept .fits) (section-records events es (w .bytes)) (w .kept .allowed) e
       go (accepted ds ls m es t w e) = table ds ls m es t (w .kept .fits) (section-records events es (w .bytes)) (w .kept .allowed) e
 
   -- an event record that is refused, its bytes being there: by the table and the accepted events alone
   pub event-refused :
       {s ds : List ℕ} {ls : List Link} {m r p : ℕ} {es : List (Event ℕ)} → TableTo ahead most s ds ls m
-      → Faulty events (eventLimit most) (judgedIn ahead (most .size)) (steppedIn ahead (most .size)) s (coreOf ahead (most .size) out .start ds (listed ls)) m es r p
+      → Faulty events (eventLimit most) (judgedIn ahead) (steppedIn ahead) s (coreOf ahead (most .size) out .start ds (listed ls)) m es r p
       → {e : Event ℕ} {n : ℕ} → eventAt s p ≡ got e n → r ≡ refusedBy (tableOf ahead most ds ls) out (past [] es) e
   event-refused {ds = ds} {ls = ls} {es = es} t f {e} u = f .fault ∙ rw u (refused-by (goes-on ds ls es (table-ok t) (f .played .allowed)) e)

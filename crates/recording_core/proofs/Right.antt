@@ -99,23 +99,23 @@ module _ {ahead : ℕ → ℕ → Bool} {size : Size} {q₀ : Saved} {out : List
   list-length = ap length (R .list) ∙ length-placed (ideals (table ahead q₀) h) out
 
   -- the refusal of an event is what the table and the history alone say
-  pub refused-by : (e : Event ℕ) → judgedIn ahead size q e ≡ refusedBy (table ahead q₀) out h e
+  pub refused-by : (e : Event ℕ) → judgedIn ahead q e ≡ refusedBy (table ahead q₀) out h e
   unfolding judgedIn
   refused-by e = rw (judged-history (R .reached) e, list-length, reads-is)
 
   -- an event is accepted only if it could happen and there is room
-  allowed-could : (e : Event ℕ) → judgedIn ahead size q e ≡ 0 → Possible (table ahead q₀) (urgent (table ahead q₀)) h e × (reads (e ∷ h) ≤ length out)
+  allowed-could : (e : Event ℕ) → judgedIn ahead q e ≡ 0 → Possible (table ahead q₀) (urgent (table ahead q₀)) h e × (reads (e ∷ h) ≤ length out)
   allowed-could e z =
       let b = both-zero (judged (table ahead q₀) (urgent (table ahead q₀)) h e) _ (sym (refused-by e) ∙ z) in
       (judged-possible (table ahead q₀) (urgent (table ahead q₀)) h e (b .0), room-left e h out (R .room) (b .1))
 
   -- and always if it could, and there is
-  could-allowed : (e : Event ℕ) → Possible (table ahead q₀) (urgent (table ahead q₀)) h e → reads (e ∷ h) ≤ length out → judgedIn ahead size q e ≡ 0
+  could-allowed : (e : Event ℕ) → Possible (table ahead q₀) (urgent (table ahead q₀)) h e → reads (e ∷ h) ≤ length out → judgedIn ahead q e ≡ 0
   could-allowed e p r =
       refused-by e ∙ rw (eq-eqb _ 0 (possible-judged (table ahead q₀) (urgent (table ahead q₀)) h e p)) (room-enough e h out r)
 
   -- one accepted event more
-  module _ (ranks : Ranks ahead) (e : Event ℕ) (z : judgedIn ahead size q e ≡ 0) where
+  module _ (ranks : Ranks ahead) (e : Event ℕ) (z : judgedIn ahead q e ≡ 0) where
     core-allows : judgedOn ahead (q .state) e ≡ 0
     unfolding judgedIn
     core-allows = both-zero (judgedOn ahead (q .state) e) _ z .0
@@ -140,7 +140,7 @@ module _ {ahead : ℕ → ℕ → Bool} {size : Size} {q₀ : Saved} {out : List
     listed-next (read l) v i = rw (R .list, reads-is, first-same i, length-ideals (table ahead q₀) h)
     listed-next (finish u x) v i = R .list
 
-    right-next : Right ahead size q₀ out (e ∷ h) (steppedIn ahead size q e)
+    right-next : Right ahead size q₀ out (e ∷ h) (steppedIn ahead q e)
     unfolding steppedIn
     right-next =
         let c = allowed-could e z in
@@ -154,15 +154,15 @@ module _ {ahead : ℕ → ℕ → Bool} {size : Size} {q₀ : Saved} {out : List
 
 module _ {ahead : ℕ → ℕ → Bool} (ranks : Ranks ahead) {size : Size} {q₀ : Saved} {out : List ℕ} where
   -- all of them
-  pub right-finally : (es : List (Event ℕ)) {h : List (Event ℕ)} {q : Playing} → Right ahead size q₀ out h q → Allowed (judgedIn ahead size) (steppedIn ahead size) q es
-      → Right ahead size q₀ out (past h es) (finally (steppedIn ahead size) q es)
+  pub right-finally : (es : List (Event ℕ)) {h : List (Event ℕ)} {q : Playing} → Right ahead size q₀ out h q → Allowed (judgedIn ahead) (steppedIn ahead) q es
+      → Right ahead size q₀ out (past h es) (finally (steppedIn ahead) q es)
   unfolding Allowed past finally
   right-finally [] R A = R
   right-finally (e ∷ es) R A = right-finally es (right-next R ranks e (A .0)) (A .1)
 
   -- events are accepted if they could happen, each in its turn, and there is room for their numbers
   pub happens-allowed : (es : List (Event ℕ)) {h : List (Event ℕ)} {q : Playing} → Right ahead size q₀ out h q → AllPossible (table ahead q₀) (urgent (table ahead q₀)) (past h es)
-      → reads (past h es) ≤ length out → Allowed (judgedIn ahead size) (steppedIn ahead size) q es
+      → reads (past h es) ≤ length out → Allowed (judgedIn ahead) (steppedIn ahead) q es
   unfolding Allowed AllPossible past
   happens-allowed [] R A r = tt
   happens-allowed (e ∷ es) {h} R A r =

@@ -59,7 +59,7 @@ module _ {s out list : List ℕ} {a : Answer} (said : Ensured s out a list) wher
   -- and the accepted events alone
   pub refused-by-history :
       {ds : List ℕ} {ls : List Link} {m r p : ℕ} {es : List (Event ℕ)} → TableTo ltb baseLimits s ds ls m
-      → Faulty events (eventLimit baseLimits) (judgedIn ltb base) (steppedIn ltb base) s (coreOf ltb base out .start ds (listed ls)) m es r p → r ≢ 0
+      → Faulty events (eventLimit baseLimits) (judgedIn ltb) (steppedIn ltb) s (coreOf ltb base out .start ds (listed ls)) m es r p → r ≢ 0
       → {e : Event ℕ} {n : ℕ} → eventAt s p ≡ got e n → (a .place ≡ p) × (a .refusal ≡ refusedBy (tableOf ltb baseLimits ds ls) out (past [] es) e)
   refused-by-history {ds} {ls} {m} {r} {p} {es} t f n u =
       let there = sym (only-answer (eventRecord ds ls m es r p n t f refl)) in
@@ -119,9 +119,9 @@ module _ {s out list : List ℕ} {a : Answer} (w : WithTable ltb baseLimits out 
 module _ {s out list ds : List ℕ} {ls : List Link} {es : List (Event ℕ)} {a : Answer} (g : Genuine ltb baseLimits s out ds ls es) (m : ℕ) (said : Ensured (take m s) out a list) where
   module _ (through : throughE ds ls ≤ m) (lost : m < length s) where
     -- 1 at the first record that isn't whole, and the state, the counts and the list after the whole records
-    pub after-cut : Cut events (steppedIn ltb base) (coreOf ltb base out .start ds (listed ls)) es (throughE ds ls) m (replied a list)
+    pub after-cut : Cut events (steppedIn ltb) (coreOf ltb base out .start ds (listed ls)) es (throughE ds ls) m (replied a list)
     after-cut =
-        subst (λ (x : Reply Playing). Cut events (steppedIn ltb base) (coreOf ltb base out .start ds (listed ls)) es (throughE ds ls) m x) (sym (said .answer))
+        subst (λ (x : Reply Playing). Cut events (steppedIn ltb) (coreOf ltb base out .start ds (listed ls)) es (throughE ds ls) m x) (sym (said .answer))
         (power-cut ltb-ranks baseLimits out (lit< tt) (lit< tt) (lit< tt) g m through lost)
 
     -- "The answer is that of its whole records (state, counts, list)": of a replay of those records alone, with 1 in place of 0
