@@ -20,7 +20,7 @@ use Rattle.recording_format.specs.Section.{countAt, section}
 use Rattle.recording_format.specs.Link.{Link, linkFault}
 use Rattle.recording_format.specs.Event.{kindAt, encodeEvent}
 use Rattle.recording_format.specs.Limits.{baseLimits}
-use Rattle.recording_format.specs.Recording.{encodeRecording, recording, linksFrom, eventsFrom}
+use Rattle.recording_format.specs.Recording.{encodeRecording, tableThen, eventsFrom, recording}
 use Rattle.recording_core.specs.Playing.{Playing, coreOf, judgedIn, steppedIn}
 
 -- of an answer, all that a case says: refusal, place, counts and list
@@ -125,5 +125,5 @@ pub marked-cases : map answer cases ≡
     ∷ summary 14 34 4 1 0 0 (sevens 8)
     ∷ summary 15 32 4 0 0 0 (sevens 8)
     ∷ [])
-unfolding upto every some count first leading has decided judgedArrival judgedTask judgedRead newestAfter previousAfter pointerAfter phaseAfter freshOf bytesOf numberOf encodes play countAt section linkFault kindAt encodeEvent recording linksFrom eventsFrom judgedIn steppedIn
+unfolding upto every some count first leading has decided judgedArrival judgedTask judgedRead newestAfter previousAfter pointerAfter phaseAfter freshOf bytesOf numberOf encodes play countAt section linkFault kindAt encodeEvent recording tableThen eventsFrom judgedIn steppedIn
 marked-cases = refl
