@@ -61,7 +61,7 @@ module _ {ahead : ℕ → ℕ → Bool} (ranks : Ranks ahead) (most : Limits) (o
     recorded-genuine : Recorded ahead most (coreOf ahead (most .size) out) s ds ls es → Genuine ahead most s out ds ls es
     recorded-genuine r =
         let n = length-listed ls in
-        let ok : Fine ahead most ds ls = rw n (recorded-judged ahead most (coreOf ahead (most .size) out) s ds ls es r) in
+        let ok : Fine ahead most ds ls = recorded-judged ahead most (coreOf ahead (most .size) out) s ds ls es r in
         let R = goes-on ds ls es ok (r .played .allowed) in
         record {
           bytes = r .bytes;
@@ -90,7 +90,7 @@ module _ {ahead : ℕ → ℕ → Bool} (ranks : Ranks ahead) (most : Limits) (o
         let k = within-links most (length ls) (g .few-links) in
         let v = within-events most (length es) (g .few-events) in
         let a = no-fault-allowed ahead (length ds) ls (λ l h. no-fault ahead (length ds) (at (listed ls .writer)) (at (listed ls .reader)) (at (listed ls .kind)) l (g .rules l (rw n at h))) in
-        let ok : Fine ahead most ds ls = allowed-judged ahead (length ds) most ls t (rw n k) a in
+        let ok : Fine ahead most ds ls = allowed-judged ahead (length ds) most ls t k a in
         record {
           bytes = g .bytes;
           tasked = record { counted = tasks-fit most (length ds) wt t; few = t; fits = g .fits .0; allowed = any-allowed [] ds };
@@ -101,7 +101,7 @@ module _ {ahead : ℕ → ℕ → Bool} (ranks : Ranks ahead) (most : Limits) (o
     -- demand 2: always accepted if genuine; the place is the length, and the state, the counts and the list are those of its events
     pub genuine-accepted : (q : Playing) × (recording ahead most (coreOf ahead (most .size) out) s ≡ reply 0 (length s) q) × Right ahead (most .size) (freshTable (most .size) ds ls) out (past [] es) q
     genuine-accepted =
-        let ok : Fine ahead most ds ls = rw (length-listed ls) (recorded-judged ahead most (coreOf ahead (most .size) out) s ds ls es genuine-recorded) in (
+        let ok : Fine ahead most ds ls = recorded-judged ahead most (coreOf ahead (most .size) out) s ds ls es genuine-recorded in (
           stateAfter (coreOf ahead (most .size) out) ds ls es,
           recorded-accepted ahead most (coreOf ahead (most .size) out) s ds ls es genuine-recorded,
           goes-on ds ls es ok (genuine-recorded .played .allowed),
@@ -121,7 +121,7 @@ module _ {ahead : ℕ → ℕ → Bool} (ranks : Ranks ahead) (most : Limits) (o
     cut-whole m c = cut-as-whole ahead most (coreOf ahead (most .size) out) s ds ls es genuine-recorded m c
 
   table-ok : {s ds : List ℕ} {ls : List Link} {m : ℕ} → TableTo ahead most s ds ls m → Fine ahead most ds ls
-  table-ok {ds = ds} {ls = ls} t = allowed-judged ahead (length ds) most ls (t .tasked .kept .few) (rw (length-listed ls) (t .linked .kept .few)) (t .linked .kept .allowed)
+  table-ok {ds = ds} {ls = ls} t = allowed-judged ahead (length ds) most ls (t .tasked .kept .few) (t .linked .kept .few) (t .linked .kept .allowed)
 
   -- every answer is one with a table, or the single task's with nothing counted and the list untouched
   pub answers-right : (s : List ℕ) {x : Reply Playing} → Outcome ahead most (coreOf ahead (most .size) out) s x → (x .state ≡ coreOf ahead (most .size) out .single) ⊎ WithTable ahead most out s x
