@@ -1,4 +1,4 @@
--- What an answer with a table says: the protocol's positions and pointers, the zero-time numbers in the list, the counts of the accepted history.
+-- What follows of an answer with a table: the totals of its counts, the places of its list, and that its numbers are those of the run where tasks take no time.
 -- Assumes nothing.
 use mathlib.Core.Path.{_≡_, refl, ap, sym, _∙_}
 use mathlib.Core.Bool.{Bool}
@@ -9,12 +9,10 @@ use lib.ListN.{length, getD}
 use lib.Seq.{getD-set-same, getD-set-other}
 use Rattle.lists.specs.Lists.{count}
 use Rattle.protocol.specs.Event.{Event}
-use Rattle.protocol.specs.History.{Counts, counts}
-use Rattle.protocol.specs.Schedule.{urgent}
+use Rattle.protocol.specs.History.{Counts}
 use Rattle.protocol.specs.ZeroTime.{ideals, Settled}
-use Rattle.protocol.specs.Published.{Lowest, Run}
 use Rattle.protocol.specs.Instant.{Order, zeroRun, looked, theres}
-use Rattle.protocol_state.specs.Saved.{Size, Saved, table, boxes, busy}
+use Rattle.protocol_state.specs.Saved.{Size, Saved, table, busy}
 use Rattle.protocol_state.specs.Rules.{Ranks}
 use Rattle.protocol_state.proofs.Numbers.{reached-settled, reached-zero-run}
 use Rattle.protocol_state.proofs.Totals.{reached-totals}
@@ -40,23 +38,11 @@ unfolding placed
 placed-before v vs out k d l = getD-set-other (placed vs out) (length vs) k v d (λ e. omega arith)
 
 module _ {ahead : ℕ → ℕ → Bool} {size : Size} {q₀ : Saved} {out : List ℕ} {h : List (Event ℕ)} {q : Playing} (R : Right ahead size q₀ out h q) where
-  -- demand 2: every position, pointer and mailbox is the published protocol's, with the lowest free position
-  pub answer-protocol : Run (table ahead q₀) (urgent (table ahead q₀)) (Lowest (table ahead q₀)) (boxes (q .state)) h
-  answer-protocol = R .reached .run
-
-  -- the counts are those of the accepted history
-  pub answer-counts : q .counts ≡ counts (table ahead q₀) h
-  answer-counts = R .counts
-
   -- arrivals counted task by task are finishes and tasks still active
   pub answer-totals : q .counts .arrivals ≡ q .counts .finishes + count (busy (q .state)) (q₀ .tasks)
   answer-totals =
       ap (λ (c : Counts). c .arrivals) (R .counts) ∙ reached-totals (R .reached)
       ∙ ap (λ (c : Counts). c .finishes + count (busy (q .state)) (q₀ .tasks)) (sym (R .counts))
-
-  -- demand 3: the list's first places hold the numbers of the run where tasks take no time, the rest is untouched
-  pub answer-list : q .list ≡ placed (ideals (table ahead q₀) h) out
-  answer-list = R .list
 
   module _ (ranks : Ranks ahead) where
     -- demand 3: those numbers are the ones that the run itself reads

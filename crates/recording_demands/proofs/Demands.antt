@@ -31,7 +31,7 @@ use Rattle.recording_core.specs.Playing.{Playing, coreOf, judgedIn, steppedIn}
 use Rattle.recording_core.specs.Promise.{past, freshTable, refusedBy, tableOf, Genuine}
 use Rattle.recording_core.specs.Right.{Right, WithTable}
 use Rattle.recording_core.proofs.Promises.{accepted-genuine, genuine-accepted, power-cut, cut-whole, answers-right, event-refused}
-use Rattle.recording_core.proofs.Answers.{answer-protocol, answer-counts, answer-totals, answer-list, answer-zero-run, answer-settled}
+use Rattle.recording_core.proofs.Answers.{answer-totals, answer-zero-run, answer-settled}
 use Rattle.mailbox.specs.States.{saved}
 use Rattle.recording.specs.Answers.{replied}
 use Rattle.recording.specs.declared.Answer.{Answer}
@@ -40,7 +40,7 @@ use Rattle.recording_demands.specs.Ensured.{Ensured, ZeroTime}
 -- demand 3 of a list that is right
 timed : {q₀ : Saved} {out : List ℕ} {h : List (Event ℕ)} {q : Playing} → Right ltb base q₀ out h q → ZeroTime (table ltb q₀) h out (q .list)
 timed {q₀} R = record {
-  numbers = answer-list R;
+  numbers = R .list;
   carried = answer-zero-run R ltb-ranks (upward 0 (q₀ .tasks)) (upward-order (table ltb q₀) (λ u t. refl));
   finished = answer-settled R ltb-ranks;
 }
@@ -100,7 +100,7 @@ module _ {s out list : List ℕ} {a : Answer} (said : Ensured s out a list) wher
 module _ {s out list : List ℕ} {a : Answer} (w : WithTable ltb baseLimits out s (replied a list)) where
   -- demand 2: every position, pointer and mailbox is the published protocol's, with the lowest free position
   pub protocol : let T = tableOf ltb baseLimits (w .tasks) (w .links) in Run T (urgent T) (Lowest T) (boxes (saved (a .state))) (past [] (w .happened))
-  protocol = answer-protocol (w .right)
+  protocol = w .right .reached .run
 
   -- demand 3: the list holds the numbers of the run where tasks take no time, none from an unfinished run
   pub table-zero-time : ZeroTime (tableOf ltb baseLimits (w .tasks) (w .links)) (past [] (w .happened)) out list
@@ -108,7 +108,7 @@ module _ {s out list : List ℕ} {a : Answer} (w : WithTable ltb baseLimits out 
 
   -- the counts are those of the accepted history
   pub counted : replied a list .state .counts ≡ counts (tableOf ltb baseLimits (w .tasks) (w .links)) (past [] (w .happened))
-  counted = answer-counts (w .right)
+  counted = w .right .counts
 
   -- "arrivals counted task by task equal finishes plus tasks still active"
   pub totals : a .arrivals ≡ a .finishes + count (busy (saved (a .state))) (length (w .tasks))
