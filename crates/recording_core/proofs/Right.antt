@@ -11,7 +11,7 @@ use lib.ListN.{length, length-set}
 use Rattle.lists.proofs.Bools.{cond-zero}
 use Rattle.protocol.specs.Event.{Event, arrival, start, read, finish}
 use Rattle.protocol.specs.Table.{Table}
-use Rattle.protocol.specs.History.{Counts, reads, counts}
+use Rattle.protocol.specs.History.{Counts, reads}
 use Rattle.protocol.specs.Schedule.{Policy, urgent, Possible, AllPossible, judged}
 use Rattle.protocol.specs.ZeroTime.{ideals}
 use Rattle.protocol.proofs.Schedule.{judged-possible, possible-judged}
