@@ -21,12 +21,12 @@ use Rattle.protocol.proofs.Upward.{upward-order}
 use Rattle.protocol_state.specs.Saved.{Saved, base, at, table, boxes}
 use Rattle.protocol_state.specs.Rules.{judgedTable}
 use Rattle.protocol_state.specs.Fresh.{freshOf, made}
-use Rattle.protocol_state.specs.Give.{Outcome, note, give, after, replay}
+use Rattle.protocol_state.specs.Give.{Outcome, note, give, after}
 use Rattle.protocol_state.specs.Reached.{Reached}
 use Rattle.protocol_state.proofs.Rules.{ltb-ranks}
 use Rattle.protocol_state.proofs.Freshes.{made-fresh}
 use Rattle.protocol_state.proofs.Give.{refused-same}
-use Rattle.protocol_state.proofs.History.{reached-refusal, reached-possible, reached-after, reached}
+use Rattle.protocol_state.proofs.History.{reached-refusal, reached-possible, reached-after, reached-fresh}
 use Rattle.protocol_state.proofs.Numbers.{table-lawful, reached-ideals, reached-settled, reached-zero-run}
 use Rattle.protocol_state.proofs.Demanded as state
 use Rattle.mailbox.specs.States.{saved, madeOf, given}
@@ -88,8 +88,7 @@ module _ (T L : ℕ) (D W R K : List ℕ) {m : Made} (said : m ≡ madeOf (made 
   order = upward-order (table ltb q₀) (λ u t. refl)
 
   begun : Reached ltb base q₀ (stands (m .state) [] [])
-  unfolding replay
-  begun = rw (said, made-is .1) (reached ltb base T L D W R K (made-is .0) [])
+  begun = rw (said, made-is .1) (reached-fresh ltb base T L D W R K (made-is .0))
 
   both : Reached ltb base q₀ (stands (lastState (m .state) rs) accepted read) × Each (Judged (table ltb q₀)) [] es rs
   both = reaches (Judged (table ltb q₀)) (λ q h ns e R. reached-refusal R e) es rs (m .state) [] [] A begun

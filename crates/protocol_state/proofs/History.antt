@@ -21,7 +21,7 @@ use Rattle.protocol_state.specs.Next.{next, valueOf}
 use Rattle.protocol_state.specs.Sound.{isSound}
 use Rattle.protocol_state.specs.Fresh.{freshOf}
 use Rattle.protocol_state.specs.Give.{reply, note, Outcome, begin, give, after, replay}
-pub use Rattle.protocol_state.specs.Reached.{Reached}
+use Rattle.protocol_state.specs.Reached.{Reached}
 use Rattle.protocol_state.proofs.Sound.{says-sound}
 use Rattle.protocol_state.proofs.Keeps.{table-same, next-shape, next-sound}
 use Rattle.protocol_state.proofs.Give.{Ways, give-ways, give-refusal}

@@ -7,7 +7,7 @@ use Rattle.lists.specs.Lists.{count}
 use Rattle.protocol.specs.History.{arrivals, finishes, active, counts}
 use Rattle.protocol.specs.Schedule.{urgent}
 use Rattle.protocol.proofs.Totals.{totals}
-pub use Rattle.protocol_state.specs.Saved.{busy}
+use Rattle.protocol_state.specs.Saved.{busy}
 use Rattle.protocol_state.specs.Saved.{Size, Saved, table}
 use Rattle.protocol_state.specs.Give.{Outcome}
 use Rattle.protocol_state.proofs.Places.{count-same}

@@ -20,10 +20,10 @@ use Rattle.protocol_state.specs.Rules.{Ranks, judgedTable}
 use Rattle.protocol_state.specs.Judge.{judgedOn}
 use Rattle.protocol_state.specs.Next.{next, valueOf}
 use Rattle.protocol_state.specs.Fresh.{freshOf}
-use Rattle.protocol_state.specs.Give.{Outcome, note, replay}
+use Rattle.protocol_state.specs.Give.{Outcome, note}
 use Rattle.protocol_state.specs.Reached.{Reached}
 use Rattle.protocol_state.proofs.Give.{give-done}
-use Rattle.protocol_state.proofs.History.{reached-sound, judged-history, after-done, reached-after, reached}
+use Rattle.protocol_state.proofs.History.{reached-sound, judged-history, after-done, reached-after, reached-fresh}
 use Rattle.protocol_state.proofs.Numbers.{reached-ideals}
 use Rattle.recording_format.specs.Play.{Allowed, finally}
 use Rattle.recording_core.specs.Playing.{Playing, noCounts, full, noRoom, listedBy, judgedIn, steppedIn}
@@ -173,5 +173,5 @@ module _ {ahead : ℕ → ℕ → Bool} (ranks : Ranks ahead) {size : Size} {q�
 -- the fresh state of a table that earns no refusal
 pub right-fresh : (ahead : ℕ → ℕ → Bool) (size : Size) (n L : ℕ) (D W R K out : List ℕ) → judgedTable ahead n (at W) (at R) (at K) size L ≡ 0
     → Right ahead size (freshOf size n L D W R K) out [] (record { state = freshOf size n L D W R K; counts = noCounts; list = out })
-unfolding ideals placed reads replay
-right-fresh ahead size n L D W R K out ok = record { reached = reached ahead size n L D W R K ok []; counts = sym (counts-none (table ahead (freshOf size n L D W R K))); list = refl; room = omega arith }
+unfolding ideals placed reads
+right-fresh ahead size n L D W R K out ok = record { reached = reached-fresh ahead size n L D W R K ok; counts = sym (counts-none (table ahead (freshOf size n L D W R K))); list = refl; room = omega arith }
