@@ -1,4 +1,4 @@
--- A call, way by way: unsound, no event, refused, done.
+-- A call, way by way: no event to an unsound state, no event to a sound one, an event.
 -- Assumes nothing.
 use mathlib.Core.Path.{_≡_, sym, ap, _∙_}
 use mathlib.Core.Logic.{⊎-elim}
@@ -12,16 +12,14 @@ use denote.Enum.Declared.{tagOf}
 use lib.Dec.{ltb}
 use Rattle.lists.proofs.Bools.{passed}
 use Rattle.protocol_state.specs.Saved.{Saved, base}
-use Rattle.protocol_state.specs.Judge.{judgedOn}
-use Rattle.protocol_state.specs.Next.{next, valueOf}
 use Rattle.protocol_state.specs.Sound.{isSound}
-use Rattle.protocol_state.specs.Give.{reply, give}
-use Rattle.protocol_state.proofs.Give.{unsound, refused, give-unsound, give-refused, give-done}
-use Rattle.mailbox_parts.specs.Plain.{plain}
-use Rattle.mailbox_parts.specs.Becomes.{savedOf, Becomes}
+use Rattle.protocol_state.specs.Give.{reply}
+use Rattle.protocol_state.proofs.Give.{unsound, refused, give-unsound}
+use Rattle.mailbox_parts.specs.Becomes.{savedOf}
 use Rattle.mailbox_parts.specs.declared.event.Event.{Event}
+use Rattle.mailbox_give.specs.Given.{Given}
 use Rattle.exports.specs.Calls.{Call, known, unknown, called, answered}
-use Rattle.exports.specs.Replies.{heard, numberOf, Given, Answered}
+use Rattle.exports.specs.Replies.{heard, numberOf, Answered}
 use Rattle.exports.specs.declared.call.Asked.{Asked}
 use Rattle.exports.specs.declared.call.Asked.the-variants as asked
 use Rattle.exports.proofs.call.Asked as A
@@ -37,25 +35,8 @@ none q (asked.Known e) s o = ⊎-elim (λ (u : _≡_ {A = ℕ} 0 1). absurd (ome
 none q asked.Outside s o = refused 12 q q 0 s (λ z. omega arith)
 none q asked.Unknown s o = refused 11 q q 0 s (λ z. omega arith)
 
--- an event that a sound state refuses, and one that it does
-module _ (q : Saved) (e : Event) {k v : ℕ} (s : isSound ltb base q ≡ true) (judged : k ≡ judgedOn ltb q (plain e)) where
-  held : (k ≡ 0 → ⊥) → v ≡ 0 → reply q k v ≡ give ltb base q (plain e)
-  held z i = rw (i, judged) (sym (give-refused ltb base q (plain e) s (λ j. z (judged ∙ j))))
-
-  allowed : {q′ : Saved} → k ≡ 0 → v ≡ valueOf q (plain e) → q′ ≡ next ltb q (plain e) → reply q′ 0 v ≡ give ltb base q (plain e)
-  allowed z t b = rw (b, t) (sym (give-done ltb base q (plain e) s (sym judged ∙ z)))
-
--- the same of the parts that are lent, whatever the defaults are
+-- the parts that are lent, whatever the defaults are
 module _ {T L : ℕ} {W R K ph n p C x : List ℕ} where
-  module _ {e : Event} {k v : ℕ} (s : isSound ltb base (savedOf T L [] ph n p C W R K x) ≡ true) (judged : k ≡ judgedOn ltb (savedOf T L [] ph n p C W R K x) (plain e)) where
-    pub given-refused : (k ≡ 0 → ⊥) → v ≡ 0 → Given e T L W R K ph n p C x ph n p C x k v
-    given-refused z i = record { event = λ D. held (savedOf T L D ph n p C W R K x) e s judged z i }
-
-    pub given-done :
-        {ph′ n′ p′ C′ x′ : List ℕ} → k ≡ 0 → v ≡ valueOf (savedOf T L [] ph n p C W R K x) (plain e) → Becomes e T L W R K ph n p C x ph′ n′ p′ C′ x′ →
-        Given e T L W R K ph n p C x ph′ n′ p′ C′ x′ 0 v
-    given-done z t b = record { event = λ D. allowed (savedOf T L D ph n p C W R K x) e s judged z t (b .state D) }
-
   module _ {kind which value : ℕ} where
     pub answered-unsound : {b : Bool} → b ≡ isSound ltb base (savedOf T L [] ph n p C W R K x) → not b ≡ true → Answered kind which value T L W R K ph n p C x ph n p C x 19 0
     answered-unsound {b} test h = record { call = λ D. sym (never (savedOf T L D ph n p C W R K x) (called kind which value) (sym test ∙ not-true b h)) }

@@ -12,7 +12,6 @@ use Rattle.protocol_state.specs.Give.{Reply, reply, settled, give}
 use Rattle.protocol_state.specs.Fresh.{Made}
 use Rattle.mailbox_parts.specs.Plain.{plain}
 use Rattle.mailbox_parts.specs.Becomes.{savedOf}
-use Rattle.mailbox_parts.specs.declared.event.Event.{Event}
 use Rattle.exports.specs.Calls.{called, answered}
 use Rattle.exports.specs.declared.call.Asked.{Asked}
 use Rattle.exports.specs.declared.call.Asked.the-variants.{Known, Outside, Unknown}
@@ -33,10 +32,6 @@ numberOf Unknown = 11
 abbrev pub madeAs : ℕ → Saved → Made
 madeAs r q = record { refusal = r; state = q }
 
--- the parts after, the refusal r and the number v are those of the reply to an event, whatever the defaults are
-pub record Given (e : Event) (T L : ℕ) (W R K ph n p C x ph′ n′ p′ C′ x′ : List ℕ) (r v : ℕ) : Type 0 where
-  pub event : (D : List ℕ) → reply (savedOf T L D ph′ n′ p′ C′ W R K x′) r v ≡ give ltb base (savedOf T L D ph n p C W R K x) (plain e)
-
--- the same of a call by kind, which and value
+-- the parts after, the refusal r and the number v are those of the reply to a call by kind, which and value, whatever the defaults are
 pub record Answered (kind which value T L : ℕ) (W R K ph n p C x ph′ n′ p′ C′ x′ : List ℕ) (r v : ℕ) : Type 0 where
   pub call : (D : List ℕ) → reply (savedOf T L D ph′ n′ p′ C′ W R K x′) r v ≡ answered (savedOf T L D ph n p C W R K x) (called kind which value)

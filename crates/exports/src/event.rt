@@ -1,10 +1,5 @@
 // One event given to the lent parts of a state.
-ghost use mathlib.Core.Path.{_≡_};
-ghost use mathlib.Core.Bool.{true};
-ghost use lib.Dec.{ltb};
-ghost use Rattle.protocol_state.specs.Saved.{at, base};
-ghost use Rattle.protocol_state.specs.Sound.{soundParts};
-ghost use Rattle.exports.specs.Replies.{Given, Answered};
+ghost use Rattle.exports.specs.Replies.{Answered};
 use crate::call::Asked;
 use crate::call::ask;
 use crate::call::number_of;
@@ -12,49 +7,7 @@ use mailbox_base::numbers::CELLS;
 use mailbox_base::numbers::LINKS;
 use mailbox_base::numbers::TASKS;
 use mailbox_checks::sound::is_sound;
-use mailbox_parts::event::Event;
-use mailbox_parts::event::do_event;
-use mailbox_parts::event::judge;
-use mailbox_parts::event::value_of;
-
-// An event given to a sound state: judged, and done where it is allowed. `number`, 0 so far, becomes that of an accepted read.
-fn give(
-    e: Event,
-    number: &mut u32,
-    tasks: usize,
-    links: usize,
-    writer: &[u8; LINKS],
-    reader: &[u8; LINKS],
-    kind: &[u8; LINKS],
-    phase: &mut [u8; TASKS],
-    newest: &mut [u8; TASKS],
-    previous: &mut [u8; TASKS],
-    cells: &mut [u32; CELLS],
-    pointer: &mut [u8; LINKS],
-) -> u8
-    requires { ⌜ (now number ≡ 0) × (soundParts ltb base tasks links (at (now writer)) (at (now reader)) (at (now kind)) (at (now phase)) (at (now newest)) (at (now previous)) (at (now pointer)) ≡ true) ⌝ }
-    ensures { λ r. ⌜ Given e tasks links (now (writer .entry)) (now (reader .entry)) (now (kind .entry)) (now (phase .entry)) (now (newest .entry)) (now (previous .entry)) (now (cells .entry)) (now (pointer .entry)) (now (phase .exit)) (now (newest .exit)) (now (previous .exit)) (now (cells .exit)) (now (pointer .exit)) r (now (number .exit)) ⌝ }
-{
-    let refusal = judge(e, tasks, links, reader, phase);
-    if refusal != 0 {
-        return refusal;
-    }
-    *number = value_of(e, writer, pointer, cells);
-    do_event(
-        e,
-        tasks,
-        links,
-        writer,
-        reader,
-        kind,
-        phase,
-        newest,
-        previous,
-        cells,
-        pointer,
-    );
-    0
-}
+use mailbox_give::give;
 
 // One event given to a state: 19 where the state isn't sound, then 11 for an unknown kind, then 12 to 16, else it is done.
 #[no_mangle]
@@ -76,22 +29,22 @@ pub extern "C" fn parnusild_event(
 ) -> u8
     ensures { λ r. ⌜ Answered kind which value tasks links (now (writer .entry)) (now (reader .entry)) (now (kinds .entry)) (now (phase .entry)) (now (newest .entry)) (now (previous .entry)) (now (cells .entry)) (now (pointer .entry)) (now (phase .exit)) (now (newest .exit)) (now (previous .exit)) (now (cells .exit)) (now (pointer .exit)) r (now (number .exit)) ⌝ }
 {
-    *number = 0;
-    if !is_sound(
-        tasks,
-        links,
-        writer,
-        reader,
-        kinds,
-        phase,
-        newest,
-        previous,
-        pointer,
-    ) {
-        return 19;
-    }
     let call = ask(kind, which, value);
     let Asked::Known(e) = call else {
+        *number = 0;
+        if !is_sound(
+            tasks,
+            links,
+            writer,
+            reader,
+            kinds,
+            phase,
+            newest,
+            previous,
+            pointer,
+        ) {
+            return 19;
+        }
         return number_of(call);
     };
     give(

@@ -57,10 +57,6 @@ madeOf m = record { refusal = m .refusal; state = stateOf (m .state) }
 abbrev pub given : State → Event ℕ → Step
 given q e = stepOf (give ltb base (saved q) e)
 
--- a refusal: the state as lent, the value 0
-abbrev pub refusedStep : State → ℕ → Step
-refusedStep q r = record { state = q; answer = record { refusal = r; value = 0 } }
-
 -- a sound state stays sound
 abbrev pub StaysSound : State → Step → Type 0
 StaysSound q r = isSound ltb base (saved q) ≡ true → isSound ltb base (saved (r .state)) ≡ true

@@ -8,11 +8,11 @@ ghost use mathlib.Core.Bool.{true};
 ghost use Prim.Native.Nat.{_≤_};
 ghost use lib.Dec.{ltb};
 ghost use Rattle.protocol.specs.Event.{arrival, start, read, finish};
-ghost use Rattle.protocol_state.specs.Saved.{Shape, base};
+ghost use Rattle.protocol_state.specs.Saved.{base};
 ghost use Rattle.protocol_state.specs.Fresh.{freshOf, single, made};
 ghost use Rattle.protocol_state.specs.Sound.{isSound};
 ghost use Rattle.mailbox_parts.specs.Plain.{plain};
-ghost use Rattle.mailbox.specs.States.{saved, stateOf, madeOf, given, refusedStep, StaysSound};
+ghost use Rattle.mailbox.specs.States.{saved, stateOf, madeOf, given, StaysSound};
 use crate::cells::fill_cells;
 use crate::tables::copy_links;
 use crate::tables::copy_tasks;
@@ -22,10 +22,8 @@ use mailbox_base::numbers::LINKS;
 use mailbox_base::numbers::TASKS;
 use mailbox_checks::sound::is_sound;
 use mailbox_checks::table::judge_table;
+use mailbox_give::give;
 use mailbox_parts::event::Event;
-use mailbox_parts::event::do_event;
-use mailbox_parts::event::judge;
-use mailbox_parts::event::value_of;
 
 pub mod cells;
 mod tables;
@@ -144,26 +142,20 @@ impl State {
         ensures answer { λ r. ⌜ r ≡ given self (plain e) ⌝ }
         ensures sound { λ r. ⌜ StaysSound self r ⌝ }
     {
-        if !self.sound() {
-            return refused(self, 19);
-        }
         let tasks = self.tasks;
         let links = self.links;
-        let reader = self.reader;
-        let mut phase = self.phase;
-        let refusal = judge(e, tasks, links, &reader, &phase);
-        if refusal != 0 {
-            return refused(self, refusal);
-        }
         let writer = self.writer;
+        let reader = self.reader;
         let kind = self.kind;
+        let mut phase = self.phase;
         let mut newest = self.newest;
         let mut previous = self.previous;
         let mut cells = self.cells;
         let mut pointer = self.pointer;
-        let value = value_of(e, &writer, &pointer, &cells);
-        do_event(
+        let mut value: u32 = 0;
+        let refusal = give(
             e,
+            &mut value,
             tasks,
             links,
             &writer,
@@ -182,15 +174,13 @@ impl State {
         self.pointer = pointer;
         Step {
             state: self,
-            answer: Answer { refusal: 0, value },
+            answer: Answer { refusal, value },
         }
     }
 
-    // Whether the state is sound: 19 is answered exactly when it isn't. `room` hands on that the arrays have their sizes, which is part
-    // of the type and not of the value in a contract.
+    // Whether the state is sound: 19 is answered exactly when it isn't.
     pub fn sound(self) -> bool
-        ensures answer { λ r. ⌜ r ≡ isSound ltb base (saved self) ⌝ }
-        ensures room { λ r. ⌜ Shape base (saved self) ⌝ }
+        ensures { λ r. ⌜ r ≡ isSound ltb base (saved self) ⌝ }
     {
         let tasks = self.tasks;
         let links = self.links;
@@ -258,15 +248,5 @@ impl State {
             kind: kinds,
             pointer: [0u8; LINKS],
         }
-    }
-}
-
-// A refusal: the state as it was lent, and the value 0.
-fn refused(state: State, refusal: u8) -> Step
-    ensures { λ r. ⌜ r ≡ refusedStep state refusal ⌝ }
-{
-    Step {
-        state,
-        answer: Answer { refusal, value: 0 },
     }
 }

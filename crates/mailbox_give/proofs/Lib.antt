@@ -1,0 +1,2 @@
+-- Laws that the proof cites.
+pub mod Ways
