@@ -3,7 +3,8 @@
 use mathlib.Core.Path.{_≡_, refl}
 use mathlib.Core.List.{List, [], _∷_, _++_}
 use Prim.Native.Nat.{ℕ}
-use Rattle.recording_lines.specs.Line.{decimal, number, numbers, phase, pointer, readLine, acceptedLine, refusedLine, taskLine, linkLine}
+use Rattle.text_line.specs.Numeral.{decimal, number}
+use Rattle.recording_lines.specs.Lines.{numbers, phase, pointer, readLine, acceptedLine, refusedLine, taskLine, linkLine}
 
 -- document 01's example, nine lines: `read 0 100`, `read 1 101`, `read 0 101`, `read 1 102`, `read 0 102`, `read 2 101`, `read 0 102`, `read 2 103`, `accepted 35`
 figure-17 : readLine 0 100 ++ readLine 1 101 ++ readLine 0 101 ++ readLine 1 102 ++ readLine 0 102 ++ readLine 2 101 ++ readLine 0 102 ++ readLine 2 103 ++ acceptedLine 35 ≡ 114 ∷ 101 ∷ 97 ∷ 100 ∷ 32 ∷ 48 ∷ 32 ∷ 49 ∷ 48 ∷ 48 ∷ 10 ∷ 114 ∷ 101 ∷ 97 ∷ 100 ∷ 32 ∷ 49 ∷ 32 ∷ 49 ∷ 48 ∷ 49 ∷ 10 ∷ 114 ∷ 101 ∷ 97 ∷ 100 ∷ 32 ∷ 48 ∷ 32 ∷ 49 ∷ 48 ∷ 49 ∷ 10 ∷ 114 ∷ 101 ∷ 97 ∷ 100 ∷ 32 ∷ 49 ∷ 32 ∷ 49 ∷ 48 ∷ 50 ∷ 10 ∷ 114 ∷ 101 ∷ 97 ∷ 100 ∷ 32 ∷ 48 ∷ 32 ∷ 49 ∷ 48 ∷ 50 ∷ 10 ∷ 114 ∷ 101 ∷ 97 ∷ 100 ∷ 32 ∷ 50 ∷ 32 ∷ 49 ∷ 48 ∷ 49 ∷ 10 ∷ 114 ∷ 101 ∷ 97 ∷ 100 ∷ 32 ∷ 48 ∷ 32 ∷ 49 ∷ 48 ∷ 50 ∷ 10 ∷ 114 ∷ 101 ∷ 97 ∷ 100 ∷ 32 ∷ 50 ∷ 32 ∷ 49 ∷ 48 ∷ 51 ∷ 10 ∷ 97 ∷ 99 ∷ 99 ∷ 101 ∷ 112 ∷ 116 ∷ 101 ∷ 100 ∷ 32 ∷ 51 ∷ 53 ∷ 10 ∷ []

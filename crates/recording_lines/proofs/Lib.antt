@@ -1,5 +1,4 @@
--- Laws that several proofs cite, and lines computed from the definitions.
-pub mod Numerals
-pub mod Written
+-- Laws that the proofs cite, and lines computed from the definitions.
 pub mod Cells
+pub mod Lengths
 pub mod Examples

@@ -1,3 +1,3 @@
 -- The printouts: what the contracts cite.
 pub mod Words
-pub mod Line
+pub mod Lines

@@ -78,7 +78,3 @@ text-pointer = 32 ∷ 112 ∷ 111 ∷ 105 ∷ 110 ∷ 116 ∷ 101 ∷ 114 ∷ []
 -- a space and `absent`
 abbrev pub text-absent : List ℕ
 text-absent = 32 ∷ 97 ∷ 98 ∷ 115 ∷ 101 ∷ 110 ∷ 116 ∷ []
-
--- the line feed
-abbrev pub feed : List ℕ
-feed = 10 ∷ []

@@ -1,91 +1,102 @@
--- `recording_lines::put_task` meets its contract. Its pieces stand one after the other, each as its call put it.
+-- `recording_lines::put_task` meets its contract: its pieces stand one after the other, and all fit.
 -- Assumes nothing.
-use Rattle.recording_lines.proofs.Written.{then, ended}
+use Rattle.text_line.proofs.Pieces.{piece, whole}
+use Rattle.recording_lines.proofs.Lengths.{task-fits}
 use borrow.Author.Needs.{needs}
 use Rattle.recording_lines.proofs.put_task.Statement.{statement}
 use Rattle.recording_lines.proofs.put_task.Tie as tie
 
-slice-aggregate-put-text : tie.Need-slice-aggregate-put-text
-slice-aggregate-put-text c = search needs
+empty-requires : tie.Need-empty-requires
+empty-requires c κs = search needs
 
-slice-aggregate-put-text-2 : tie.Need-slice-aggregate-put-text-2
-slice-aggregate-put-text-2 c = search needs
+slice-aggregate-text : tie.Need-slice-aggregate-text
+slice-aggregate-text c = search needs
 
-put-text-requires : tie.Need-put-text-requires
-put-text-requires c κs = search needs
+text-requires : tie.Need-text-requires
+text-requires c κs = search needs
 
-slice-aggregate-put-number : tie.Need-slice-aggregate-put-number
-slice-aggregate-put-number c = search needs
+number-requires : tie.Need-number-requires
+number-requires c κs = search needs
 
-put-number-requires : tie.Need-put-number-requires
-put-number-requires c κs = search needs
+with-phase-requires : tie.Need-with-phase-requires
+with-phase-requires c κs = search needs
 
-slice-aggregate-put-phase : tie.Need-slice-aggregate-put-phase
-slice-aggregate-put-phase c = search needs
+slice-aggregate-text-2 : tie.Need-slice-aggregate-text-2
+slice-aggregate-text-2 c = search needs
 
-put-phase-requires : tie.Need-put-phase-requires
-put-phase-requires c κs = search needs
+text-requires-2 : tie.Need-text-requires-2
+text-requires-2 c κs = search needs
 
-slice-aggregate-put-positions : tie.Need-slice-aggregate-put-positions
-slice-aggregate-put-positions c = search needs
+number-requires-2 : tie.Need-number-requires-2
+number-requires-2 c κs = search needs
 
-put-positions-requires : tie.Need-put-positions-requires
-put-positions-requires c κs = search needs
+slice-aggregate-text-3 : tie.Need-slice-aggregate-text-3
+slice-aggregate-text-3 c = search needs
 
-slice-aggregate-put-text-3 : tie.Need-slice-aggregate-put-text-3
-slice-aggregate-put-text-3 c = search needs
+text-requires-3 : tie.Need-text-requires-3
+text-requires-3 c κs = search needs
 
-slice-aggregate-put-text-4 : tie.Need-slice-aggregate-put-text-4
-slice-aggregate-put-text-4 c = search needs
+number-requires-3 : tie.Need-number-requires-3
+number-requires-3 c κs = search needs
 
-put-text-requires-2 : tie.Need-put-text-requires-2
-put-text-requires-2 c κs = search needs
+slice-aggregate-text-4 : tie.Need-slice-aggregate-text-4
+slice-aggregate-text-4 c = search needs
 
-slice-aggregate-put-cells : tie.Need-slice-aggregate-put-cells
-slice-aggregate-put-cells c = search needs
+text-requires-4 : tie.Need-text-requires-4
+text-requires-4 c κs = search needs
 
-put-cells-requires : tie.Need-put-cells-requires
-put-cells-requires c κs = search needs
+with-cells-requires : tie.Need-with-cells-requires
+with-cells-requires c κs = search needs
 
-slice-aggregate-put-line : tie.Need-slice-aggregate-put-line
-slice-aggregate-put-line c = search needs
-
-put-line-requires : tie.Need-put-line-requires
-put-line-requires c κs = search needs
+put-requires : tie.Need-put-requires
+put-requires c κs = search needs
 
 same-length : tie.Need-same-length
 same-length c = search needs
 
 returns : tie.Need-returns
 returns c =
-    let l = c .before .before .before in
-    let p₆ = l .before .before .before .before in
-    let p₅ = p₆ .before .before .before in
-    let p₄ = p₅ .before .before .before .before in
-    let p₃ = p₄ .before .before .before in
-    let p₂ = p₃ .before .before .before in
-    let p₁ = p₂ .before .before .before in
-    ended (then (then (then (then (then (p₁ .put-text .ensures) (p₂ .put-number .ensures)) (p₃ .put-phase .ensures)) (p₄ .put-positions .ensures)) (p₅ .put-text2 .ensures)) (p₆ .put-cells .ensures)) (l .put-line .ensures)
+    let p = c .before .before in
+    let l₉ = p .before .before in
+    let l₈ = l₉ .before in
+    let l₇ = l₈ .before .before in
+    let l₆ = l₇ .before in
+    let l₅ = l₆ .before .before in
+    let l₄ = l₅ .before in
+    let l₃ = l₄ .before .before in
+    let l₂ = l₃ .before in
+    let l₁ = l₂ .before in
+    let e = l₁ .before .before in
+    let a = e .before .before .before .args in
+    whole _ (e .empty .ensures) (task-fits (a .task) (a .code) (a .newest) (a .previous) (a .cells .now))
+    (piece _ _ _ (l₁ .text .ensures)
+    (piece _ _ _ (l₂ .number .ensures)
+    (piece _ _ _ (l₃ .with-phase .ensures)
+    (piece _ _ _ (l₄ .text2 .ensures)
+    (piece _ _ _ (l₅ .number2 .ensures)
+    (piece _ _ _ (l₆ .text3 .ensures)
+    (piece _ _ _ (l₇ .number3 .ensures)
+    (piece _ _ _ (l₈ .text4 .ensures)
+    (piece _ _ _ (l₉ .with-cells .ensures) (p .put .ensures))))))))))
 
 pub put-task-spec : {M : Type 1} → statement M
 put-task-spec =
     tie.close
     (tie.spec
-    slice-aggregate-put-text
-    slice-aggregate-put-text-2
-    put-text-requires
-    slice-aggregate-put-number
-    put-number-requires
-    slice-aggregate-put-phase
-    put-phase-requires
-    slice-aggregate-put-positions
-    put-positions-requires
-    slice-aggregate-put-text-3
-    slice-aggregate-put-text-4
-    put-text-requires-2
-    slice-aggregate-put-cells
-    put-cells-requires
-    slice-aggregate-put-line
-    put-line-requires
+    empty-requires
+    slice-aggregate-text
+    text-requires
+    number-requires
+    with-phase-requires
+    slice-aggregate-text-2
+    text-requires-2
+    number-requires-2
+    slice-aggregate-text-3
+    text-requires-3
+    number-requires-3
+    slice-aggregate-text-4
+    text-requires-4
+    with-cells-requires
+    put-requires
     same-length
     returns)

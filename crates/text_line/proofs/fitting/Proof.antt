@@ -1,8 +1,8 @@
--- `recording_lines::fitting` meets its contract. Each way out is one answer of the test.
+-- `text_line::fitting` meets its contract. Each way out is one answer of the test.
 -- Assumes nothing.
 use borrow.Author.Tests.{le-leb, lt-leb}
-use Rattle.recording_lines.proofs.fitting.Statement.{statement}
-use Rattle.recording_lines.proofs.fitting.Tie as tie
+use Rattle.text_line.proofs.fitting.Statement.{statement}
+use Rattle.text_line.proofs.fitting.Tie as tie
 
 returns : tie.Need-returns
 returns c = rw (le-leb (c .before .args .n) (c .before .args .room) (c .if1 .taken))

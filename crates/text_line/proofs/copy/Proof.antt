@@ -1,13 +1,13 @@
--- `recording_lines::copy` meets its contract. The loop's invariant: the buffer is the old one with the first i bytes of the text pasted in. The measure is what is left of n.
+-- `text_line::copy` meets its contract. The loop's invariant: the buffer is the old one with the first i bytes of the text pasted in. The measure is what is left of n.
 -- Assumes nothing.
 use mathlib.Core.Path.{_≡_, refl, ap, _∙_}
 use Prim.Native.Nat.{ℕ, _≤_, _-_}
 use native.Mathlib.Omega.{arith}
 use lib.ListN.{length, length-set}
 use lib.Seq.{paste, paste-zero}
-use Rattle.recording_lines.proofs.Written.{text-turn}
-use Rattle.recording_lines.proofs.copy.Statement.{statement}
-use Rattle.recording_lines.proofs.copy.Tie as tie
+use Rattle.text_line.proofs.Copies.{text-turn}
+use Rattle.text_line.proofs.copy.Statement.{statement}
+use Rattle.text_line.proofs.copy.Tie as tie
 
 abbrev Inv-loop : tie.InvT-loop
 Inv-loop text n out₀ at i₀ out i = (i ≤ n) × ((length out ≡ length out₀) × (out ≡ paste out₀ at text i))

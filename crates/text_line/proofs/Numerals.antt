@@ -9,7 +9,7 @@ use borrow.Author.Tests.{lt-ltb, le-ltb}
 use lib.Dec.{ltb, lit<}
 use lib.ListN.{take}
 use Rattle.io.specs.Digits.{glyph, digits, Fewest}
-use Rattle.recording_lines.specs.Line.{decimal}
+use Rattle.text_line.specs.Numeral.{decimal}
 
 pow-pos : (k : ℕ) → 1 ≤ 10 ^ k
 pow-pos zero = omega arith

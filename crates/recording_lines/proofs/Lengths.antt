@@ -1,0 +1,101 @@
+-- Every line fits its room.
+-- Assumes nothing.
+use mathlib.Core.Bool.{Bool, true, false, cond}
+use mathlib.Core.List.{List, [], _∷_, _++_}
+use Prim.Native.Nat.{ℕ, _+_, _*_, _≤_}
+use native.Mathlib.Nat.{le-refl, le-trans}
+use native.Mathlib.Omega.{arith}
+use lib.Dec.{eqb}
+use lib.ListN.{length, take, length-take}
+use Rattle.text_line.specs.Numeral.{number}
+use Rattle.text_line.specs.Shown.{feed}
+use Rattle.text_line.proofs.Pieces.{long, number-long}
+use Rattle.recording_lines.specs.Words.{
+  text-absent,
+  text-at,
+  text-cells,
+  text-counts,
+  text-idle,
+  text-link,
+  text-newest,
+  text-pointer,
+  text-previous,
+  text-read,
+  text-refused,
+  text-running,
+  text-unknown,
+  text-task,
+  text-waiting,
+}
+use Rattle.recording_lines.specs.Lines.{numbers, phase, pointer, named, readLine, refusedLine, countsLine, taskLine, linkLine}
+
+-- a list of at most k bytes
+record Within (v : List ℕ) (k : ℕ) : Type 0 where
+  size : length v ≤ k
+
+-- the end of a line, and one piece more in front
+end : Within feed 1
+end = record { size = le-refl _ }
+
+piece : (a : List ℕ) {v : List ℕ} {i k : ℕ} → length a ≤ i → Within v k → Within (a ++ v) (i + k)
+piece a {v} h w = record { size = long a v h (w .size) }
+
+word : (a : List ℕ) {v : List ℕ} {k : ℕ} → Within v k → Within (a ++ v) (length a + k)
+word a w = piece a (le-refl _) w
+
+digits : (n : ℕ) {v : List ℕ} {k : ℕ} → Within v k → Within (number n ++ v) (21 + k)
+digits n w = piece (number n) (number-long n) w
+
+fits : {v : List ℕ} {k : ℕ} → Within v k → k ≤ 320 → length v ≤ 320
+fits w h = le-trans (w .size) h
+
+-- each cell has at most 21 bytes
+numbers-long : (ns : List ℕ) → length (numbers ns) ≤ 21 * length ns
+unfolding numbers
+numbers-long [] = omega arith
+numbers-long (n ∷ ns) = omega (arith, long (number n) (numbers ns) (number-long n) (numbers-long ns))
+
+-- of ten
+cells-long : (cells : List ℕ) → length (numbers (take 10 cells)) ≤ 210
+cells-long cells = omega (arith, numbers-long (take 10 cells), length-take 10 cells)
+
+-- a pointer's word or number
+pointer-long : (p : ℕ) → length (pointer p) ≤ 21
+unfolding pointer
+pointer-long p = go (eqb p 0)
+  where
+    go : (b : Bool) → length (cond b text-absent (number p)) ≤ 21
+    go true = omega arith
+    go false = number-long p
+
+-- a phase's word
+phase-long : (p : ℕ) → length (phase p) ≤ 8
+unfolding phase
+phase-long p = go (eqb p 1) (eqb p 2) (eqb p 0)
+  where
+    go : (a b c : Bool) → length (cond a text-waiting (cond b text-running (cond c text-idle text-unknown))) ≤ 8
+    go true b c = omega arith
+    go false true c = omega arith
+    go false false true = omega arith
+    go false false false = omega arith
+
+pub named-fits : (w : List ℕ) (n : ℕ) → length w ≤ 8 → length (named w n) ≤ 320
+named-fits w n h = fits (piece w h (digits n end)) (omega arith)
+
+pub read-fits : (l v : ℕ) → length (readLine l v) ≤ 320
+read-fits l v = fits (word text-read (digits l (digits v end))) (omega arith)
+
+pub refused-fits : (r p : ℕ) → length (refusedLine r p) ≤ 320
+refused-fits r p = fits (word text-refused (digits r (word text-at (digits p end)))) (omega arith)
+
+pub counts-fit : (a s r f : ℕ) → length (countsLine a s r f) ≤ 320
+counts-fit a s r f = fits (word text-counts (digits a (digits s (digits r (digits f end))))) (omega arith)
+
+pub link-fits : (l p : ℕ) → length (linkLine l p) ≤ 320
+link-fits l p = fits (word text-link (digits l (word text-pointer (piece (pointer p) (pointer-long p) end)))) (omega arith)
+
+pub task-fits : (t p n m : ℕ) (cells : List ℕ) → length (taskLine t p n m cells) ≤ 320
+task-fits t p n m cells =
+    let last = word text-cells (piece (numbers (take 10 cells)) (cells-long cells) end) in
+    let places = word text-newest (digits n (word text-previous (digits m last))) in
+    fits (word text-task (digits t (piece (phase p) (phase-long p) places))) (omega arith)

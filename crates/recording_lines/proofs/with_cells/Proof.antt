@@ -1,0 +1,73 @@
+-- `recording_lines::with_cells` meets its contract: after i turns the first i cells are there.
+-- Assumes nothing.
+use mathlib.Core.Path.{_≡_}
+use Prim.Native.Nat.{_≤_, _-_}
+use native.Mathlib.Omega.{arith}
+use lib.ListN.{length, take, length-take}
+use borrow.Author.Needs.{needs}
+use Rattle.text_line.specs.Shown.{shown, joined}
+use Rattle.recording_lines.specs.Lines.{numbers}
+use Rattle.recording_lines.proofs.Cells.{no-cell, one-cell, all-cells}
+use Rattle.recording_lines.proofs.with_cells.Statement.{statement}
+use Rattle.recording_lines.proofs.with_cells.Tie as tie
+
+abbrev Inv-loop : tie.InvT-loop
+Inv-loop cells n made₀ i₀ made i = (i ≤ n) × (shown made ≡ joined (shown made₀) (numbers (take i cells)))
+
+abbrev μ-loop : tie.MeasureT-loop
+μ-loop cells n made₀ i₀ made i = n - i
+
+least-requires : tie.Need-least-requires Inv-loop μ-loop
+least-requires c κs = search needs
+
+loop-holds : tie.Need-loop-holds Inv-loop μ-loop
+loop-holds c =
+    let a = c .before .before .args in
+    let l : length (a .line .bytes) ≡ 320 = search needs in
+    (omega arith, no-cell (shown (a .line)) (a .cells .now) (omega (arith, l, length-take (a .line .size) (a .line .bytes))))
+
+mul-wide : tie.Need-mul-wide Inv-loop μ-loop
+mul-wide c = search needs
+
+shared-slice-read-wide : tie.Need-shared-slice-read-wide Inv-loop μ-loop
+shared-slice-read-wide c = search needs
+
+wide-requires : tie.Need-wide-requires Inv-loop μ-loop
+wide-requires c κs = search needs
+
+number-requires : tie.Need-number-requires Inv-loop μ-loop
+number-requires c κs = search needs
+
+add-i : tie.Need-add-i Inv-loop μ-loop
+add-i c = search needs
+
+loop-less : tie.Need-loop-less Inv-loop μ-loop
+loop-less c = search needs
+
+loop-again : tie.Need-loop-again Inv-loop μ-loop
+loop-again c =
+    let l = c .before .before .before .before .loop in
+    let a = c .before .before .before .before .before .before .before .args in
+    (omega arith, one-cell (shown (a .line)) (a .cells .now) (l .i) (omega arith) (l .inv .1) (rw (c .before .wide .ensures) at (c .number .ensures)))
+
+returns : tie.Need-returns Inv-loop μ-loop
+returns c =
+    let a = c .before .before .before .before .args in
+    all-cells (shown (a .line)) (a .cells .now) {i = c .before .loop .i} (omega (arith, c .before .before .least .ensures)) (c .before .loop .inv .1)
+
+pub with-cells-spec : {M : Type 1} → statement M
+with-cells-spec =
+    tie.close
+    (tie.spec
+    Inv-loop
+    μ-loop
+    least-requires
+    loop-holds
+    mul-wide
+    shared-slice-read-wide
+    wide-requires
+    number-requires
+    add-i
+    loop-less
+    loop-again
+    returns)

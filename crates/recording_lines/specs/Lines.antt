@@ -1,0 +1,85 @@
+-- The lines of the printouts.
+-- Assumes nothing.
+use mathlib.Core.Bool.{cond}
+use mathlib.Core.List.{List, [], _∷_, _++_}
+use Prim.Native.Nat.{ℕ}
+use lib.Dec.{eqb}
+use lib.ListN.{take}
+use Rattle.text_line.specs.Numeral.{number}
+use Rattle.text_line.specs.Shown.{lineOf}
+use Rattle.recording_lines.specs.Words.{
+  text-absent,
+  text-accepted,
+  text-at,
+  text-cells,
+  text-counts,
+  text-idle,
+  text-link,
+  text-newest,
+  text-place,
+  text-pointer,
+  text-previous,
+  text-read,
+  text-refusal,
+  text-refused,
+  text-rest,
+  text-running,
+  text-unknown,
+  text-task,
+  text-waiting,
+}
+
+-- a space and a number for each
+unfoldable pub numbers : List ℕ → List ℕ
+numbers [] = []
+numbers (n ∷ ns) = number n ++ numbers ns
+
+-- a word and a number
+abbrev pub named : List ℕ → ℕ → List ℕ
+named word n = lineOf (word ∷ number n ∷ [])
+
+-- `accepted E`
+abbrev pub acceptedLine : ℕ → List ℕ
+acceptedLine = named text-accepted
+
+-- `refusal N`
+abbrev pub refusalLine : ℕ → List ℕ
+refusalLine = named text-refusal
+
+-- `place N`
+abbrev pub placeLine : ℕ → List ℕ
+placeLine = named text-place
+
+-- `rest N`
+abbrev pub restLine : ℕ → List ℕ
+restLine = named text-rest
+
+-- `read L V`
+abbrev pub readLine : ℕ → ℕ → List ℕ
+readLine link value = lineOf (text-read ∷ number link ∷ number value ∷ [])
+
+-- `refused N at P`
+abbrev pub refusedLine : ℕ → ℕ → List ℕ
+refusedLine refusal place = lineOf (text-refused ∷ number refusal ∷ text-at ∷ number place ∷ [])
+
+-- `counts A S R F`
+abbrev pub countsLine : ℕ → ℕ → ℕ → ℕ → List ℕ
+countsLine a s r f = lineOf (text-counts ∷ number a ∷ number s ∷ number r ∷ number f ∷ [])
+
+-- a phase: 0 idle, 1 waiting, 2 running; another number is no phase
+unfoldable pub phase : ℕ → List ℕ
+phase p = cond (eqb p 1) text-waiting (cond (eqb p 2) text-running (cond (eqb p 0) text-idle text-unknown))
+
+-- `task T PHASE newest P previous P cells V V ..`, with ten cells at most
+abbrev pub taskLine : ℕ → ℕ → ℕ → ℕ → List ℕ → List ℕ
+taskLine t p newest previous cells =
+    lineOf
+    (text-task ∷ number t ∷ phase p ∷ text-newest ∷ number newest ∷ text-previous ∷ number previous ∷ text-cells ∷ numbers (take 10 cells) ∷ [])
+
+-- a pointer, of which 0 is absent
+unfoldable pub pointer : ℕ → List ℕ
+pointer p = cond (eqb p 0) text-absent (number p)
+
+-- `link L pointer P`, `link L pointer absent`
+abbrev pub linkLine : ℕ → ℕ → List ℕ
+linkLine l p = lineOf (text-link ∷ number l ∷ text-pointer ∷ pointer p ∷ [])

@@ -1,0 +1,4 @@
+-- Laws that the proofs cite, and those that whoever makes a line cites.
+pub mod Numerals
+pub mod Pieces
+pub mod Copies

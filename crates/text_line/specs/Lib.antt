@@ -1,0 +1,3 @@
+-- What the contracts cite.
+pub mod Numeral
+pub mod Shown
