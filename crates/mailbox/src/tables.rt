@@ -3,9 +3,9 @@ ghost use mathlib.Core.Path.{_≡_};
 ghost use Prim.Native.Nat.{min};
 ghost use Rattle.protocol_state.specs.Saved.{base};
 ghost use Rattle.protocol_state.specs.Fresh.{copied};
+use lists::few;
 use mailbox_base::numbers::LINKS;
 use mailbox_base::numbers::TASKS;
-use mailbox_base::numbers::few;
 
 // The first `n` defaults, of which there are at most 16; the slots past them hold 0.
 pub fn copy_tasks(n: usize, from: &[u32; TASKS]) -> [u32; TASKS]

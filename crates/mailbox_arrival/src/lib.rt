@@ -8,13 +8,13 @@ ghost use Rattle.protocol_state.specs.Saved.{at, base};
 ghost use Rattle.protocol.specs.Free.{holds, taken, lowestFree};
 ghost use Rattle.protocol_state.specs.Next.{aimed, pointerAt};
 ghost use Rattle.mailbox_arrival.specs.Arrives.{Moves, Moved, Arrives};
+use lists::few;
 use mailbox_base::decision::ARRIVAL;
 use mailbox_base::decision::decide;
 use mailbox_base::numbers::LINKS;
 use mailbox_base::numbers::POSITIONS;
 use mailbox_base::numbers::TASKS;
 use mailbox_base::numbers::at;
-use mailbox_base::numbers::few;
 use mailbox_base::numbers::has;
 use mailbox_base::numbers::pick;
 

@@ -1,7 +1,7 @@
 // Numbers, and what stands in lent arrays of them.
 ghost use mathlib.Core.Path.{_≡_};
 ghost use mathlib.Core.Bool.{cond};
-ghost use Prim.Native.Nat.{_+_, _-_, _*_, min};
+ghost use Prim.Native.Nat.{_+_, _-_, _*_};
 ghost use lib.ListN.{set};
 ghost use Rattle.protocol.specs.Event.{has};
 ghost use Rattle.protocol_state.specs.Saved.{at, cellOf};
@@ -21,13 +21,6 @@ pub const CELLS: usize = TASKS * POSITIONS;
 
 // The bits of a set.
 const BITS: usize = 32;
-
-// A count, no more than there is room for.
-pub fn few(n: usize, room: usize) -> usize
-    ensures { λ r. ⌜ r ≡ min n room ⌝ }
-{
-    if n < room { n } else { room }
-}
 
 // `x` or `y`.
 pub fn pick(b: bool, x: u8, y: u8) -> u8

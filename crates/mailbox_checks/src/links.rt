@@ -7,8 +7,8 @@ ghost use Rattle.lists.specs.Lists.{some};
 ghost use Rattle.protocol.specs.Table.{behinds};
 ghost use Rattle.protocol_state.specs.Saved.{at, base};
 ghost use Rattle.protocol_state.specs.Rules.{joins};
+use lists::few;
 use mailbox_base::numbers::LINKS;
-use mailbox_base::numbers::few;
 
 // Whether a link from `w0` to `r0` goes from `w` to `r`.
 fn is_pair(w0: u8, r0: u8, w: u8, r: u8) -> bool

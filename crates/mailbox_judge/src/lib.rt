@@ -8,13 +8,13 @@ ghost use Rattle.protocol.specs.Event.{has};
 ghost use Rattle.protocol_state.specs.Saved.{at, base, active};
 ghost use Rattle.protocol_state.specs.Decision.{decided};
 ghost use Rattle.protocol_state.specs.Judge.{allows, mayArrive, judgedArrival, judgedTask, judgedRead};
+use lists::few;
 use mailbox_base::decision::ARRIVAL;
 use mailbox_base::decision::READ;
 use mailbox_base::decision::REFUSALS;
 use mailbox_base::decision::decide;
 use mailbox_base::numbers::LINKS;
 use mailbox_base::numbers::TASKS;
-use mailbox_base::numbers::few;
 use mailbox_base::numbers::has;
 use mailbox_base::numbers::pick;
 

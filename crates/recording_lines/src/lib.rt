@@ -4,9 +4,9 @@ ghost use Prim.Native.Nat.{_≤_};
 ghost use lib.ListN.{length, take};
 ghost use Rattle.text_line.specs.Shown.{shown, joined, Put};
 ghost use Rattle.recording_lines.specs.Lines.{numbers, phase, pointer, named, readLine, acceptedLine, refusedLine, refusalLine, placeLine, restLine, countsLine, taskLine, linkLine};
+use lists::few;
 use text_line::Line;
 use text_line::ROOM;
-use text_line::least;
 
 // Room for the longest line, a task with ten cells.
 pub const LINE: usize = ROOM;
@@ -117,7 +117,7 @@ fn wide(x: u32) -> u64
 fn with_cells(line: Line, cells: &[u32]) -> Line
     ensures { λ r. ⌜ shown r ≡ joined (shown line) (numbers (take 10 (now (cells .entry)))) ⌝ }
 {
-    let n = least(10, cells.len());
+    let n = few(10, cells.len());
     let mut made = line;
     let mut i = 0;
     while i < n {

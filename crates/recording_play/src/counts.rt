@@ -7,8 +7,8 @@ ghost use Rattle.protocol.specs.Event.{has};
 ghost use Rattle.protocol_state.specs.Saved.{base};
 ghost use Rattle.recording_core.specs.Playing.{noCounts};
 ghost use Rattle.recording_play.specs.Parts.{countsOf};
+use lists::few;
 use mailbox_base::numbers::TASKS;
-use mailbox_base::numbers::few;
 use mailbox_base::numbers::has;
 
 // How many tasks arrived, each task of an arrival counting one, and how many started, read and finished.

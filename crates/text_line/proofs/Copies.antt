@@ -30,7 +30,7 @@ take-least n l = go (leb n (length l)) refl
         let e : min n (length l) ≡ length l = omega arith in
         rw e (take-length l ∙ sym (take-all n l (omega arith)))
 
--- as much of a text as has room was copied behind the first bytes of a line
+-- as much of a text as has room was copied behind the first bytes of a line: what is there then
 pub copied :
     (bytes text : List ℕ) (size : ℕ) {at n : ℕ} {new : List ℕ} → length bytes ≡ 320 → at ≡ min size 320 → n ≡ min (320 - at) (length text) → new ≡ paste bytes at text n →
     take (at + n) new ≡ joined (take size bytes) text

@@ -10,7 +10,8 @@ use lib.Dec.{leb, ltb}
 use lib.ListN.{length, take, length-append}
 use lib.Seq.{take-all, take-append-le, take-take, length-take-le}
 use Rattle.text_line.specs.Numeral.{decimal, number}
-use Rattle.text_line.specs.Shown.{joined, Put}
+use Rattle.text_line.specs.Shown.{shown, joined, emptyLine, Put}
+use Rattle.text_line.specs.declared.Line.{Line}
 
 -- what is cut off stays cut off: a line is joined with two pieces at once
 pub joined-joined : (a b c : List ℕ) → joined (joined a b) c ≡ joined a (b ++ c)
@@ -58,5 +59,5 @@ pub piece : {line old new : List ℕ} {r : ℕ} (u t v : List ℕ) → line ≡ 
 piece u t v e p = rw (onto u t v e) at p
 
 -- and all of them are what was put
-pub whole : {line old new : List ℕ} {r : ℕ} (v : List ℕ) → line ≡ [] → length v ≤ 320 → Put (joined line v) old r new → Put v old r new
-whole v e h p = rw (begun v e h) at p
+pub whole : {l : Line} {old new : List ℕ} {r : ℕ} (v : List ℕ) → l ≡ emptyLine → length v ≤ 320 → Put (joined (shown l) v) old r new → Put v old r new
+whole v e h p = rw (begun v (ap shown e) h) at p

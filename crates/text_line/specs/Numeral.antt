@@ -14,6 +14,10 @@ decimal (suc f) n = cond (ltb n 10) ((48 + n) ∷ []) (decimal f (n / 10) ++ ((4
 abbrev pub digits : ℕ → List ℕ
 digits n = decimal 20 n
 
+-- a space
+abbrev pub space : List ℕ
+space = 32 ∷ []
+
 -- a space and a number
 unfoldable pub number : ℕ → List ℕ
-number n = 32 ∷ digits n
+number n = space ++ digits n

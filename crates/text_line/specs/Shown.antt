@@ -3,10 +3,26 @@
 use mathlib.Core.Path.{_≡_}
 use mathlib.Core.Bool.{cond}
 use mathlib.Core.List.{List, [], _∷_, _++_}
-use Prim.Native.Nat.{ℕ}
+use Prim.Native.Nat.{ℕ, _+_, _-_, min}
 use lib.Dec.{leb}
-use lib.ListN.{length, take, drop}
+use lib.ListN.{length, take, drop, replicate}
+use lib.Seq.{paste}
 use Rattle.text_line.specs.declared.Line.{Line}
+
+-- a line with nothing in it
+abbrev pub emptyLine : Line
+emptyLine = record { bytes = replicate 320 0; size = 0 }
+
+-- how many bytes are there, and for how many of a text there is room behind them
+abbrev pub filled : Line → ℕ
+filled l = min (l .size) 320
+
+abbrev pub fitting : Line → List ℕ → ℕ
+fitting l text = min (320 - filled l) (length text)
+
+-- a line with a text more: as much of it as has room goes behind what is there
+abbrev pub withText : Line → List ℕ → Line
+withText l text = record { bytes = paste (l .bytes) (filled l) text (fitting l text); size = filled l + fitting l text }
 
 -- the bytes that are there
 abbrev pub shown : Line → List ℕ

@@ -1,11 +1,11 @@
 // A line of text, made piece by piece: what no longer fits its room is cut off, and nothing is asked of whoever makes one.
 ghost use mathlib.Core.Path.{_≡_};
-ghost use mathlib.Core.List.{[]};
-ghost use Prim.Native.Nat.{_+_, _≤_, min};
+ghost use Prim.Native.Nat.{_+_, _≤_};
 ghost use lib.ListN.{length};
 ghost use lib.Seq.{paste};
-ghost use Rattle.text_line.specs.Numeral.{number};
-ghost use Rattle.text_line.specs.Shown.{shown, joined, feed, fit, Put};
+ghost use Rattle.text_line.specs.Numeral.{space, digits, number};
+ghost use Rattle.text_line.specs.Shown.{shown, joined, feed, fit, emptyLine, withText, Put};
+use lists::few;
 
 // The room of a line, its line feed among it.
 pub const ROOM: usize = 320;
@@ -14,13 +14,6 @@ pub const ROOM: usize = 320;
 pub struct Line {
     pub bytes: [u8; ROOM],
     pub size: usize,
-}
-
-// The smaller of two.
-pub fn least(a: usize, b: usize) -> usize
-    ensures { λ r. ⌜ r ≡ min a b ⌝ }
-{
-    if a < b { a } else { b }
 }
 
 // How much of a buffer a line of n bytes takes: all n, or none where it has no room.
@@ -45,7 +38,7 @@ fn copy(text: &[u8], n: usize, out: &mut [u8], at: usize)
 impl Line {
     // A line with nothing in it.
     pub fn empty() -> Line
-        ensures { λ r. ⌜ shown r ≡ [] ⌝ }
+        ensures { λ r. ⌜ r ≡ emptyLine ⌝ }
     {
         Line {
             bytes: [0u8; ROOM],
@@ -55,10 +48,11 @@ impl Line {
 
     // One text more.
     pub fn text(self, text: &[u8]) -> Line
-        ensures { λ r. ⌜ shown r ≡ joined (shown self) (now (text .entry)) ⌝ }
+        ensures answer { λ r. ⌜ r ≡ withText self (now (text .entry)) ⌝ }
+        ensures shows { λ r. ⌜ shown r ≡ joined (shown self) (now (text .entry)) ⌝ }
     {
-        let at = least(self.size, ROOM);
-        let n = least(ROOM - at, text.len());
+        let at = few(self.size, ROOM);
+        let n = few(ROOM - at, text.len());
         let mut bytes = self.bytes;
         copy(text, n, &mut bytes, at);
         Line {
@@ -69,7 +63,8 @@ impl Line {
 
     // A space and a number in decimal.
     pub fn number(self, n: u64) -> Line
-        ensures { λ r. ⌜ shown r ≡ joined (shown self) (number n) ⌝ }
+        ensures answer { λ r. ⌜ r ≡ withText (withText self space) (digits n) ⌝ }
+        ensures shows { λ r. ⌜ shown r ≡ joined (shown self) (number n) ⌝ }
     {
         let mut digits = [0u8; 20];
         let k = io::decimal(n, &mut digits);
@@ -83,7 +78,7 @@ impl Line {
         ensures { λ r. ⌜ Put (joined (shown self) feed) (now (out .entry)) r (now (out .exit)) ⌝ }
     {
         let whole = self.text(b"\n");
-        let size = fitting(least(whole.size, ROOM), out.len());
+        let size = fitting(few(whole.size, ROOM), out.len());
         let bytes = whole.bytes;
         copy(&bytes, size, out, 0);
         size

@@ -44,11 +44,11 @@ returns c =
     let e = l₁ .before .before in
     let a = e .before .before .args in
     whole _ (e .empty .ensures) (counts-fit (a .arrivals) (a .starts) (a .reads) (a .finishes))
-    (piece _ _ _ (l₁ .text .ensures)
-    (piece _ _ _ (l₂ .number .ensures)
-    (piece _ _ _ (l₃ .number2 .ensures)
-    (piece _ _ _ (l₄ .number3 .ensures)
-    (piece _ _ _ (l₅ .number4 .ensures) (p .put .ensures))))))
+    (piece _ _ _ (l₁ .text .ensures .1)
+    (piece _ _ _ (l₂ .number .ensures .1)
+    (piece _ _ _ (l₃ .number2 .ensures .1)
+    (piece _ _ _ (l₄ .number3 .ensures .1)
+    (piece _ _ _ (l₅ .number4 .ensures .1) (p .put .ensures))))))
 
 pub put-counts-spec : {M : Type 1} → statement M
 put-counts-spec =

@@ -43,9 +43,9 @@ returns c =
     let e = l₁ .before .before in
     let a = e .before .before .args in
     whole _ (e .empty .ensures) (link-fits (a .link) (a .position))
-    (piece _ _ _ (l₁ .text .ensures)
-    (piece _ _ _ (l₂ .number .ensures)
-    (piece _ _ _ (l₃ .text2 .ensures)
+    (piece _ _ _ (l₁ .text .ensures .1)
+    (piece _ _ _ (l₂ .number .ensures .1)
+    (piece _ _ _ (l₃ .text2 .ensures .1)
     (piece _ _ _ (l₄ .with-pointer .ensures) (p .put .ensures)))))
 
 pub put-link-spec : {M : Type 1} → statement M

@@ -29,8 +29,8 @@ returns c =
     let e = l₁ .before in
     let a = e .before .before .before .args in
     whole _ (e .empty .ensures) (named-fits (a .word .now) (a .n) (e .before .before .before .pre))
-    (piece _ _ _ (l₁ .text .ensures)
-    (piece _ _ _ (l₂ .number .ensures) (p .put .ensures)))
+    (piece _ _ _ (l₁ .text .ensures .1)
+    (piece _ _ _ (l₂ .number .ensures .1) (p .put .ensures)))
 
 pub put-named-spec : {M : Type 1} → statement M
 put-named-spec =

@@ -36,9 +36,9 @@ returns c =
     let e = l₁ .before .before in
     let a = e .before .before .args in
     whole _ (e .empty .ensures) (read-fits (a .link) (a .value))
-    (piece _ _ _ (l₁ .text .ensures)
-    (piece _ _ _ (l₂ .number .ensures)
-    (piece _ _ _ (l₃ .number2 .ensures) (p .put .ensures))))
+    (piece _ _ _ (l₁ .text .ensures .1)
+    (piece _ _ _ (l₂ .number .ensures .1)
+    (piece _ _ _ (l₃ .number2 .ensures .1) (p .put .ensures))))
 
 pub put-read-spec : {M : Type 1} → statement M
 put-read-spec =

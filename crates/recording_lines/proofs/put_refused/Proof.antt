@@ -43,10 +43,10 @@ returns c =
     let e = l₁ .before .before in
     let a = e .before .before .args in
     whole _ (e .empty .ensures) (refused-fits (a .refusal) (a .place))
-    (piece _ _ _ (l₁ .text .ensures)
-    (piece _ _ _ (l₂ .number .ensures)
-    (piece _ _ _ (l₃ .text2 .ensures)
-    (piece _ _ _ (l₄ .number2 .ensures) (p .put .ensures)))))
+    (piece _ _ _ (l₁ .text .ensures .1)
+    (piece _ _ _ (l₂ .number .ensures .1)
+    (piece _ _ _ (l₃ .text2 .ensures .1)
+    (piece _ _ _ (l₄ .number2 .ensures .1) (p .put .ensures)))))
 
 pub put-refused-spec : {M : Type 1} → statement M
 put-refused-spec =

@@ -69,14 +69,14 @@ returns c =
     let e = l₁ .before .before in
     let a = e .before .before .before .args in
     whole _ (e .empty .ensures) (task-fits (a .task) (a .code) (a .newest) (a .previous) (a .cells .now))
-    (piece _ _ _ (l₁ .text .ensures)
-    (piece _ _ _ (l₂ .number .ensures)
+    (piece _ _ _ (l₁ .text .ensures .1)
+    (piece _ _ _ (l₂ .number .ensures .1)
     (piece _ _ _ (l₃ .with-phase .ensures)
-    (piece _ _ _ (l₄ .text2 .ensures)
-    (piece _ _ _ (l₅ .number2 .ensures)
-    (piece _ _ _ (l₆ .text3 .ensures)
-    (piece _ _ _ (l₇ .number3 .ensures)
-    (piece _ _ _ (l₈ .text4 .ensures)
+    (piece _ _ _ (l₄ .text2 .ensures .1)
+    (piece _ _ _ (l₅ .number2 .ensures .1)
+    (piece _ _ _ (l₆ .text3 .ensures .1)
+    (piece _ _ _ (l₇ .number3 .ensures .1)
+    (piece _ _ _ (l₈ .text4 .ensures .1)
     (piece _ _ _ (l₉ .with-cells .ensures) (p .put .ensures))))))))))
 
 pub put-task-spec : {M : Type 1} → statement M

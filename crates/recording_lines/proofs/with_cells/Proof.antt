@@ -17,8 +17,8 @@ Inv-loop cells n made₀ i₀ made i = (i ≤ n) × (shown made ≡ joined (show
 abbrev μ-loop : tie.MeasureT-loop
 μ-loop cells n made₀ i₀ made i = n - i
 
-least-requires : tie.Need-least-requires Inv-loop μ-loop
-least-requires c κs = search needs
+few-requires : tie.Need-few-requires Inv-loop μ-loop
+few-requires c κs = search needs
 
 loop-holds : tie.Need-loop-holds Inv-loop μ-loop
 loop-holds c =
@@ -48,12 +48,12 @@ loop-again : tie.Need-loop-again Inv-loop μ-loop
 loop-again c =
     let l = c .before .before .before .before .loop in
     let a = c .before .before .before .before .before .before .before .args in
-    (omega arith, one-cell (shown (a .line)) (a .cells .now) (l .i) (omega arith) (l .inv .1) (rw (c .before .wide .ensures) at (c .number .ensures)))
+    (omega arith, one-cell (shown (a .line)) (a .cells .now) (l .i) (omega arith) (l .inv .1) (rw (c .before .wide .ensures) at (c .number .ensures .1)))
 
 returns : tie.Need-returns Inv-loop μ-loop
 returns c =
     let a = c .before .before .before .before .args in
-    all-cells (shown (a .line)) (a .cells .now) {i = c .before .loop .i} (omega (arith, c .before .before .least .ensures)) (c .before .loop .inv .1)
+    all-cells (shown (a .line)) (a .cells .now) {i = c .before .loop .i} (omega (arith, c .before .before .few .ensures)) (c .before .loop .inv .1)
 
 pub with-cells-spec : {M : Type 1} → statement M
 with-cells-spec =
@@ -61,7 +61,7 @@ with-cells-spec =
     (tie.spec
     Inv-loop
     μ-loop
-    least-requires
+    few-requires
     loop-holds
     mul-wide
     shared-slice-read-wide

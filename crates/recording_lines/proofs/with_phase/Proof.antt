@@ -14,7 +14,7 @@ text-requires c κs = search needs
 
 returns : tie.Need-returns
 unfolding phase
-returns c = rw (eq-eqb _ 1 (c .before .before .if1 .taken)) (c .text .ensures)
+returns c = rw (eq-eqb _ 1 (c .before .before .if1 .taken)) (c .text .ensures .1)
 
 slice-aggregate-text-2 : tie.Need-slice-aggregate-text-2
 slice-aggregate-text-2 c = search needs
@@ -24,7 +24,7 @@ text-requires-2 c κs = search needs
 
 returns-2 : tie.Need-returns-2
 unfolding phase
-returns-2 c = rw (ne-eqb _ 1 (c .before .before .before .if1 .left), eq-eqb _ 2 (c .before .before .if2 .taken)) (c .text2 .ensures)
+returns-2 c = rw (ne-eqb _ 1 (c .before .before .before .if1 .left), eq-eqb _ 2 (c .before .before .if2 .taken)) (c .text2 .ensures .1)
 
 slice-aggregate-text-3 : tie.Need-slice-aggregate-text-3
 slice-aggregate-text-3 c = search needs
@@ -34,7 +34,7 @@ text-requires-3 c κs = search needs
 
 returns-3 : tie.Need-returns-3
 unfolding phase
-returns-3 c = rw (ne-eqb _ 1 (c .before .before .before .before .if1 .left), ne-eqb _ 2 (c .before .before .before .if2 .left), eq-eqb _ 0 (c .before .before .if3 .taken)) (c .text3 .ensures)
+returns-3 c = rw (ne-eqb _ 1 (c .before .before .before .before .if1 .left), ne-eqb _ 2 (c .before .before .before .if2 .left), eq-eqb _ 0 (c .before .before .if3 .taken)) (c .text3 .ensures .1)
 
 slice-aggregate-text-4 : tie.Need-slice-aggregate-text-4
 slice-aggregate-text-4 c = search needs
@@ -44,7 +44,7 @@ text-requires-4 c κs = search needs
 
 returns-4 : tie.Need-returns-4
 unfolding phase
-returns-4 c = rw (ne-eqb _ 1 (c .before .before .before .before .if1 .left), ne-eqb _ 2 (c .before .before .before .if2 .left), ne-eqb _ 0 (c .before .before .if3 .left)) (c .text4 .ensures)
+returns-4 c = rw (ne-eqb _ 1 (c .before .before .before .before .if1 .left), ne-eqb _ 2 (c .before .before .before .if2 .left), ne-eqb _ 0 (c .before .before .if3 .left)) (c .text4 .ensures .1)
 
 pub with-phase-spec : {M : Type 1} → statement M
 with-phase-spec =

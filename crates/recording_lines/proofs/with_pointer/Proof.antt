@@ -14,14 +14,14 @@ text-requires c κs = search needs
 
 returns : tie.Need-returns
 unfolding pointer
-returns c = rw (eq-eqb _ 0 (c .before .before .if1 .taken)) (c .text .ensures)
+returns c = rw (eq-eqb _ 0 (c .before .before .if1 .taken)) (c .text .ensures .1)
 
 number-requires : tie.Need-number-requires
 number-requires c κs = search needs
 
 returns-2 : tie.Need-returns-2
 unfolding pointer
-returns-2 c = rw (ne-eqb _ 0 (c .before .if1 .left)) (c .number .ensures)
+returns-2 c = rw (ne-eqb _ 0 (c .before .if1 .left)) (c .number .ensures .1)
 
 pub with-pointer-spec : {M : Type 1} → statement M
 with-pointer-spec =

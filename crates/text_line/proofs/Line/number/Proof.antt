@@ -1,11 +1,11 @@
 -- `text_line::Line::number` meets its contract: a space, then what `io::decimal` spelled, which is the number's digits.
 -- Assumes nothing.
 use mathlib.Core.Path.{_≡_, ap, _∙_}
-use mathlib.Core.List.{List, [], _∷_}
+use mathlib.Core.List.{List, _++_}
 use Prim.Native.Nat.{ℕ}
 use lib.ListN.{take}
 use borrow.Author.Needs.{needs}
-use Rattle.text_line.specs.Numeral.{number}
+use Rattle.text_line.specs.Numeral.{space, number}
 use Rattle.text_line.specs.Shown.{shown, joined}
 use Rattle.text_line.proofs.Numerals.{spelled}
 use Rattle.text_line.proofs.Pieces.{onto}
@@ -36,8 +36,11 @@ returns c =
     let a = c .before .before .before .before .before .before .args in
     let d = c .before .before .before .before .decimal in
     let x = spelled (a .n) (d .result) (d .last .1 .0) (search needs) (d .ensures .1 .0) (d .ensures .1 .1) in
-    c .text2 .ensures ∙ onto (shown (a .self)) (32 ∷ []) (take (d .result) (d .last .1 .0)) (c .before .before .text .ensures)
-    ∙ ap (λ (z : List ℕ). joined (shown (a .self)) (32 ∷ z)) (x .1)
+    let first = c .before .before .text .ensures in (
+      c .text2 .ensures .0 ∙ rw (first .0, x .1),
+      c .text2 .ensures .1 ∙ onto (shown (a .self)) space (take (d .result) (d .last .1 .0)) (first .1)
+          ∙ ap (λ (z : List ℕ). joined (shown (a .self)) (space ++ z)) (x .1),
+    )
 
 pub number-spec : {M : Type 1} → statement M
 number-spec =

@@ -14,8 +14,8 @@ slice-aggregate-text c = search needs
 text-requires : tie.Need-text-requires
 text-requires c κs = search needs
 
-least-requires : tie.Need-least-requires
-least-requires c κs = search needs
+few-requires : tie.Need-few-requires
+few-requires c κs = search needs
 
 fitting-requires : tie.Need-fitting-requires
 fitting-requires c κs = search needs
@@ -26,7 +26,7 @@ slice-aggregate-copy c = search needs
 copy-requires : tie.Need-copy-requires
 copy-requires c κs =
     let f = c .before .before .before .fitting in
-    let m = c .before .before .before .before .least in
+    let m = c .before .before .before .before .few in
     let l : length (c .before .before .before .before .before .text .result .bytes) ≡ 320 = search needs in
     let s = fit-small (m .result) (length (c .before .before .before .before .before .before .before .before .args .out .now)) in
     (omega (arith, l, m .ensures, f .ensures, s .0), omega (arith, f .ensures, s .1))
@@ -38,9 +38,9 @@ returns : tie.Need-returns
 returns c =
     let t = c .before .before .before .before .before .before .before .before .text in
     let l : length (t .result .bytes) ≡ 320 = search needs in
-    ended (t .result .bytes) (t .result .size) l (c .before .before .before .before .before .before .before .least .ensures) (t .ensures) (c .before .before .before .before .before .before .fitting .ensures) (c .before .before .copy .ensures)
+    ended (t .result .bytes) (t .result .size) l (c .before .before .before .before .before .before .before .few .ensures) (t .ensures .1) (c .before .before .before .before .before .before .fitting .ensures) (c .before .before .copy .ensures)
 
 pub put-spec : {M : Type 1} → statement M
 put-spec =
     tie.close
-    (tie.spec slice-aggregate-text text-requires least-requires fitting-requires slice-aggregate-copy copy-requires same-length returns)
+    (tie.spec slice-aggregate-text text-requires few-requires fitting-requires slice-aggregate-copy copy-requires same-length returns)
