@@ -30,19 +30,10 @@ pub fn pick(b: bool, x: u8, y: u8) -> u8
 }
 
 // What stands at `i`, and 0 past the end.
-pub fn at(a: &[u8; TASKS], i: usize) -> u8
+pub fn at(a: &[u8], i: usize) -> u8
     ensures { λ r. ⌜ r ≡ at (now (a .entry)) i ⌝ }
 {
-    let s: &[u8] = a;
-    if i < s.len() { s[i] } else { 0 }
-}
-
-// The same in an array of links.
-pub fn at_link(a: &[u8; LINKS], i: usize) -> u8
-    ensures { λ r. ⌜ r ≡ at (now (a .entry)) i ⌝ }
-{
-    let s: &[u8] = a;
-    if i < s.len() { s[i] } else { 0 }
+    if i < a.len() { a[i] } else { 0 }
 }
 
 // Stores at `i`, where that is within.

@@ -3,6 +3,7 @@
 -- Assumes nothing.
 use mathlib.Core.Path.{_≡_}
 use mathlib.Core.Bool.{true}
+use Prim.Native.Nat.{ℕ}
 use lib.Dec.{ltb}
 use contract.Lifetimes.{Lfts}
 use denote.Triple.Clauses.{AtExit}
@@ -13,6 +14,8 @@ use Rattle.protocol_state.specs.Fresh.{made}
 use Rattle.protocol_state.specs.Sound.{isSound}
 use Rattle.mailbox_parts.specs.Plain.{plain}
 use Rattle.mailbox.specs.States.{saved, madeOf, given, StaysSound}
+use Rattle.mailbox.specs.declared.State.{State}
+use Rattle.mailbox.specs.declared.Step.{Step}
 use Rattle.mailbox.proofs.State.fresh.Kinds as of-fresh
 use Rattle.mailbox.proofs.State.fresh.Reads as fresh
 use Rattle.mailbox.proofs.State.arrival.Kinds as of-arrival
@@ -25,6 +28,10 @@ use Rattle.mailbox.proofs.State.finish.Kinds as of-finish
 use Rattle.mailbox.proofs.State.finish.Reads as finish
 use Rattle.mailbox.proofs.State.event.Kinds as of-event
 use Rattle.mailbox.proofs.State.event.Reads as event
+
+-- an event given to a state: the answer is the reply to it, and a sound state stays sound
+abbrev Answers : State → protocol.Event ℕ → Step → Type 0
+Answers q e a = (a ≡ given q e) × StaysSound q a
 
 -- a table
 module _ (κs : Lfts 0) (lent : Dens κs of-fresh.ps) (m : resT of-fresh.r κs .Denot) (left : AtExit (endedOf 0 of-fresh.ps of-fresh.r) κs) where
@@ -41,40 +48,40 @@ module _ (κs : Lfts 0) (lent : Dens κs of-fresh.ps) (m : resT of-fresh.r κs .
 
 -- the arrival of a set
 module _ (κs : Lfts 0) (lent : Dens κs of-arrival.ps) (a : resT of-arrival.r κs .Denot) (left : AtExit (endedOf 0 of-arrival.ps of-arrival.r) κs) where
-  pub arrival-learnt : arrival.Learnt κs lent a left → (a ≡ given (lent .0) (protocol.arrival (lent .1 .0))) × StaysSound (lent .0) a
+  pub arrival-learnt : arrival.Learnt κs lent a left → Answers (lent .0) (protocol.arrival (lent .1 .0)) a
   arrival-learnt learnt = learnt
 
-  pub arrival-told : (a ≡ given (lent .0) (protocol.arrival (lent .1 .0))) × StaysSound (lent .0) a → arrival.Learnt κs lent a left
+  pub arrival-told : Answers (lent .0) (protocol.arrival (lent .1 .0)) a → arrival.Learnt κs lent a left
   arrival-told said = said
 
 -- the start of a task
 module _ (κs : Lfts 0) (lent : Dens κs of-start.ps) (a : resT of-start.r κs .Denot) (left : AtExit (endedOf 0 of-start.ps of-start.r) κs) where
-  pub start-learnt : start.Learnt κs lent a left → (a ≡ given (lent .0) (protocol.start (lent .1 .0))) × StaysSound (lent .0) a
+  pub start-learnt : start.Learnt κs lent a left → Answers (lent .0) (protocol.start (lent .1 .0)) a
   start-learnt learnt = learnt
 
-  pub start-told : (a ≡ given (lent .0) (protocol.start (lent .1 .0))) × StaysSound (lent .0) a → start.Learnt κs lent a left
+  pub start-told : Answers (lent .0) (protocol.start (lent .1 .0)) a → start.Learnt κs lent a left
   start-told said = said
 
 -- a read by a link
 module _ (κs : Lfts 0) (lent : Dens κs of-read.ps) (a : resT of-read.r κs .Denot) (left : AtExit (endedOf 0 of-read.ps of-read.r) κs) where
-  pub read-learnt : read.Learnt κs lent a left → (a ≡ given (lent .0) (protocol.read (lent .1 .0))) × StaysSound (lent .0) a
+  pub read-learnt : read.Learnt κs lent a left → Answers (lent .0) (protocol.read (lent .1 .0)) a
   read-learnt learnt = learnt
 
-  pub read-told : (a ≡ given (lent .0) (protocol.read (lent .1 .0))) × StaysSound (lent .0) a → read.Learnt κs lent a left
+  pub read-told : Answers (lent .0) (protocol.read (lent .1 .0)) a → read.Learnt κs lent a left
   read-told said = said
 
 -- the finish of a task with a value
 module _ (κs : Lfts 0) (lent : Dens κs of-finish.ps) (a : resT of-finish.r κs .Denot) (left : AtExit (endedOf 0 of-finish.ps of-finish.r) κs) where
-  pub finish-learnt : finish.Learnt κs lent a left → (a ≡ given (lent .0) (protocol.finish (lent .1 .0) (lent .1 .1 .0))) × StaysSound (lent .0) a
+  pub finish-learnt : finish.Learnt κs lent a left → Answers (lent .0) (protocol.finish (lent .1 .0) (lent .1 .1 .0)) a
   finish-learnt learnt = learnt
 
-  pub finish-told : (a ≡ given (lent .0) (protocol.finish (lent .1 .0) (lent .1 .1 .0))) × StaysSound (lent .0) a → finish.Learnt κs lent a left
+  pub finish-told : Answers (lent .0) (protocol.finish (lent .1 .0) (lent .1 .1 .0)) a → finish.Learnt κs lent a left
   finish-told said = said
 
 -- any event
 module _ (κs : Lfts 0) (lent : Dens κs of-event.ps) (a : resT of-event.r κs .Denot) (left : AtExit (endedOf 0 of-event.ps of-event.r) κs) where
-  pub event-learnt : event.Learnt κs lent a left → (a ≡ given (lent .0) (plain (lent .1 .0))) × StaysSound (lent .0) a
+  pub event-learnt : event.Learnt κs lent a left → Answers (lent .0) (plain (lent .1 .0)) a
   event-learnt learnt = learnt
 
-  pub event-told : (a ≡ given (lent .0) (plain (lent .1 .0))) × StaysSound (lent .0) a → event.Learnt κs lent a left
+  pub event-told : Answers (lent .0) (plain (lent .1 .0)) a → event.Learnt κs lent a left
   event-told said = said

@@ -13,7 +13,6 @@ use mailbox_base::numbers::CELLS;
 use mailbox_base::numbers::LINKS;
 use mailbox_base::numbers::TASKS;
 use mailbox_base::numbers::at;
-use mailbox_base::numbers::at_link;
 use mailbox_base::numbers::cell_at;
 use mailbox_base::numbers::cell_of;
 use mailbox_base::numbers::pick;
@@ -33,7 +32,7 @@ pub fn number_of(l: u8, writer: &[u8; LINKS], pointer: &[u8; LINKS], cells: &[u3
     ensures { λ r. ⌜ r ≡ numberOf l (at (now (writer .entry))) (at (now (pointer .entry))) (at (now (cells .entry))) ⌝ }
 {
     let i = l as usize;
-    cell_at(cells, at_link(writer, i), at_link(pointer, i))
+    cell_at(cells, at(writer, i), at(pointer, i))
 }
 
 // What becomes of the pointer `x` of a link from `w` to `r`, as `t` finishes.

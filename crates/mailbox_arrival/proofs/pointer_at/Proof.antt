@@ -19,11 +19,11 @@ pick-requires c κs = search needs
 returns : tie.Need-returns
 returns c =
     rw (
-      ← c .before .before .before .before .has .ensures,
-      c .before .before .before .if1 .taken,
+      ← c .before .before .before .before .before .before .has .ensures,
+      c .before .before .before .before .before .if1 .taken,
       c .pick .ensures,
       c .before .at2 .ensures,
-      c .before .before .at .ensures,
+      c .before .before .before .at .ensures,
     )
 
 returns-2 : tie.Need-returns-2

@@ -15,7 +15,7 @@ pointer-is-requires : tie.Need-pointer-is-requires
 pointer-is-requires c κs = search needs
 
 returns : tie.Need-returns
-returns c = rw (c .pointer-is .ensures, c .before .readers-behind .ensures .0, min-eq-left (c .before .before .before .pre), c .before .before .at .ensures)
+returns c = rw (c .pointer-is .ensures, c .before .readers-behind .ensures .0, min-eq-left (c .before .before .before .before .pre), c .before .before .at .ensures)
 
 pub pointer-ok-spec : {M : Type 1} → statement M
 pointer-ok-spec =
