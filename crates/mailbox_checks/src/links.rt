@@ -1,13 +1,14 @@
 // What the first links of a table, of which there are at most 32, say of one link more, and of a task.
 ghost use mathlib.Core.Path.{_≡_};
-ghost use mathlib.Core.Bool.{_&&_, cond};
-ghost use Prim.Native.Nat.{_+_, _≤_, _<_, min};
+ghost use mathlib.Core.Bool.{_&&_};
+ghost use Prim.Native.Nat.{_≤_, min};
 ghost use lib.Dec.{eqb, ltb};
 ghost use Rattle.lists.specs.Lists.{some};
 ghost use Rattle.protocol.specs.Table.{behinds};
 ghost use Rattle.protocol_state.specs.Saved.{at, base};
 ghost use Rattle.protocol_state.specs.Rules.{joins};
 use lists::few;
+use lists::one_if;
 use mailbox_base::numbers::LINKS;
 
 // Whether a link from `w0` to `r0` goes from `w` to `r`.
@@ -38,14 +39,6 @@ fn is_behind(w: u8, r: u8, t: usize) -> bool
     (w as usize == t) & (t < r as usize)
 }
 
-// One more where the test holds. There are few links, so the sum fits.
-fn add(b: bool, c: usize) -> usize
-    requires { ⌜ c < base .links ⌝ }
-    ensures { λ r. ⌜ r ≡ cond b (c + 1) c ⌝ }
-{
-    if b { c + 1 } else { c }
-}
-
 // N: how many of the first `n` links are task `t`'s to readers behind.
 pub fn readers_behind(writer: &[u8; LINKS], reader: &[u8; LINKS], n: usize, t: usize) -> usize
     ensures { λ r. ⌜ (r ≡ behinds ltb (at (now (writer .entry))) (at (now (reader .entry))) t (min n (base .links))) × (r ≤ base .links) ⌝ }
@@ -54,7 +47,7 @@ pub fn readers_behind(writer: &[u8; LINKS], reader: &[u8; LINKS], n: usize, t: u
     let mut c = 0;
     let mut l = 0;
     while l < end {
-        c = add(is_behind(writer[l], reader[l], t), c);
+        c += one_if(is_behind(writer[l], reader[l], t));
         l += 1;
     }
     c

@@ -1,13 +1,13 @@
 // The four counts of an answer.
 ghost use mathlib.Core.Path.{_≡_};
-ghost use mathlib.Core.Bool.{cond};
-ghost use Prim.Native.Nat.{_+_, _≤_, _<_, min};
+ghost use Prim.Native.Nat.{_≤_, min};
 ghost use Rattle.lists.specs.Lists.{count};
 ghost use Rattle.protocol.specs.Event.{has};
 ghost use Rattle.protocol_state.specs.Saved.{base};
 ghost use Rattle.recording_core.specs.Playing.{noCounts};
 ghost use Rattle.recording_play.specs.Parts.{countsOf};
 use lists::few;
+use lists::one_if;
 use mailbox_base::numbers::TASKS;
 use mailbox_base::numbers::has;
 
@@ -31,14 +31,6 @@ pub fn none() -> Counts
     }
 }
 
-// One more where the test holds. There are few tasks, so the sum fits.
-fn add(b: bool, c: usize) -> usize
-    requires { ⌜ c < base .tasks ⌝ }
-    ensures { λ r. ⌜ r ≡ cond b (c + 1) c ⌝ }
-{
-    if b { c + 1 } else { c }
-}
-
 // How many tasks of the table, which has at most 16, are in a set.
 pub fn tasks_in(set: u32, tasks: usize) -> usize
     ensures { λ r. ⌜ (r ≡ count (has set) (min tasks (base .tasks))) × (r ≤ base .tasks) ⌝ }
@@ -47,7 +39,7 @@ pub fn tasks_in(set: u32, tasks: usize) -> usize
     let mut c = 0;
     let mut t = 0;
     while t < end {
-        c = add(has(set, t), c);
+        c += one_if(has(set, t));
         t += 1;
     }
     c

@@ -13,16 +13,17 @@ use Rattle.text_line.specs.declared.Line.{Line}
 abbrev pub emptyLine : Line
 emptyLine = record { bytes = replicate 320 0; size = 0 }
 
--- how many bytes are there, and for how many of a text there is room behind them
+-- how many bytes are there
 abbrev pub filled : Line → ℕ
 filled l = min (l .size) 320
 
-abbrev pub fitting : Line → List ℕ → ℕ
-fitting l text = min (320 - filled l) (length text)
+-- for how many bytes of a text there is room behind them
+abbrev pub roomFor : Line → List ℕ → ℕ
+roomFor l text = min (320 - filled l) (length text)
 
 -- a line with a text more: as much of it as has room goes behind what is there
 abbrev pub withText : Line → List ℕ → Line
-withText l text = record { bytes = paste (l .bytes) (filled l) text (fitting l text); size = filled l + fitting l text }
+withText l text = record { bytes = paste (l .bytes) (filled l) text (roomFor l text); size = filled l + roomFor l text }
 
 -- the bytes that are there
 abbrev pub shown : Line → List ℕ

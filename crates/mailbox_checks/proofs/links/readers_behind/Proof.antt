@@ -6,6 +6,7 @@ use native.Mathlib.Omega.{arith}
 use borrow.Author.Needs.{needs}
 use Rattle.lists.specs.Lists.{count}
 use Rattle.lists.proofs.Lists.{count-none, count-more, count-end, count-le}
+use Rattle.lists.proofs.Bools.{cond-small}
 use Rattle.protocol.specs.Table.{toBehind}
 use lib.Dec.{ltb}
 use Rattle.protocol_state.specs.Saved.{at}
@@ -34,13 +35,19 @@ element-copy-out-is-behind-2 c = omega arith
 is-behind-requires : tie.Need-is-behind-requires Inv-loop μ-loop
 is-behind-requires c κs = search needs
 
-add-requires : tie.Need-add-requires Inv-loop μ-loop
-add-requires c κs =
-    let a = c .before .before .before .before .before .before .args in
+one-if-requires : tie.Need-one-if-requires Inv-loop μ-loop
+one-if-requires c κs = search needs
+
+add-c : tie.Need-add-c Inv-loop μ-loop
+add-c c =
+    let a = c .before .before .before .before .before .before .before .args in
+    let l = c .before .before .before .before .before .loop in
     omega (
       arith,
-      count-le (toBehind ltb (at (a .writer .now)) (at (a .reader .now)) (a .t)) (c .before .before .before .before .loop .l),
-      c .before .before .before .before .loop .inv .1,
+      count-le (toBehind ltb (at (a .writer .now)) (at (a .reader .now)) (a .t)) (l .l),
+      l .inv .1,
+      c .one-if .ensures,
+      cond-small (c .before .is-behind .result) {x = 1} {y = 0} {m = 1} (omega arith) (omega arith),
     )
 
 add-l : tie.Need-add-l Inv-loop μ-loop
@@ -54,7 +61,7 @@ loop-again c =
     let a = c .before .before .before .before .before .before .before .args in (
       omega arith,
       count-more (toBehind ltb (at (a .writer .now)) (at (a .reader .now)) (a .t)) _
-          (c .before .is-behind .ensures) (c .before .before .before .before .before .loop .inv .1) (c .add .ensures),
+          (c .before .is-behind .ensures) (c .before .before .before .before .before .loop .inv .1) (c .one-if .ensures),
     )
 
 returns : tie.Need-returns Inv-loop μ-loop
@@ -74,7 +81,8 @@ readers-behind-spec =
     element-copy-out-is-behind
     element-copy-out-is-behind-2
     is-behind-requires
-    add-requires
+    one-if-requires
+    add-c
     add-l
     loop-less
     loop-again
