@@ -7,7 +7,7 @@ use Rattle.protocol_state.specs.Saved.{Saved}
 use Rattle.protocol_state.specs.Fresh as fresh
 use Rattle.mailbox.specs.States.{saved, madeOf}
 use Rattle.mailbox.specs.declared.Made.{Made}
-use Rattle.recording_format.specs.Play.{Reply}
+use Rattle.byte_format.specs.Play.{Reply}
 use Rattle.recording_core.specs.Playing.{Playing}
 use Rattle.recording.specs.Answers.{replied}
 use Rattle.recording.specs.declared.Answer.{Answer}

@@ -7,7 +7,7 @@ use lib.Dec.{ltb}
 use Rattle.protocol.specs.History.{Counts}
 use Rattle.protocol_state.specs.Saved.{Saved, base}
 use Rattle.recording_format.specs.Limits.{baseLimits}
-use Rattle.recording_format.specs.Play.{Reply}
+use Rattle.byte_format.specs.Play.{Reply}
 use Rattle.recording_format.specs.Recording.{recording}
 use Rattle.recording_core.specs.Playing.{Playing, coreOf}
 

@@ -12,20 +12,20 @@ use Rattle.protocol_state.specs.Saved.{at}
 use Rattle.protocol_state.specs.Rules.{Ranks, judgedTable}
 use Rattle.protocol_state.proofs.Rules.{obeys, no-fault}
 use Rattle.protocol_state.proofs.History.{reached-possible}
-use Rattle.recording_format.specs.Number.{Bytes}
-use Rattle.recording_format.specs.Stands.{Stands}
-use Rattle.recording_format.specs.Format.{got, encodes, FitEach}
-use Rattle.recording_format.specs.Play.{Reply, reply, Allowed, Cut}
+use Rattle.byte_format.specs.Number.{Bytes}
+use Rattle.byte_format.specs.Stands.{Stands}
+use Rattle.byte_format.specs.Format.{got, encodes, FitEach}
+use Rattle.byte_format.specs.Play.{Reply, reply, Allowed, Cut}
 use Rattle.recording_format.specs.Task.{anyDefault, andDefault}
 use Rattle.recording_format.specs.Link.{Link, listed}
-use Rattle.recording_format.specs.Section.{Faulty}
+use Rattle.byte_format.specs.Section.{Faulty}
 use Rattle.recording_format.specs.Event.{eventAt, events}
 use Rattle.recording_format.specs.Limits.{Limits, eventLimit}
 use Rattle.recording_format.specs.Recording.{encodeRecording, recording, throughE, stateAfter, Recorded}
 use Rattle.recording_format.specs.Outcome.{TableTo, Outcome, taskCount, taskRecord, linkCount, linkRecord, eventCount, eventRecord, extraBytes, accepted}
 use Rattle.recording_format.proofs.Sizes.{tasks-within, within-tasks, links-within, within-links, events-within, within-events, tasks-fit, links-fit, events-fit}
 use Rattle.recording_format.proofs.LinkRules.{length-listed, allowed-no-fault, no-fault-allowed, allowed-judged, recorded-judged}
-use Rattle.recording_format.proofs.Sections.{section-records, faulty-records}
+use Rattle.byte_format.proofs.Sections.{section-records, faulty-records}
 use Rattle.recording_format.proofs.Recordings.{accepted-recorded, recorded-accepted}
 use Rattle.recording_format.proofs.Cuts.{recorded-cut}
 use Rattle.recording_format.proofs.WholeRecords.{cut-as-whole}

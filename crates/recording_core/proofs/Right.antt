@@ -25,7 +25,7 @@ use Rattle.protocol_state.specs.Reached.{Reached}
 use Rattle.protocol_state.proofs.Give.{give-done}
 use Rattle.protocol_state.proofs.History.{reached-sound, judged-history, after-done, reached-after, reached-fresh}
 use Rattle.protocol_state.proofs.Numbers.{reached-ideals}
-use Rattle.recording_format.specs.Play.{Allowed, finally}
+use Rattle.byte_format.specs.Play.{Allowed, finally}
 use Rattle.recording_core.specs.Playing.{Playing, noCounts, full, noRoom, listedBy, judgedIn, steppedIn}
 use Rattle.recording_core.specs.Promise.{past, placed, refusedBy}
 use Rattle.recording_core.specs.Right.{Right}

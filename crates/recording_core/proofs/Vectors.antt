@@ -13,12 +13,13 @@ use Rattle.protocol_state.specs.Decision.{decided}
 use Rattle.protocol_state.specs.Judge.{judgedArrival, judgedTask, judgedRead}
 use Rattle.protocol_state.specs.Next.{newestAfter, previousAfter, pointerAfter, phaseAfter}
 use Rattle.protocol_state.specs.Fresh.{freshOf}
-use Rattle.recording_format.specs.Number.{bytesOf, numberOf}
-use Rattle.recording_format.specs.Format.{encodes}
-use Rattle.recording_format.specs.Play.{Reply, play}
-use Rattle.recording_format.specs.Section.{countAt, section}
+use Rattle.byte_format.specs.Number.{bytesOf, numberOf}
+use Rattle.byte_format.specs.Format.{encodes}
+use Rattle.byte_format.specs.Play.{Reply, play}
+use Rattle.byte_format.specs.Section.{countAt, section}
 use Rattle.recording_format.specs.Link.{Link, linkFault}
-use Rattle.recording_format.specs.Event.{kindAt, encodeEvent}
+use Rattle.recording_format.specs.Event.{encodeEvent}
+use Rattle.byte_format.specs.Kinded.{firstByte}
 use Rattle.recording_format.specs.Limits.{baseLimits}
 use Rattle.recording_format.specs.Recording.{encodeRecording, tableThen, eventsFrom, recording}
 use Rattle.recording_core.specs.Playing.{Playing, coreOf, judgedIn, steppedIn}
@@ -125,5 +126,5 @@ pub marked-cases : map answer cases ≡
     ∷ summary 14 34 4 1 0 0 (sevens 8)
     ∷ summary 15 32 4 0 0 0 (sevens 8)
     ∷ [])
-unfolding upto every some count first leading has decided judgedArrival judgedTask judgedRead newestAfter previousAfter pointerAfter phaseAfter freshOf bytesOf numberOf encodes play countAt section linkFault kindAt encodeEvent recording tableThen eventsFrom judgedIn steppedIn
+unfolding upto every some count first leading has decided judgedArrival judgedTask judgedRead newestAfter previousAfter pointerAfter phaseAfter freshOf bytesOf numberOf encodes play countAt section linkFault firstByte encodeEvent recording tableThen eventsFrom judgedIn steppedIn
 marked-cases = refl

@@ -10,9 +10,9 @@ use Rattle.protocol.specs.History.{reads, counts}
 use Rattle.protocol.specs.ZeroTime.{ideals}
 use Rattle.protocol_state.specs.Saved.{Size, Saved, table}
 use Rattle.protocol_state.specs.Reached.{Reached}
-use Rattle.recording_format.specs.Stands.{Stands}
-use Rattle.recording_format.specs.Format.{encodes, FitEach}
-use Rattle.recording_format.specs.Play.{Reply}
+use Rattle.byte_format.specs.Stands.{Stands}
+use Rattle.byte_format.specs.Format.{encodes, FitEach}
+use Rattle.byte_format.specs.Play.{Reply}
 use Rattle.recording_format.specs.Link.{Link}
 use Rattle.recording_format.specs.Event.{events}
 use Rattle.recording_format.specs.Limits.{Limits}

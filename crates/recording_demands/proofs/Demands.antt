@@ -17,9 +17,9 @@ use Rattle.protocol.proofs.Upward.{upward-order}
 use Rattle.protocol_state.specs.Saved.{Saved, base, table, boxes, busy}
 use Rattle.protocol_state.specs.Fresh.{freshOf}
 use Rattle.protocol_state.proofs.Rules.{ltb-ranks}
-use Rattle.recording_format.specs.Format.{got}
-use Rattle.recording_format.specs.Play.{Reply, reply, Cut}
-use Rattle.recording_format.specs.Section.{Faulty}
+use Rattle.byte_format.specs.Format.{got}
+use Rattle.byte_format.specs.Play.{Reply, reply, Cut}
+use Rattle.byte_format.specs.Section.{Faulty}
 use Rattle.recording_format.specs.Link.{Link, listed}
 use Rattle.recording_format.specs.Event.{eventAt, events}
 use Rattle.recording_format.specs.Limits.{baseLimits, eventLimit}

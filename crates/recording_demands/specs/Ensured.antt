@@ -9,7 +9,7 @@ use Rattle.protocol.specs.Table.{Table}
 use Rattle.protocol.specs.ZeroTime.{ideals, Settled}
 use Rattle.protocol.specs.Instant.{upward, zeroRun, looked, theres}
 use Rattle.protocol_state.specs.Saved.{base}
-use Rattle.recording_format.specs.Number.{Bytes}
+use Rattle.byte_format.specs.Number.{Bytes}
 use Rattle.recording_format.specs.Limits.{baseLimits}
 use Rattle.recording_format.specs.Recording.{recording}
 use Rattle.recording_core.specs.Playing.{coreOf}

@@ -2,7 +2,7 @@
 ghost use mathlib.Core.Path.{_≡_};
 ghost use Prim.Native.Nat.{_+_, _*_, _≤_};
 ghost use lib.ListN.{length};
-ghost use Rattle.recording_format.specs.Number.{numberAt};
+ghost use Rattle.byte_format.specs.Number.{numberAt};
 
 // The number of two bytes, the lowest first.
 fn join2(a: u8, b: u8) -> u16

@@ -2,7 +2,7 @@
 -- Assumes nothing.
 use mathlib.Core.Path.{ap}
 use borrow.Author.Needs.{needs}
-use Rattle.recording_format.specs.Play.{Reply}
+use Rattle.byte_format.specs.Play.{Reply}
 use Rattle.recording_core.specs.Playing.{Playing}
 use Rattle.recording_printout.proofs.print_inspect.Statement.{statement}
 use Rattle.recording_printout.proofs.print_inspect.Tie as tie

@@ -1,7 +1,7 @@
 -- `recording_read::fields::u16_at` meets its contract: the law of two bytes.
 -- Assumes nothing.
 use mathlib.Core.Path.{sym, _∙_}
-use Rattle.recording_format.proofs.Numbers.{number-two}
+use Rattle.byte_format.proofs.Numbers.{number-two}
 use borrow.Author.Needs.{needs}
 use Rattle.recording_read.proofs.fields.u16_at.Statement.{statement}
 use Rattle.recording_read.proofs.fields.u16_at.Tie as tie

@@ -1,7 +1,7 @@
 -- `recording_read::fields::u32_at` meets its contract: the law of four bytes.
 -- Assumes nothing.
 use mathlib.Core.Path.{sym, _∙_}
-use Rattle.recording_format.proofs.Numbers.{number-four}
+use Rattle.byte_format.proofs.Numbers.{number-four}
 use borrow.Author.Needs.{needs}
 use Rattle.recording_read.proofs.fields.u32_at.Statement.{statement}
 use Rattle.recording_read.proofs.fields.u32_at.Tie as tie

@@ -1,7 +1,7 @@
 -- `recording_read::fields::u8_at` meets its contract: the law of one byte.
 -- Assumes nothing.
 use mathlib.Core.Path.{sym}
-use Rattle.recording_format.proofs.Numbers.{number-one}
+use Rattle.byte_format.proofs.Numbers.{number-one}
 use borrow.Author.Needs.{needs}
 use Rattle.recording_read.proofs.fields.u8_at.Statement.{statement}
 use Rattle.recording_read.proofs.fields.u8_at.Tie as tie

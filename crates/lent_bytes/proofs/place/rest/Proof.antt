@@ -1,9 +1,9 @@
--- `recording_read::place::rest` meets its contract: the part from the place on is the whole rest.
+-- `lent_bytes::place::rest` meets its contract: the part from the place on is the whole rest.
 -- Assumes nothing.
-use Rattle.recording_read.proofs.Rests.{rest-from, rest-none}
+use Rattle.lent_bytes.proofs.Rests.{rest-from, rest-none}
 use borrow.Author.Needs.{needs}
-use Rattle.recording_read.proofs.place.rest.Statement.{statement}
-use Rattle.recording_read.proofs.place.rest.Tie as tie
+use Rattle.lent_bytes.proofs.place.rest.Statement.{statement}
+use Rattle.lent_bytes.proofs.place.rest.Tie as tie
 
 sub-result : tie.Need-sub-result
 sub-result c = search needs

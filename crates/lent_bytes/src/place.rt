@@ -3,11 +3,18 @@ ghost use mathlib.Core.Path.{_≡_};
 ghost use Prim.Native.Nat.{_-_};
 ghost use lib.ListN.{length, drop};
 
+// How many of n are left from a place on.
+pub fn left(n: usize, at: usize) -> usize
+    ensures { λ r. ⌜ r ≡ n - at ⌝ }
+{
+    if at < n { n - at } else { 0 }
+}
+
 // How many bytes stand from a place on.
 pub fn room(s: &[u8], at: usize) -> usize
     ensures { λ r. ⌜ r ≡ length (now (s .entry)) - at ⌝ }
 {
-    if at < s.len() { s.len() - at } else { 0 }
+    left(s.len(), at)
 }
 
 // The part of the lent bytes from a place to their end, empty past the end.
