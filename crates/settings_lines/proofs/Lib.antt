@@ -1,0 +1,5 @@
+-- Laws that the proofs cite, and lines computed from the definitions.
+pub mod Divisions
+pub mod Hexadecimal
+pub mod Chains
+pub mod Lengths

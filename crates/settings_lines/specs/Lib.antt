@@ -1,0 +1,5 @@
+-- The lines of migrated settings: what the contracts cite.
+pub mod Decimal
+pub mod Hex
+pub mod Words
+pub mod Lines
