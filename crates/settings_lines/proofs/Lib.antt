@@ -3,3 +3,4 @@ pub mod Divisions
 pub mod Hexadecimal
 pub mod Chains
 pub mod Lengths
+pub mod Examples
