@@ -4,3 +4,4 @@ pub mod Hexadecimal
 pub mod Chains
 pub mod Lengths
 pub mod Examples
+pub mod Value
