@@ -7,7 +7,7 @@ use lib.ListN.{length}
 use lib.Seq.{take-all}
 use Rattle.text_line.specs.Numeral.{number}
 use Rattle.text_line.specs.Shown.{joined, lineOf, Put}
-use Rattle.text_line.proofs.Pieces.{onto, begun, piece}
+use Rattle.text_line.proofs.Pieces.{onto, begun}
 use Rattle.settings_lines.specs.Hex.{hexOf}
 use Rattle.settings_lines.specs.Words.{text-setting, text-bits}
 use Rattle.settings_lines.specs.Lines.{settingLine}

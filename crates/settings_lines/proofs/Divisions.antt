@@ -45,7 +45,7 @@ remainder m k =
     a ∙ b ∙ rw (c, d, e) (omega arith)
 
 -- a float that is not large has ten digits or more under the point
-pub under-ten : (b : ℕ) → large b ≡ false → 10 ≤ under b
+under-ten : (b : ℕ) → large b ≡ false → 10 ≤ under b
 under-ten b h = omega (arith, ltb-false 1065 (exponent b) h)
 
 -- its whole millionths, by a power of two that fits

@@ -1,8 +1,7 @@
 -- Lines of migrated settings, computed from the definitions.
 -- Assumes nothing.
 use mathlib.Core.Path.{_≡_, refl}
-use mathlib.Core.List.{List, [], _∷_}
-use Prim.Native.Nat.{ℕ}
+use mathlib.Core.List.{[], _∷_}
 use Rattle.text_line.specs.Numeral.{decimal, number}
 use Rattle.settings_lines.specs.Decimal.{significand, millionths, cutOff, sixDigits}
 use Rattle.settings_lines.specs.Hex.{hexadecimal}

@@ -8,7 +8,7 @@ use native.Mathlib.Nat.{le-trans, not-le-of-lt, pow-le-pow-right}
 use native.Mathlib.Omega.{arith}
 use borrow.Author.Tests.{leb-true, leb-false}
 use lib.Dec.{leb, lit<}
-use lib.ListN.{length, take, length-append}
+use lib.ListN.{length, length-append}
 use Rattle.io.specs.Digits.{digits, Fewest}
 use Rattle.settings_lines.specs.Hex.{hexDigit, hexadecimal, hexOf}
 

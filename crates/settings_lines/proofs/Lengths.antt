@@ -1,7 +1,7 @@
 -- Every line fits its room.
 -- Assumes nothing.
 use mathlib.Core.Bool.{Bool, true, false, cond}
-use mathlib.Core.List.{List, [], _∷_, _++_}
+use mathlib.Core.List.{List, [], _++_}
 use Prim.Native.Nat.{ℕ, _+_, _/_, _≤_}
 use native.Mathlib.Nat.{le-refl, le-trans}
 use native.Mathlib.Omega.{arith}
@@ -12,7 +12,7 @@ use Rattle.text_line.proofs.Pieces.{long, number-long}
 use Rattle.settings_lines.specs.Decimal.{large, millionths, cutOff, sixDigits}
 use Rattle.settings_lines.specs.Hex.{hexOf}
 use Rattle.settings_lines.specs.Words.{text-above, text-at-least, text-bits, text-closed, text-less, text-migrated, text-point, text-setting}
-use Rattle.settings_lines.specs.Lines.{cutWords, exactly, atLeast, value, settingLine, migratedLine}
+use Rattle.settings_lines.specs.Lines.{cutWords, inMillionths, atLeast, value, settingLine, migratedLine}
 use Rattle.settings_lines.proofs.Hexadecimal.{hexadecimal-long}
 
 -- a list of at most k bytes
@@ -54,7 +54,7 @@ pub value-long : (unit : List ℕ) (b : ℕ) → length unit ≤ 8 → length (v
 unfolding value
 value-long unit b h = go (large b)
   where
-    go : (t : Bool) → length (cond t (atLeast unit) (exactly unit b)) ≤ 100
+    go : (t : Bool) → length (cond t (atLeast unit) (inMillionths unit b)) ≤ 100
     go true = fits 100 (word text-at-least (piece unit h (last text-above (le-refl _)))) (omega arith)
     go false =
         let n = millionths b in

@@ -28,8 +28,8 @@ unfoldable pub cutWords : List ℕ → ℕ → List ℕ
 cutWords unit b = cond (cutOff b) (text-less ++ (unit ++ text-closed)) []
 
 -- a value that is not large: `W.DDDDDD UNIT`, and what is cut off
-abbrev pub exactly : List ℕ → ℕ → List ℕ
-exactly unit b = number (millionths b / 1000000) ++ (text-point ++ (sixDigits (millionths b) ++ (unit ++ cutWords unit b)))
+abbrev pub inMillionths : List ℕ → ℕ → List ℕ
+inMillionths unit b = number (millionths b / 1000000) ++ (text-point ++ (sixDigits (millionths b) ++ (unit ++ cutWords unit b)))
 
 -- a large value: `at least 8796093022208 UNIT (cut off: what is above)`
 abbrev pub atLeast : List ℕ → List ℕ
@@ -37,11 +37,11 @@ atLeast unit = text-at-least ++ (unit ++ text-above)
 
 -- a value in decimal, with its unit
 unfoldable pub value : List ℕ → ℕ → List ℕ
-value unit b = cond (large b) (atLeast unit) (exactly unit b)
+value unit b = cond (large b) (atLeast unit) (inMillionths unit b)
 
--- `setting I KIND VALUE, bits B`, for a value of 64 bits in decimal
+-- `setting I KIND VALUE, bits B`: what is shown of a value, and its 64 bits
 abbrev pub settingLine : List ℕ → ℕ → List ℕ → ℕ → List ℕ
-settingLine kind i shownValue b = lineOf (text-setting ∷ number i ∷ kind ∷ shownValue ∷ text-bits ∷ hexOf b ∷ [])
+settingLine kind i v b = lineOf (text-setting ∷ number i ∷ kind ∷ v ∷ text-bits ∷ hexOf b ∷ [])
 
 -- a setting that is a binary64
 abbrev pub floatLine : List ℕ → List ℕ → ℕ → ℕ → List ℕ

@@ -6,14 +6,10 @@ ghost use Prim.Native.Nat.{_+_, _*_, _/_, _^_, _≤_, _<_};
 ghost use lib.ListN.{length};
 ghost use Rattle.text_line.specs.Numeral.{number as Numeral·number};
 ghost use Rattle.text_line.specs.Shown.{shown, joined, lineOf, Put};
-ghost use Rattle.settings_lines.specs.Decimal.{under, digitAt};
-ghost use Rattle.settings_lines.specs.Decimal.{significand as Decimal·significand};
-ghost use Rattle.settings_lines.specs.Decimal.{large as Decimal·large};
-ghost use Rattle.settings_lines.specs.Decimal.{millionths as Decimal·millionths};
-ghost use Rattle.settings_lines.specs.Decimal.{cutOff, sixDigits};
+ghost use Rattle.settings_lines.specs.Decimal.{under, cutOff, digitAt, sixDigits, significand as Decimal·significand, large as Decimal·large, millionths as Decimal·millionths};
 ghost use Rattle.settings_lines.specs.Hex.{hexOf};
 ghost use Rattle.settings_lines.specs.Words.{text-setting, text-bits};
-ghost use Rattle.settings_lines.specs.Lines.{cutWords, exactly, value, floatLine, marginLine, feedLine, countLine, migratedLine};
+ghost use Rattle.settings_lines.specs.Lines.{cutWords, inMillionths, value, floatLine, marginLine, feedLine, countLine, migratedLine};
 use text_line::Line;
 use text_line::ROOM;
 
@@ -147,7 +143,7 @@ fn with_cut(line: Line, unit: &[u8], bits: u64) -> Line
 // A line with a float that is not large more, in decimal, with its unit.
 fn with_millionths(line: Line, unit: &[u8], bits: u64) -> Line
     requires { ⌜ Decimal·large bits ≡ false ⌝ }
-    ensures { λ r. ⌜ shown r ≡ joined (shown line) (exactly (now (unit .entry)) bits) ⌝ }
+    ensures { λ r. ⌜ shown r ≡ joined (shown line) (inMillionths (now (unit .entry)) bits) ⌝ }
 {
     let n = millionths(bits);
     let whole = line.number(n / 1000000).text(b".");
