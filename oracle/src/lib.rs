@@ -1,5 +1,6 @@
 //! A second judge of the mailbox core and the recording reader, written from
-//! document 01 (the scope) alone.
+//! document 01 (the scope) alone; and in `settings` one of the settings
+//! migrator, from document 02 (the change requests).
 //!
 //! `format` reads recordings, `pointers` and `zero_time` are two engines that
 //! know nothing of each other, `subject` is what gets judged, `laws` says the
@@ -25,6 +26,7 @@ pub mod reach;
 mod run;
 mod saved;
 mod schedule;
+pub mod settings;
 pub mod state;
 pub mod subject;
 pub mod tables;

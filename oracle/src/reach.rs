@@ -89,12 +89,12 @@ fn print_refusals(title: &str, refusals: &[usize]) {
     println!("{} {}", title, told.join(" "));
 }
 
-fn never_given(missing: &mut Vec<String>, place: &str, refusals: &Refusals, wanted: Vec<usize>) {
+pub fn never_given(missing: &mut Vec<String>, place: &str, refusals: &[usize], wanted: Vec<usize>) {
     let never = wanted.into_iter().filter(|number| refusals[*number] == 0);
     missing.extend(never.map(|number| format!("refusal {} {}", number, place)));
 }
 
-fn at_least(missing: &mut Vec<String>, what: &str, reached: usize, wanted: usize) {
+pub fn at_least(missing: &mut Vec<String>, what: &str, reached: usize, wanted: usize) {
     if reached < wanted {
         missing.push(format!("{} {}: {}", wanted, what, reached));
     }

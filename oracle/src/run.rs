@@ -14,8 +14,8 @@ use crate::reach::Reached;
 use crate::subject::Subject;
 use crate::wrong::{in_saved_states, in_tables, Wrong, IN_RECORDINGS};
 use exposure::{subjects, Exposure};
-pub use options::Options;
-use options::{quota, stream};
+use options::quota;
+pub use options::{stream, Options};
 
 struct Run<'a> {
     subject: &'a dyn Subject,
