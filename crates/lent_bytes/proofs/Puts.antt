@@ -1,19 +1,49 @@
--- Bytes put behind others: what was put first, then what was put behind it, then the old bytes.
+-- Bytes put into others where they have room, and bytes put behind bytes.
 -- Assumes nothing.
-use mathlib.Core.Path.{_≡_, refl, sym, ap, _∙_}
-use mathlib.Core.List.{List, [], _++_, append-assoc}
+use mathlib.Core.Path.{_≡_, sym, ap, _∙_}
+use mathlib.Core.List.{List, _++_, append-assoc}
 use Prim.Native.Nat.{ℕ, _+_, _-_, _≤_, min}
 use native.Mathlib.Omega.{arith}
 use lib.ListN.{length, take, drop, length-append, length-drop}
-use lib.Seq.{take-append-seam, take-length, drop-append-add, drop-drop}
+use lib.Seq.{take-append-seam, take-length, take-at, drop-append-add, drop-drop, length-take-le}
 use Rattle.lent_bytes.specs.Put.{putAt}
+
+-- bytes that have room are put whole
+pub put-whole : (d : List ℕ) (at : ℕ) (x : List ℕ) → at + length x ≤ length d → putAt d at x ≡ take at d ++ x ++ drop (at + length x) d
+put-whole d at x h =
+    let n : min (length x) (length d - at) ≡ length x = omega arith in
+    rw (n, take-length x)
+
+module _ (d : List ℕ) (at : ℕ) (x y : List ℕ) (h : at + length x + length y ≤ length d) where
+  front : List ℕ
+  front = take at d ++ x
+
+  front-long : length front ≡ at + length x
+  unfolding front
+  front-long = omega (arith, length-append (take at d) x, length-take-le at d (omega arith))
+
+  -- bytes and then those behind them
+  pub put-put : putAt (putAt d at x) (at + length x) y ≡ putAt d at (x ++ y)
+  unfolding front
+  put-put =
+      let m = at + length x in
+      let a : putAt d at x ≡ front ++ drop m d = put-whole d at x (omega arith) in
+      let l : length (front ++ drop m d) ≡ length d = omega (arith, front-long, length-append front (drop m d), length-drop m d) in
+      let b : putAt (front ++ drop m d) m y ≡ take m (front ++ drop m d) ++ y ++ drop (m + length y) (front ++ drop m d) = put-whole (front ++ drop m d) m y (omega arith) in
+      let f : take m (front ++ drop m d) ≡ front = take-at front (drop m d) m front-long in
+      let k : length front + length y ≡ m + length y = omega (arith, front-long) in
+      let g : drop (m + length y) (front ++ drop m d) ≡ drop (m + length y) d = ap (λ (i : ℕ). drop i (front ++ drop m d)) (sym k) ∙ drop-append-add front (drop m d) (length y) ∙ drop-drop (length y) m d in
+      let n : at + length (x ++ y) ≡ m + length y = omega (arith, length-append x y) in
+      let c : putAt d at (x ++ y) ≡ take at d ++ (x ++ y) ++ drop (at + length (x ++ y)) d = put-whole d at (x ++ y) (omega arith) in
+      let e : take m (front ++ drop m d) ++ y ++ drop (m + length y) (front ++ drop m d) ≡ take at d ++ (x ++ y) ++ drop (at + length (x ++ y)) d =
+      rw (f, g, n) (ap (λ (r : List ℕ). r ++ drop (m + length y) d) (append-assoc (take at d) x y)) in
+      ap (λ (u : List ℕ). putAt u m y) a ∙ b ∙ e ∙ sym c
 
 -- bytes put behind those that stand at the start
 pub put-behind : (old x y : List ℕ) → length x + length y ≤ length old → putAt (x ++ drop (length x) old) (length x) y ≡ (x ++ y) ++ drop (length (x ++ y)) old
 put-behind old x y h =
     let d = x ++ drop (length x) old in
     let l : length d ≡ length old = omega (arith, length-append x (drop (length x) old), length-drop (length x) old) in
-    let n : min (length y) (length d - length x) ≡ length y = omega arith in
     let a : take (length x) d ≡ x = take-append-seam x (drop (length x) old) in
     let b : drop (length x + length y) d ≡ drop (length x + length y) old = drop-append-add x (drop (length x) old) (length y) ∙ drop-drop (length y) (length x) old in
-    rw (n, a, take-length y, b, length-append x y)
+    put-whole d (length x) y (omega arith) ∙ rw (a, b, length-append x y)

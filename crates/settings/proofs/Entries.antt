@@ -1,0 +1,120 @@
+-- An entry, read and judged: what the code finds at a place is what the format says of it, and one turn of the list.
+-- Assumes nothing.
+use mathlib.Core.Path.{_≡_, refl, sym, ap, _∙_}
+use mathlib.Core.Logic.{_≢_, ⊎-elim}
+use mathlib.Core.Bool.{Bool, true, false, cond}
+use mathlib.Core.List.{List, [], _∷_, _++_}
+use Prim.Native.Nat.{ℕ, _+_, _-_, _≤_, _<_}
+use native.Mathlib.Omega.{arith}
+use borrow.Author.Tests.{eqb-true, eqb-false, eq-eqb, ne-eqb}
+use types.Run.{OneOf}
+use denote.Enum.Declared.{tagOf}
+use lib.Dec.{eqb}
+use lib.ListN.{length}
+use Rattle.byte_format.specs.Number.{numberAt}
+use Rattle.byte_format.specs.Format.{Got, got, stop, after, sized}
+use Rattle.byte_format.specs.Kinded.{firstByte, recordAt}
+use Rattle.byte_format.specs.Play.{Reply, reply, play}
+use Rattle.byte_format.proofs.Sized.{too-few, enough-for}
+use Rattle.byte_format.proofs.Plays.{play-on, play-refused, play-stop}
+use Rattle.settings.specs.declared.Setting.{Setting}
+use Rattle.settings.specs.declared.code.Code.{Code}
+use Rattle.settings.specs.declared.code.Found.{Found}
+use Rattle.settings.specs.declared.code.Found.the-variants as found
+use Rattle.settings.specs.Setting.{faultOf}
+use Rattle.settings.specs.Entry.{Entry, codeOf, codes, entries, made, settingOf}
+use Rattle.settings.specs.Found.{foundOf, reasonOf, judged, taken}
+use Rattle.settings.specs.Migration.{badFloat, andSetting}
+use Rattle.settings.proofs.code.Found as F
+use Rattle.settings.proofs.Records.{entries-lawful}
+
+-- a setting without a fault is taken
+pub good-entry : (k : Code) (n : ℕ) → faultOf (made k n) ≡ 0 → (q : ℕ) → got (made k n) q ≡ judged k n q
+unfolding judged
+good-entry k n h q = rw (eq-eqb (faultOf (made k n)) 0 h)
+
+-- and one with a fault is refused with it
+pub bad-entry : (k : Code) (n r : ℕ) → faultOf (made k n) ≡ r → r ≢ 0 → (q : ℕ) → stop r ≡ judged k n q
+unfolding judged
+bad-entry k n r h z q = rw (h, ne-eqb r 0 z)
+
+-- an entry of a found code, judged
+thenJudged : List ℕ → ℕ → Got Code → Got Setting
+thenJudged s p x = after (after x (λ k q. sized 9 (codes .body k s p) s p)) (λ a q. judged (a .kind) (a .bits) q)
+
+then-taken : (s : List ℕ) (p : ℕ) {x : Got Code} → x ≡ firstByte codeOf s p → thenJudged s p x ≡ taken s p
+unfolding thenJudged taken
+then-taken s p e = rw e
+
+module _ (f : Found) (s : List ℕ) (p : ℕ) (e : foundOf f (p + 1) ≡ firstByte codeOf s p) where
+  -- no code: the byte is unknown, or it is missing
+  pub no-code : {r : ℕ} → OneOf (1 ∷ 2 ∷ []) (tagOf F.the-type f) → r ≡ reasonOf f → stop r ≡ taken s p
+  unfolding thenJudged
+  no-code {r} o h = ap stop h ∙ go f o ∙ then-taken s p e
+    where
+      go : (x : Found) → OneOf (1 ∷ 2 ∷ []) (tagOf F.the-type x) → stop (reasonOf x) ≡ thenJudged s p (foundOf x (p + 1))
+      go (found.Known k) t = ⊎-elim (λ (u : _≡_ {A = ℕ} 0 1). absurd (omega arith)) (λ (u : _≡_ {A = ℕ} 0 2). absurd (omega arith)) t
+      go found.Unknown t = refl
+      go found.Missing t = refl
+
+  module _ {k : Code} {m : ℕ} (g : f ≡ found.Known k) (l : m ≡ length s - p) where
+    known : thenJudged s p (got k (p + 1)) ≡ taken s p
+    known = ap (λ (x : Found). thenJudged s p (foundOf x (p + 1))) (sym g) ∙ then-taken s p e
+
+    -- a code, and the rest is missing
+    pub rest-cut : m < 9 → stop 1 ≡ taken s p
+    unfolding thenJudged
+    rest-cut h = sym (rw (too-few 9 (codes .body k s p) s p l h)) ∙ known
+
+    -- a code and its 8 bytes
+    pub all-there : 9 ≤ m → {n : ℕ} → n ≡ numberAt 8 s (p + 1) → (x : Got Setting) → x ≡ judged k n (p + 9) → x ≡ taken s p
+    unfolding thenJudged
+    all-there h u x j = j ∙ rw u (sym (rw (enough-for 9 (codes .body k s p) s p l h)) ∙ known)
+
+-- what stands at a place where an entry is due: an entry that is taken, one with a fault, or none
+data Turn (s : List ℕ) (p : ℕ) : Type 0 where
+  takes : (a : Entry) (m : ℕ) → recordAt codes s p ≡ got a m → faultOf (settingOf a) ≡ 0 → taken s p ≡ got (settingOf a) m → Turn s p
+  faults : (a : Entry) (m : ℕ) → recordAt codes s p ≡ got a m → faultOf (settingOf a) ≢ 0 → taken s p ≡ stop (faultOf (settingOf a)) → Turn s p
+  stops : (r : ℕ) → r ≢ 0 → recordAt codes s p ≡ stop r → taken s p ≡ stop r → Turn s p
+
+turn : (s : List ℕ) (p : ℕ) → Turn s p
+unfolding taken judged
+turn s p = go (recordAt codes s p) refl
+  where
+    fault : (a : Entry) (m : ℕ) → recordAt codes s p ≡ got a m → (t : Bool) → eqb (faultOf (settingOf a)) 0 ≡ t → Turn s p
+    fault a m r true t = takes a m r (eqb-true _ 0 t) (rw (r, t))
+    fault a m r false t = faults a m r (eqb-false _ 0 t) (rw (r, t))
+
+    go : (g : Got Entry) → recordAt codes s p ≡ g → Turn s p
+    go (got a m) r = fault a m r (eqb (faultOf (settingOf a)) 0) refl
+    go (stop b) r = stops b (entries-lawful .faults s p b r) r (rw r)
+
+-- the list at turn i of n: w is its whole reply, and what is left of it is read from place p on
+module _ (xs : List Setting) (s : List ℕ) (p i n : ℕ) {w : Reply (List Setting)} (h : i < n) (e : w ≡ play entries badFloat andSetting (n - i) xs s p) where
+  -- an entry that is taken: on to the next
+  pub taken-on : (x : Setting) (q : ℕ) → taken s p ≡ got x q → w ≡ play entries badFloat andSetting (n - (i + 1)) (xs ++ (x ∷ [])) s q
+  taken-on x q u = go (turn s p)
+    where
+      not : (r : ℕ) → taken s p ≡ stop r → w ≡ play entries badFloat andSetting (n - (i + 1)) (xs ++ (x ∷ [])) s q
+      not r v = let y : _≡_ {A = ℕ} 0 1 = cc in absurd (omega arith)
+
+      go : Turn s p → w ≡ play entries badFloat andSetting (n - (i + 1)) (xs ++ (x ∷ [])) s q
+      go (takes a m r f v) =
+          let y : settingOf a ≡ x = cc in
+          let z : m ≡ q = cc in
+          rw (← y, ← z) (play-on entries badFloat andSetting xs s p i n e a m h r f)
+      go (faults a m r f v) = not (faultOf (settingOf a)) v
+      go (stops r f k v) = not r v
+
+  -- one that is refused: that is the reply
+  pub taken-stops : (r : ℕ) → taken s p ≡ stop r → (r ≢ 0) × (reply r p xs ≡ w)
+  taken-stops r u = go (turn s p)
+    where
+      go : Turn s p → (r ≢ 0) × (reply r p xs ≡ w)
+      go (takes a m k f v) = let y : _≡_ {A = ℕ} 0 1 = cc in absurd (omega arith)
+      go (faults a m k f v) =
+          let y : faultOf (settingOf a) ≡ r = cc in
+          (rw y at f, rw y at (play-refused entries badFloat andSetting xs s p i n e a m h k f))
+      go (stops b f k v) =
+          let y : b ≡ r = cc in
+          (rw y at f, rw y at (play-stop entries badFloat andSetting xs s p i n e b h k))

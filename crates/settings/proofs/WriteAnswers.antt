@@ -1,0 +1,65 @@
+-- What writing back answers, case by case, and the buffer after it.
+-- Assumes nothing.
+use mathlib.Core.Path.{_≡_, refl, sym, ap, _∙_}
+use mathlib.Core.Logic.{_≢_}
+use mathlib.Core.Bool.{Bool, true, false}
+use mathlib.Core.List.{List, _++_}
+use Prim.Native.Nat.{ℕ, _+_, _*_, _≤_, _<_}
+use native.Mathlib.Omega.{arith}
+use borrow.Author.Tests.{eqb-true, ne-eqb, lt-ltb, le-ltb}
+use lib.ListN.{length, drop}
+use Rattle.lists.proofs.Search.{first-below}
+use Rattle.settings.specs.declared.Slot.{Slot}
+use Rattle.settings.specs.Setting.{faultOf}
+use Rattle.settings.specs.Migration.{countLimit}
+use Rattle.settings.specs.Writing.{settingAt, goodAt, firstBad, AllGood, listOf, sizeOf, answer, written, bufferAfter}
+
+-- where the first bad one lies past them, the first n settings are good
+pub all-good : (ss : List Slot) (n : ℕ) {b : ℕ} → b ≡ firstBad ss n → n ≤ b → AllGood ss n
+all-good ss n e h i l = go (goodAt ss i) refl
+  where
+    go : (t : Bool) → goodAt ss i ≡ t → faultOf (settingAt ss i) ≡ 0
+    go true t = eqb-true _ 0 t
+    go false t = absurd (omega (arith, first-below (goodAt ss) n 0 i (omega arith) t))
+
+-- a count from 1 to 64 has no fault
+count-fine : (n : ℕ) → n ≢ 0 → n ≤ 64 → countLimit n ≡ 0
+count-fine n z h = rw (ne-eqb n 0 z, le-ltb 64 n h)
+
+module _ (ss : List Slot) (n : ℕ) (old : List ℕ) where
+  -- a refusal leaves the buffer as it was
+  pub left-alone : {r p : ℕ} → r ≢ 0 → answer r p ≡ written ss n (length old) → (answer r p ≡ written ss n (length old)) × (old ≡ bufferAfter ss n old)
+  unfolding bufferAfter
+  left-alone {r} z e = (e, sym (rw (← e, ne-eqb r 0 z)))
+
+  -- an acceptance puts the list there
+  pub list-there : {p : ℕ} {new : List ℕ} → answer 0 p ≡ written ss n (length old) → new ≡ listOf ss n ++ drop (sizeOf n) old → (answer 0 p ≡ written ss n (length old)) × (new ≡ bufferAfter ss n old)
+  unfolding bufferAfter
+  list-there e b = (e, b ∙ sym (rw (← e)))
+
+  -- no settings
+  pub none-given : n ≡ 0 → answer 2 0 ≡ written ss n (length old)
+  unfolding written
+  none-given e = sym (rw e)
+
+  -- more than 64
+  pub many-given : 64 < n → answer 2 0 ≡ written ss n (length old)
+  unfolding written
+  many-given h = sym (rw (ne-eqb n 0 (omega arith), lt-ltb 64 n h))
+
+  module _ (z : n ≢ 0) (h : n ≤ 64) {b : ℕ} (e : b ≡ firstBad ss n) where
+    -- a bad float
+    pub bad-given : b < n → answer 26 (1 + 9 * b) ≡ written ss n (length old)
+    unfolding written
+    bad-given l = sym (rw (count-fine n z h, ← e, lt-ltb b n l))
+
+    module _ (g : n ≤ b) where
+      -- a short buffer
+      pub short-buffer : length old < sizeOf n → answer 18 (sizeOf n) ≡ written ss n (length old)
+      unfolding written
+      short-buffer l = sym (rw (count-fine n z h, ← e, le-ltb b n g, lt-ltb (length old) (sizeOf n) l))
+
+      -- room enough
+      pub room-enough : sizeOf n ≤ length old → answer 0 (sizeOf n) ≡ written ss n (length old)
+      unfolding written
+      room-enough l = sym (rw (count-fine n z h, ← e, le-ltb b n g, le-ltb (length old) (sizeOf n) l))

@@ -1,0 +1,65 @@
+-- `settings::entry::entry_at` meets its contract: no code, a cut entry, or its setting judged.
+-- Assumes nothing.
+use Prim.Native.Nat.{_+_}
+use Rattle.settings.proofs.Entries.{no-code, rest-cut, all-there}
+use borrow.Author.Needs.{needs}
+use Rattle.settings.proofs.entry.entry_at.Statement.{statement}
+use Rattle.settings.proofs.entry.entry_at.Tie as tie
+
+code-at-requires : tie.Need-code-at-requires
+code-at-requires c κs = search needs
+
+enum-known-found : tie.Need-enum-known-found
+enum-known-found c = search needs
+
+reason-requires : tie.Need-reason-requires
+reason-requires c κs = search needs
+
+returns : tie.Need-returns
+returns c =
+    let code = c .before .before in
+    let a = code .before .before .args in
+    no-code (code .code-at .result) (a .s .now) (a .at) (code .code-at .ensures) (c .before .match .keys2) (c .reason .ensures)
+
+room-requires : tie.Need-room-requires
+room-requires c κs = search needs
+
+returns-2 : tie.Need-returns-2
+returns-2 c =
+    let found = c .before .before .before in
+    let code = found .before .before in
+    let a = code .before .before .args in
+    rest-cut (code .code-at .result) (a .s .now) (a .at) (code .code-at .ensures) (found .found .given .1) (c .before .room .ensures) (c .if1 .taken)
+
+add-number-at : tie.Need-add-number-at
+add-number-at c = search needs
+
+number-at-requires : tie.Need-number-at-requires
+number-at-requires c κs = search needs
+
+judge-requires : tie.Need-judge-requires
+judge-requires c κs = search needs
+
+returns-3 : tie.Need-returns-3
+returns-3 c =
+    let test = c .before .before in
+    let found = test .before .before .before in
+    let code = found .before .before in
+    let a = code .before .before .args in
+    all-there (code .code-at .result) (a .s .now) (a .at) (code .code-at .ensures) (found .found .given .1) (test .before .room .ensures) (test .if1 .left)
+    (c .before .number-at .ensures) _ (c .judge .ensures (a .at + 9))
+
+pub entry-at-spec : {M : Type 1} → statement M
+entry-at-spec =
+    tie.close
+    (tie.spec
+    code-at-requires
+    enum-known-found
+    reason-requires
+    returns
+    room-requires
+    returns-2
+    add-number-at
+    number-at-requires
+    judge-requires
+    returns-3)

@@ -1,0 +1,48 @@
+-- What the readers of a list answer with, as the format says it.
+-- Assumes nothing.
+use mathlib.Core.Bool.{cond}
+use mathlib.Core.List.{List}
+use Prim.Native.Nat.{ℕ}
+use lib.Dec.{eqb}
+use Rattle.byte_format.specs.Format.{Got, got, stop, after}
+use Rattle.byte_format.specs.Kinded.{recordAt}
+use Rattle.settings.specs.declared.Setting.{Setting}
+use Rattle.settings.specs.declared.code.Code.{Code}
+use Rattle.settings.specs.declared.code.Found.{Found}
+use Rattle.settings.specs.declared.code.Found.the-variants as found
+use Rattle.settings.specs.declared.entry.Next.{Next}
+use Rattle.settings.specs.declared.entry.Next.the-variants as next
+use Rattle.settings.specs.declared.list.Counted.{Counted}
+use Rattle.settings.specs.declared.list.Counted.the-variants as counted
+use Rattle.settings.specs.Setting.{faultOf}
+use Rattle.settings.specs.Entry.{codes, made}
+
+-- a code and the place after it, or the refusal
+abbrev pub foundOf : Found → ℕ → Got Code
+foundOf (found.Known k) q = got k q
+foundOf found.Unknown q = stop 11
+foundOf found.Missing q = stop 1
+
+-- why there is no code; 0 where there is one
+abbrev pub reasonOf : Found → ℕ
+reasonOf (found.Known k) = 0
+reasonOf found.Unknown = 11
+reasonOf found.Missing = 1
+
+-- a setting and the place after its entry, or the refusal
+abbrev pub nextOf : Next → ℕ → Got Setting
+nextOf (next.Got x) q = got x q
+nextOf (next.Refused r) q = stop r
+
+-- the setting of a code and 8 bytes that end at q, judged
+unfoldable pub judged : Code → ℕ → ℕ → Got Setting
+judged k n q = cond (eqb (faultOf (made k n)) 0) (got (made k n) q) (stop (faultOf (made k n)))
+
+-- the setting of the entry at a place, read and judged
+unfoldable pub taken : List ℕ → ℕ → Got Setting
+taken s p = after (recordAt codes s p) (λ e q. judged (e .kind) (e .bits) q)
+
+-- a count and the place after it, or the refusal
+abbrev pub countedOf : Counted → Got ℕ
+countedOf (counted.Are n) = got n 1
+countedOf (counted.Refused r) = stop r

@@ -1,0 +1,6 @@
+-- The old station's list of settings, from the words of request 2026-13, and what the contracts cite.
+pub mod Setting
+pub mod Entry
+pub mod Found
+pub mod Migration
+pub mod Writing

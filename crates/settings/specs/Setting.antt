@@ -1,0 +1,20 @@
+-- A setting's value: which floats are bad.
+-- Assumes nothing.
+use mathlib.Core.Bool.{Bool, false, cond, not, _&&_}
+use Prim.Native.Nat.{ℕ}
+use lib.Dec.{ltb}
+use lib.Ieee.{Float, nan, inf, fin}
+use Rattle.settings.specs.declared.Setting.{Setting}
+use Rattle.settings.specs.declared.Setting.the-variants.{Margin, Feed, Count}
+
+-- "finite and above zero": m * 2 ^ e with no minus sign and an m above 0
+abbrev pub aboveZero : Float → Bool
+aboveZero nan = false
+aboveZero (inf s) = false
+aboveZero (fin s m e) = not s && ltb 0 m
+
+-- "Margin and feed must be finite and above zero", else "26 bad float"; 0 is none
+abbrev pub faultOf : Setting → ℕ
+faultOf (Margin x) = cond (aboveZero x) 0 26
+faultOf (Feed x) = cond (aboveZero x) 0 26
+faultOf (Count n) = 0

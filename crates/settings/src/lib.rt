@@ -1,0 +1,60 @@
+// The settings of an old station: its list read into settings, and settings written back into a list.
+//
+// What is unknown never becomes a default: each entry is a setting with its own eight bytes, or the refusal of the whole list.
+ghost use mathlib.Core.Path.{_≡_};
+ghost use lib.ListN.{length};
+ghost use Rattle.settings.specs.Migration.{migration};
+ghost use Rattle.settings.specs.Writing.{written, bufferAfter};
+
+mod code;
+mod entry;
+mod float;
+mod list;
+mod write;
+
+// The most settings that a list has.
+pub const SETTINGS: usize = 64;
+
+// A setting, with its own value.
+pub enum Setting {
+    // millimetres
+    Margin(f64),
+    // millimetres per second
+    Feed(f64),
+    Count(u64),
+}
+
+// A place for a setting in an array.
+pub struct Slot {
+    pub setting: Setting,
+}
+
+// What a list is read as: the refusal, 0 for none, its place, and the settings, of which so many are there. Past them stand counts of 0;
+// after a refusal none is there.
+pub struct Migration {
+    pub refusal: u8,
+    pub place: usize,
+    pub number: usize,
+    pub settings: [Slot; SETTINGS],
+}
+
+// What writing back came to: the refusal, 0 for none, and its place in the list as it would be written; for none, how many bytes were written.
+pub struct Written {
+    pub refusal: u8,
+    pub place: usize,
+}
+
+// Reads an old station's list.
+pub fn migrate(bytes: &[u8]) -> Migration
+    ensures { λ r. ⌜ r ≡ migration (now (bytes .entry)) ⌝ }
+{
+    list::read_list(bytes)
+}
+
+// Writes so many settings back into a lent buffer, as an old station's list.
+pub fn write_back(settings: [Slot; SETTINGS], number: usize, out: &mut [u8]) -> Written
+    ensures answer { λ r. ⌜ r ≡ written settings number (length (now (out .entry))) ⌝ }
+    ensures buffer { λ r. ⌜ now (out .exit) ≡ bufferAfter settings number (now (out .entry)) ⌝ }
+{
+    write::write_list(settings, number, out)
+}
