@@ -2,14 +2,14 @@
 -- Assumes nothing.
 use mathlib.Core.Path.{_≡_, sym, ap, _∙_}
 use mathlib.Core.List.{List, [], _∷_, _++_, append-assoc, append-nil}
-use Prim.Native.Nat.{ℕ, _+_, _≤_, _<_, min}
+use Prim.Native.Nat.{ℕ, _+_, _<_, min}
 use native.Mathlib.Numerals.{add-one}
 use lib.ListN.{length, take, getD}
-use lib.Seq.{take-suc, take-all}
+use lib.Seq.{take-suc}
 use Rattle.text_line.specs.Numeral.{number}
 use Rattle.text_line.specs.Shown.{joined}
 use Rattle.text_line.proofs.Copies.{take-least}
-use Rattle.text_line.proofs.Pieces.{joined-joined}
+use Rattle.text_line.proofs.Pieces.{chain}
 use Rattle.recording_lines.specs.Lines.{numbers}
 
 numbers-snoc : (ns : List ℕ) (n : ℕ) → numbers (ns ++ (n ∷ [])) ≡ numbers ns ++ number n
@@ -17,18 +17,13 @@ unfolding numbers
 numbers-snoc [] n = append-nil (number n)
 numbers-snoc (m ∷ ns) n = ap (λ (l : List ℕ). number m ++ l) (numbers-snoc ns n) ∙ sym (append-assoc (number m) (numbers ns) (number n))
 
--- before the first
-pub no-cell : (s cells : List ℕ) → length s ≤ 320 → s ≡ joined s (numbers (take 0 cells))
-unfolding joined numbers
-no-cell s cells h = sym (rw (append-nil s) (take-all 320 s h))
-
 -- one more
 pub one-cell :
     (s cells : List ℕ) (i : ℕ) {m n : List ℕ} → i < length cells → m ≡ joined s (numbers (take i cells)) → n ≡ joined m (number (getD cells i 0)) →
     n ≡ joined s (numbers (take (i + 1) cells))
 one-cell s cells i h e f =
     let k : numbers (take (i + 1) cells) ≡ numbers (take i cells) ++ number (getD cells i 0) = rw (add-one, take-suc cells i 0) (numbers-snoc (take i cells) (getD cells i 0)) in
-    f ∙ rw (e, k) (joined-joined s (numbers (take i cells)) (number (getD cells i 0)))
+    rw k (chain s (numbers (take i cells)) (number (getD cells i 0)) e f)
 
 -- after the last
 pub all-cells : (s cells : List ℕ) {i : ℕ} {n : List ℕ} → i ≡ min 10 (length cells) → n ≡ joined s (numbers (take i cells)) → n ≡ joined s (numbers (take 10 cells))

@@ -1,15 +1,13 @@
 -- Every line fits its room.
 -- Assumes nothing.
 use mathlib.Core.Bool.{Bool, true, false, cond}
-use mathlib.Core.List.{List, [], _∷_, _++_}
-use Prim.Native.Nat.{ℕ, _+_, _*_, _≤_}
-use native.Mathlib.Nat.{le-refl, le-trans}
+use mathlib.Core.List.{List, [], _∷_}
+use Prim.Native.Nat.{ℕ, _*_, _≤_}
 use native.Mathlib.Omega.{arith}
 use lib.Dec.{eqb}
 use lib.ListN.{length, take, length-take}
 use Rattle.text_line.specs.Numeral.{number}
-use Rattle.text_line.specs.Shown.{feed}
-use Rattle.text_line.proofs.Pieces.{long, number-long}
+use Rattle.text_line.proofs.Lengths.{long, number-long, end, piece, word, numeral, fits}
 use Rattle.recording_lines.specs.Words.{
   text-absent,
   text-at,
@@ -28,26 +26,6 @@ use Rattle.recording_lines.specs.Words.{
   text-waiting,
 }
 use Rattle.recording_lines.specs.Lines.{numbers, phase, pointer, named, readLine, refusedLine, countsLine, taskLine, linkLine}
-
--- a list of at most k bytes
-record Within (v : List ℕ) (k : ℕ) : Type 0 where
-  size : length v ≤ k
-
--- the end of a line, and one piece more in front
-end : Within feed 1
-end = record { size = le-refl _ }
-
-piece : (a : List ℕ) {v : List ℕ} {i k : ℕ} → length a ≤ i → Within v k → Within (a ++ v) (i + k)
-piece a {v} h w = record { size = long a v h (w .size) }
-
-word : (a : List ℕ) {v : List ℕ} {k : ℕ} → Within v k → Within (a ++ v) (length a + k)
-word a w = piece a (le-refl _) w
-
-digits : (n : ℕ) {v : List ℕ} {k : ℕ} → Within v k → Within (number n ++ v) (21 + k)
-digits n w = piece (number n) (number-long n) w
-
-fits : {v : List ℕ} {k : ℕ} → Within v k → k ≤ 320 → length v ≤ 320
-fits w h = le-trans (w .size) h
 
 -- each cell has at most 21 bytes
 numbers-long : (ns : List ℕ) → length (numbers ns) ≤ 21 * length ns
@@ -80,22 +58,22 @@ phase-long p = go (eqb p 1) (eqb p 2) (eqb p 0)
     go false false false = omega arith
 
 pub named-fits : (w : List ℕ) (n : ℕ) → length w ≤ 8 → length (named w n) ≤ 320
-named-fits w n h = fits (piece w h (digits n end)) (omega arith)
+named-fits w n h = fits 320 (piece w h (numeral n end)) (omega arith)
 
 pub read-fits : (l v : ℕ) → length (readLine l v) ≤ 320
-read-fits l v = fits (word text-read (digits l (digits v end))) (omega arith)
+read-fits l v = fits 320 (word text-read (numeral l (numeral v end))) (omega arith)
 
 pub refused-fits : (r p : ℕ) → length (refusedLine r p) ≤ 320
-refused-fits r p = fits (word text-refused (digits r (word text-at (digits p end)))) (omega arith)
+refused-fits r p = fits 320 (word text-refused (numeral r (word text-at (numeral p end)))) (omega arith)
 
 pub counts-fit : (a s r f : ℕ) → length (countsLine a s r f) ≤ 320
-counts-fit a s r f = fits (word text-counts (digits a (digits s (digits r (digits f end))))) (omega arith)
+counts-fit a s r f = fits 320 (word text-counts (numeral a (numeral s (numeral r (numeral f end))))) (omega arith)
 
 pub link-fits : (l p : ℕ) → length (linkLine l p) ≤ 320
-link-fits l p = fits (word text-link (digits l (word text-pointer (piece (pointer p) (pointer-long p) end)))) (omega arith)
+link-fits l p = fits 320 (word text-link (numeral l (word text-pointer (piece (pointer p) (pointer-long p) end)))) (omega arith)
 
 pub task-fits : (t p n m : ℕ) (cells : List ℕ) → length (taskLine t p n m cells) ≤ 320
 task-fits t p n m cells =
     let last = word text-cells (piece (numbers (take 10 cells)) (cells-long cells) end) in
-    let places = word text-newest (digits n (word text-previous (digits m last))) in
-    fits (word text-task (digits t (piece (phase p) (phase-long p) places))) (omega arith)
+    let places = word text-newest (numeral n (word text-previous (numeral m last))) in
+    fits 320 (word text-task (numeral t (piece (phase p) (phase-long p) places))) (omega arith)

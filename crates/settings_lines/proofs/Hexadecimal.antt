@@ -3,12 +3,11 @@
 use mathlib.Core.Path.{_≡_, refl, ap, _∙_}
 use mathlib.Core.List.{List, [], _∷_, _++_}
 use mathlib.Core.Bool.{Bool, true, false}
-use Prim.Native.Nat.{ℕ, zero, suc, _+_, _-_, _/_, _%_, _^_, _≤_, _<_}
+use Prim.Native.Nat.{ℕ, zero, suc, _-_, _/_, _%_, _^_, _≤_, _<_}
 use native.Mathlib.Nat.{le-trans, not-le-of-lt, pow-le-pow-right}
 use native.Mathlib.Omega.{arith}
 use borrow.Author.Tests.{leb-true, leb-false}
 use lib.Dec.{leb, lit<}
-use lib.ListN.{length, length-append}
 use Rattle.io.specs.Digits.{digits, Fewest}
 use Rattle.settings_lines.specs.Hex.{hexDigit, hexadecimal, hexOf}
 
@@ -32,9 +31,3 @@ full n k h w = go (leb k 16) refl
 -- as `io::hex` says it
 pub spelled : (n : ℕ) {k : ℕ} {t : List ℕ} → n < 2 ^ 64 → Fewest 16 16 n k → t ≡ digits 16 k n → t ≡ hexOf n
 spelled n {k} h w e = e ∙ ap (λ (j : ℕ). digits 16 j n) (full n k h w) ∙ digits-are 16 n
-
--- there are as many digits as was said
-pub hexadecimal-long : (k n : ℕ) → length (hexadecimal k n) ≤ k
-unfolding hexadecimal
-hexadecimal-long zero n = omega arith
-hexadecimal-long (suc k) n = rw (length-append (hexadecimal k (n / 16)) (hexDigit (n % 16) ∷ [])) (omega (arith, hexadecimal-long k (n / 16)))

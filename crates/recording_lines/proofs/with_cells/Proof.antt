@@ -3,11 +3,12 @@
 use mathlib.Core.Path.{_≡_}
 use Prim.Native.Nat.{_≤_, _-_}
 use native.Mathlib.Omega.{arith}
-use lib.ListN.{length, take, length-take}
+use lib.ListN.{take}
 use borrow.Author.Needs.{needs}
 use Rattle.text_line.specs.Shown.{shown, joined}
+use Rattle.text_line.proofs.Pieces.{no-piece}
 use Rattle.recording_lines.specs.Lines.{numbers}
-use Rattle.recording_lines.proofs.Cells.{no-cell, one-cell, all-cells}
+use Rattle.recording_lines.proofs.Cells.{one-cell, all-cells}
 use Rattle.recording_lines.proofs.with_cells.Statement.{statement}
 use Rattle.recording_lines.proofs.with_cells.Tie as tie
 
@@ -21,10 +22,8 @@ few-requires : tie.Need-few-requires Inv-loop μ-loop
 few-requires c κs = search needs
 
 loop-holds : tie.Need-loop-holds Inv-loop μ-loop
-loop-holds c =
-    let a = c .before .before .args in
-    let l : length (a .line .bytes) ≡ 320 = search needs in
-    (omega arith, no-cell (shown (a .line)) (a .cells .now) (omega (arith, l, length-take (a .line .size) (a .line .bytes))))
+unfolding numbers
+loop-holds c = (omega arith, no-piece (c .before .before .args .line) (search needs))
 
 mul-wide : tie.Need-mul-wide Inv-loop μ-loop
 mul-wide c = search needs

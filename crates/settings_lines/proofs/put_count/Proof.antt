@@ -2,9 +2,9 @@
 -- Assumes nothing.
 use native.Mathlib.Omega.{arith}
 use Rattle.text_line.specs.Numeral.{number}
-use Rattle.text_line.proofs.Pieces.{number-long}
+use Rattle.text_line.proofs.Lengths.{number-long}
 use Rattle.settings_lines.specs.Words.{text-count}
-use Rattle.settings_lines.proofs.Chains.{setting-whole}
+use Rattle.settings_lines.proofs.Whole.{setting-whole}
 use Rattle.settings_lines.proofs.Lengths.{setting-fits}
 use borrow.Author.Needs.{needs}
 use Rattle.settings_lines.proofs.put_count.Statement.{statement}

@@ -1,7 +1,7 @@
 -- `settings_lines::put_float` meets its contract: the start, the value and the end are the line, and all fit.
 -- Assumes nothing.
 use Rattle.settings_lines.specs.Lines.{value}
-use Rattle.settings_lines.proofs.Chains.{setting-whole}
+use Rattle.settings_lines.proofs.Whole.{setting-whole}
 use Rattle.settings_lines.proofs.Lengths.{value-long, setting-fits}
 use borrow.Author.Needs.{needs}
 use Rattle.settings_lines.proofs.put_float.Statement.{statement}

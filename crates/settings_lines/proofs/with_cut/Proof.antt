@@ -1,11 +1,8 @@
 -- `settings_lines::with_cut` meets its contract: the words where something is cut off, or nothing more.
 -- Assumes nothing.
-use mathlib.Core.Path.{_≡_, sym, _∙_}
-use native.Mathlib.Omega.{arith}
-use lib.ListN.{length, length-take}
-use Rattle.text_line.specs.Shown.{shown}
+use mathlib.Core.Path.{sym, _∙_}
+use Rattle.text_line.proofs.Pieces.{chain, no-piece}
 use Rattle.settings_lines.specs.Lines.{cutWords}
-use Rattle.settings_lines.proofs.Chains.{chain, no-piece}
 use borrow.Author.Needs.{needs}
 use Rattle.settings_lines.proofs.with_cut.Statement.{statement}
 use Rattle.settings_lines.proofs.with_cut.Tie as tie
@@ -36,10 +33,7 @@ returns c =
 
 returns-2 : tie.Need-returns-2
 unfolding cutWords
-returns-2 c =
-    let a = c .before .before .before .args in
-    let l : length (a .line .bytes) ≡ 320 = search needs in
-    rw (sym (c .before .is-cut .ensures) ∙ c .if1 .left) (no-piece (shown (a .line)) (omega (arith, l, length-take (a .line .size) (a .line .bytes))))
+returns-2 c = rw (sym (c .before .is-cut .ensures) ∙ c .if1 .left) (no-piece (c .before .before .before .args .line) (search needs))
 
 pub with-cut-spec : {M : Type 1} → statement M
 with-cut-spec =

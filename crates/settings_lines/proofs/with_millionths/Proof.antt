@@ -1,6 +1,6 @@
 -- `settings_lines::with_millionths` meets its contract: its pieces stand one after the other.
 -- Assumes nothing.
-use Rattle.settings_lines.proofs.Chains.{chain}
+use Rattle.text_line.proofs.Pieces.{chain}
 use borrow.Author.Needs.{needs}
 use Rattle.settings_lines.proofs.with_millionths.Statement.{statement}
 use Rattle.settings_lines.proofs.with_millionths.Tie as tie

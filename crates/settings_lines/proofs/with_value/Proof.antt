@@ -2,7 +2,7 @@
 -- Assumes nothing.
 use mathlib.Core.Path.{sym, _∙_}
 use Rattle.settings_lines.specs.Lines.{value}
-use Rattle.settings_lines.proofs.Chains.{chain}
+use Rattle.text_line.proofs.Pieces.{chain}
 use borrow.Author.Needs.{needs}
 use Rattle.settings_lines.proofs.with_value.Statement.{statement}
 use Rattle.settings_lines.proofs.with_value.Tie as tie

@@ -1,25 +1,15 @@
--- Pieces that join a line one after the other.
+-- A setting's line is whole: its start, its value and its end, one after the other.
 -- Assumes nothing.
-use mathlib.Core.Path.{_≡_, refl, sym, ap, _∙_}
-use mathlib.Core.List.{List, [], _∷_, _++_, append-assoc, append-nil}
+use mathlib.Core.Path.{_≡_, refl, ap}
+use mathlib.Core.List.{List, [], _∷_, _++_, append-assoc}
 use Prim.Native.Nat.{ℕ, _≤_}
 use lib.ListN.{length}
-use lib.Seq.{take-all}
 use Rattle.text_line.specs.Numeral.{number}
 use Rattle.text_line.specs.Shown.{joined, lineOf, Put}
-use Rattle.text_line.proofs.Pieces.{onto, begun}
+use Rattle.text_line.proofs.Pieces.{onto, chain, begun}
 use Rattle.settings_lines.specs.Hex.{hexOf}
 use Rattle.settings_lines.specs.Words.{text-setting, text-bits}
 use Rattle.settings_lines.specs.Lines.{settingLine}
-
--- a piece, and what comes after it
-pub chain : {s r : List ℕ} (u t v : List ℕ) → s ≡ joined u t → r ≡ joined s v → r ≡ joined u (t ++ v)
-chain u t v e f = f ∙ onto u t v e
-
--- nothing more
-pub no-piece : (s : List ℕ) → length s ≤ 320 → s ≡ joined s []
-unfolding joined
-no-piece s h = sym (rw (append-nil s) (take-all 320 s h))
 
 -- the start of a setting's line, its value and its end are the line, where it fits
 pub setting-whole :
