@@ -1,8 +1,7 @@
 -- Lines of the printouts, computed from the definitions.
 -- Assumes nothing.
 use mathlib.Core.Path.{_≡_, refl}
-use mathlib.Core.List.{List, [], _∷_, _++_}
-use Prim.Native.Nat.{ℕ}
+use mathlib.Core.List.{[], _∷_, _++_}
 use Rattle.text_line.specs.Numeral.{decimal, number}
 use Rattle.recording_lines.specs.Lines.{numbers, phase, pointer, readLine, acceptedLine, refusedLine, taskLine, linkLine}
 

@@ -11,7 +11,7 @@ use lib.Dec.{eqb, lit<}
 use lib.Pow.{pow-add, pow-pos, pow-mono}
 use Rattle.settings_lines.specs.Decimal.{exponent, significand, under, large, millionths, cutOff}
 
--- a significand has 53 digits at most
+-- a significand has at most 53 binary digits
 pub significand-small : (b : ℕ) → significand b < 9007199254740992
 unfolding significand
 significand-small b = go (eqb (exponent b) 0)
@@ -20,7 +20,7 @@ significand-small b = go (eqb (exponent b) 0)
     go true = omega arith
     go false = omega arith
 
--- 2 ^ (k + 10), as a million's 2 ^ 6 and what is left meet it
+-- 2 ^ (k + 10), with a million's 2 ^ 6 taken out
 power-split : (k : ℕ) → 2 ^ (k + 10) ≡ 2 ^ k * 16 * 64
 power-split k = pow-add 2 k 10 ∙ omega arith
 
@@ -73,7 +73,7 @@ times-odd m z =
     let e : m * 15625 ≡ m / 16 * 15625 * 16 = omega arith in
     ap (λ (x : ℕ). x % 16) e ∙ mul-mod-left (m / 16 * 15625) 16
 
--- a part of a sixteenth is cut off
+-- where the significand is no multiple of 16, a part of a unit is cut off
 pub cut-sixteenth : (b : ℕ) {m : ℕ} → large b ≡ false → m ≡ significand b → (m % 16 ≡ 0 → ⊥) → true ≡ cutOff b
 unfolding cutOff
 cut-sixteenth b {m} l e h =
@@ -92,7 +92,7 @@ zero-alike a c e = go (eqb a 0) refl
     go true h = eq-eqb ((a * 16 + c) * 64) 0 (omega (arith, eqb-true a 0 h))
     go false h = ne-eqb ((a * 16 + c) * 64) 0 (λ z. eqb-false a 0 h (omega arith))
 
--- where no part of a sixteenth is cut off, the units' remainder tells
+-- where the significand is a multiple of 16, the units' remainder tells whether anything is cut off
 pub cut-units : (b k : ℕ) {m : ℕ} → m ≡ significand b → m % 16 ≡ 0 → k + 10 ≡ under b → not (eqb (m * 15625 / 16 % 2 ^ k) 0) ≡ cutOff b
 unfolding cutOff
 cut-units b k {m} e h g =

@@ -1,4 +1,4 @@
--- `settings_lines::is_cut` meets its contract: a part of a sixteenth, or a remainder of the units, is cut off.
+-- `settings_lines::is_cut` meets its contract: a part of a unit, or a remainder of the units, is cut off.
 -- Assumes nothing.
 use lib.Pow.{pow-pos}
 use Rattle.settings_lines.proofs.Divisions.{significand-small, cut-sixteenth, cut-units, cut-far}

@@ -1,6 +1,6 @@
 -- `text_line::Line::number` meets its contract: a space, then what `io::decimal` spelled, which is the number's digits.
 -- Assumes nothing.
-use mathlib.Core.Path.{_≡_, ap, _∙_}
+use mathlib.Core.Path.{ap, _∙_}
 use mathlib.Core.List.{List, _++_}
 use Prim.Native.Nat.{ℕ}
 use lib.ListN.{take}
