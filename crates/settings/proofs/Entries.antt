@@ -2,26 +2,26 @@
 -- Assumes nothing.
 use mathlib.Core.Path.{_≡_, refl, sym, ap, _∙_}
 use mathlib.Core.Logic.{_≢_, ⊎-elim}
-use mathlib.Core.Bool.{Bool, true, false, cond}
+use mathlib.Core.Bool.{Bool, true, false, cond, true≢false}
 use mathlib.Core.List.{List, [], _∷_, _++_}
-use Prim.Native.Nat.{ℕ, _+_, _-_, _≤_, _<_}
+use Prim.Native.Nat.{ℕ, _+_, _-_, _<_}
 use native.Mathlib.Omega.{arith}
-use borrow.Author.Tests.{eqb-true, eqb-false, eq-eqb, ne-eqb}
+use borrow.Author.Tests.{eqb-true, eqb-false, eq-eqb, ltb-true}
 use types.Run.{OneOf}
 use denote.Enum.Declared.{tagOf}
-use lib.Dec.{eqb}
-use lib.ListN.{length}
+use lib.Dec.{eqb, ltb, leb}
+use lib.ListN.{length, getD}
 use Rattle.byte_format.specs.Number.{numberAt}
 use Rattle.byte_format.specs.Format.{Got, got, stop, after, sized}
 use Rattle.byte_format.specs.Kinded.{firstByte, recordAt}
 use Rattle.byte_format.specs.Play.{Reply, reply, play}
-use Rattle.byte_format.proofs.Sized.{too-few, enough-for}
 use Rattle.byte_format.proofs.Plays.{play-on, play-refused, play-stop}
 use Rattle.settings.specs.declared.Setting.{Setting}
+use Rattle.settings.specs.declared.Setting.the-variants.{Margin, Feed, Count}
 use Rattle.settings.specs.declared.code.Code.{Code}
 use Rattle.settings.specs.declared.code.Found.{Found}
 use Rattle.settings.specs.declared.code.Found.the-variants as found
-use Rattle.settings.specs.Setting.{faultOf}
+use Rattle.settings.specs.Setting.{aboveZero, faultOf}
 use Rattle.settings.specs.Entry.{Entry, codeOf, codes, entries, made, settingOf}
 use Rattle.settings.specs.Found.{foundOf, reasonOf, judged, taken}
 use Rattle.settings.specs.Migration.{badFloat, andSetting}
@@ -33,10 +33,22 @@ pub good-entry : (k : Code) (n : ℕ) → faultOf (made k n) ≡ 0 → (q : ℕ)
 unfolding judged
 good-entry k n h q = rw (eq-eqb (faultOf (made k n)) 0 h)
 
--- and one with a fault is refused with it
-pub bad-entry : (k : Code) (n r : ℕ) → faultOf (made k n) ≡ r → r ≢ 0 → (q : ℕ) → stop r ≡ judged k n q
+-- and one with a fault is refused with it, which is 26
+only-fault : (k : Code) (n : ℕ) → eqb (faultOf (made k n)) 0 ≡ false → faultOf (made k n) ≡ 26
+only-fault k n h = go (made k n) h
+  where
+    bad : (b : Bool) → eqb (cond b 0 26) 0 ≡ false → _≡_ {A = ℕ} (cond b 0 26) 26
+    bad true e = absurd (true≢false e)
+    bad false e = refl
+
+    go : (x : Setting) → eqb (faultOf x) 0 ≡ false → faultOf x ≡ 26
+    go (Margin x) e = bad (aboveZero x) e
+    go (Feed x) e = bad (aboveZero x) e
+    go (Count x) e = absurd (true≢false e)
+
+pub bad-entry : (k : Code) (n : ℕ) → eqb (faultOf (made k n)) 0 ≡ false → (q : ℕ) → stop 26 ≡ judged k n q
 unfolding judged
-bad-entry k n r h z q = rw (h, ne-eqb r 0 z)
+bad-entry k n h q = sym (rw (h, only-fault k n h))
 
 -- an entry of a found code, judged
 thenJudged : List ℕ → ℕ → Got Code → Got Setting
@@ -57,19 +69,27 @@ module _ (f : Found) (s : List ℕ) (p : ℕ) (e : foundOf f (p + 1) ≡ firstBy
       go found.Unknown t = refl
       go found.Missing t = refl
 
-  module _ {k : Code} {m : ℕ} (g : f ≡ found.Known k) (l : m ≡ length s - p) where
-    known : thenJudged s p (got k (p + 1)) ≡ taken s p
-    known = ap (λ (x : Found). thenJudged s p (foundOf x (p + 1))) (sym g) ∙ then-taken s p e
+  module _ {k : Code} (g : f ≡ found.Known k) where
+    -- a code: its byte is there
+    pub code-there : p < length s
+    unfolding firstByte
+    code-there = go (ltb p (length s)) refl (ap (λ (x : Found). foundOf x (p + 1)) (sym g) ∙ e)
+      where
+        go : (t : Bool) → ltb p (length s) ≡ t → got k (p + 1) ≡ cond t (codeOf (getD s p 0) (p + 1)) (stop 1) → p < length s
+        go true t u = ltb-true _ _ t
+        go false t u = let y : _≡_ {A = ℕ} 0 1 = cc in absurd (omega arith)
 
-    -- a code, and the rest is missing
-    pub rest-cut : m < 9 → stop 1 ≡ taken s p
+    -- and what follows is cut, or is judged
+    pub known-entry : {m n : ℕ} {x : Got Setting} → m ≡ length s - p → n ≡ numberAt 8 s (p + 1) → x ≡ cond (leb 9 m) (judged k n (p + 9)) (stop 1) → x ≡ taken s p
     unfolding thenJudged
-    rest-cut h = sym (rw (too-few 9 (codes .body k s p) s p l h)) ∙ known
+    known-entry {m} {n} {x} l u v = v ∙ rw (l, u) (go (leb 9 (length s - p)) refl) ∙ ap (λ (y : Found). thenJudged s p (foundOf y (p + 1))) (sym g) ∙ then-taken s p e
+      where
+        b : Entry
+        b = codes .body k s p
 
-    -- a code and its 8 bytes
-    pub all-there : 9 ≤ m → {n : ℕ} → n ≡ numberAt 8 s (p + 1) → (x : Got Setting) → x ≡ judged k n (p + 9) → x ≡ taken s p
-    unfolding thenJudged
-    all-there h u x j = j ∙ rw u (sym (rw (enough-for 9 (codes .body k s p) s p l h)) ∙ known)
+        go : (t : Bool) → leb 9 (length s - p) ≡ t → cond t (judged k (numberAt 8 s (p + 1)) (p + 9)) (stop 1) ≡ thenJudged s p (got k (p + 1))
+        go true t = sym (rw t)
+        go false t = sym (rw t)
 
 -- what stands at a place where an entry is due: an entry that is taken, one with a fault, or none
 data Turn (s : List ℕ) (p : ℕ) : Type 0 where

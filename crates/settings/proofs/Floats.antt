@@ -6,12 +6,12 @@ use mathlib.Core.Bool.{Bool, true, false, cond, not, _&&_}
 use Prim.Native.Nat.{ℕ, zero, suc, _+_, _-_, _*_, _/_, _%_, _^_, _≤_, _<_}
 use native.Mathlib.Nat.{mod-eq-of-lt, mul-pos, zero-mul, zero-div}
 use native.Mathlib.Omega.{arith}
-use borrow.Author.Tests.{ltb-true, ltb-false, lt-ltb, le-ltb, leb-true, leb-false, lt-leb, le-leb}
-use lib.Dec.{T, eqb, ltb, leb}
+use borrow.Author.Tests.{ltb-true, ltb-false, lt-ltb, le-ltb, le-leb}
+use lib.Dec.{T, eqb, ltb}
 use lib.IntN.{ℤ, pos, negsuc}
 use lib.Pow.{pow-pos}
 use lib.Ieee.{Float, nan, inf, fin, Format, binary64, prec, low, hid, ones, top, up, down, size, odd, ofFields, ofBits, toBits, nanBits, isNan, lt}
-use lib.Ieee.Bits.{toBits-ofBits, nanBits-is, nanBits-above, is-true, is-false}
+use lib.Ieee.Bits.{toBits-ofBits, nanBits-is, nanBits-above}
 use Rattle.lists.proofs.Bools.{else-zero}
 use Rattle.settings.specs.Setting.{aboveZero}
 

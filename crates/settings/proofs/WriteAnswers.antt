@@ -1,6 +1,6 @@
 -- What writing back answers, case by case, and the buffer after it.
 -- Assumes nothing.
-use mathlib.Core.Path.{_≡_, refl, sym, ap, _∙_}
+use mathlib.Core.Path.{_≡_, refl, sym, _∙_}
 use mathlib.Core.Logic.{_≢_}
 use mathlib.Core.Bool.{Bool, true, false}
 use mathlib.Core.List.{List, _++_}
@@ -23,7 +23,7 @@ all-good ss n e h i l = go (goodAt ss i) refl
     go false t = absurd (omega (arith, first-below (goodAt ss) n 0 i (omega arith) t))
 
 -- a count from 1 to 64 has no fault
-count-fine : (n : ℕ) → n ≢ 0 → n ≤ 64 → countLimit n ≡ 0
+pub count-fine : (n : ℕ) → n ≢ 0 → n ≤ 64 → countLimit n ≡ 0
 count-fine n z h = rw (ne-eqb n 0 z, le-ltb 64 n h)
 
 module _ (ss : List Slot) (n : ℕ) (old : List ℕ) where

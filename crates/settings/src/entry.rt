@@ -1,6 +1,11 @@
 // One entry of a list, judged from the left: code missing, code unknown, rest missing, bad float.
 ghost use mathlib.Core.Path.{_≡_};
+ghost use mathlib.Core.Bool.{cond};
 ghost use Prim.Native.Nat.{ℕ, _+_};
+ghost use lib.Dec.{eqb};
+ghost use Rattle.byte_format.specs.Format.{stop};
+ghost use Rattle.settings.specs.Setting.{faultOf};
+ghost use Rattle.settings.specs.Entry.{made};
 ghost use Rattle.settings.specs.Found.{nextOf, judged, taken};
 use crate::Setting;
 use crate::code::Code;
@@ -20,25 +25,42 @@ pub enum Next {
     Refused(u8),
 }
 
-// The setting of a code and eight bytes, or 26. The bits of a bad float are never made a float.
-fn judge(code: Code, bits: u64) -> Next
-    ensures { λ r. ⌜ ((q : ℕ) → nextOf r q ≡ judged code bits q) ⌝ }
+// Whether a code and eight bytes may be a setting: a margin and a feed rate only where the bytes are those of a finite number above zero.
+fn is_good(code: Code, bits: u64) -> bool
+    ensures { λ r. ⌜ r ≡ eqb (faultOf (made code bits)) 0 ⌝ }
 {
     match code {
-        Code::Margin => {
-            if bits_above_zero(bits) {
-                return Next::Got(Setting::Margin(f64::from_bits(bits)));
-            }
-            Next::Refused(26)
-        }
-        Code::Feed => {
-            if bits_above_zero(bits) {
-                return Next::Got(Setting::Feed(f64::from_bits(bits)));
-            }
-            Next::Refused(26)
-        }
-        Code::Count => Next::Got(Setting::Count(bits)),
+        Code::Margin => bits_above_zero(bits),
+        Code::Feed => bits_above_zero(bits),
+        Code::Count => true,
     }
+}
+
+// The setting of a code and eight bytes that may be one. The bits of a bad float are never made a float.
+fn make(code: Code, bits: u64) -> Setting
+    requires { ⌜ faultOf (made code bits) ≡ 0 ⌝ }
+    ensures { λ r. ⌜ r ≡ made code bits ⌝ }
+{
+    match code {
+        Code::Margin => Setting::Margin(f64::from_bits(bits)),
+        Code::Feed => Setting::Feed(f64::from_bits(bits)),
+        Code::Count => Setting::Count(bits),
+    }
+}
+
+// An entry of a known code: 1 where it is cut, then 26 for a bad float, else its setting.
+fn judge(code: Code, bits: u64, whole: bool) -> Next
+    ensures { λ r. ⌜ ((q : ℕ) → nextOf r q ≡ cond whole (judged code bits q) (stop 1)) ⌝ }
+{
+    let good = is_good(code, bits);
+    if !whole {
+        return Next::Refused(1);
+    }
+    if !good {
+        return Next::Refused(26);
+    }
+    let setting = make(code, bits);
+    Next::Got(setting)
 }
 
 // The entry at a place.
@@ -49,8 +71,6 @@ pub fn entry_at(s: &[u8], at: usize) -> Next
     let Found::Known(code) = found else {
         return Next::Refused(reason(found));
     };
-    if room(s, at) < ENTRY {
-        return Next::Refused(1);
-    }
-    judge(code, number_at(s, at + 1, 8))
+    let bits = number_at(s, at + 1, 8);
+    judge(code, bits, room(s, at) >= ENTRY)
 }

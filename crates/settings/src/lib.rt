@@ -3,6 +3,7 @@
 // What is unknown never becomes a default: each entry is a setting with its own eight bytes, or the refusal of the whole list.
 ghost use mathlib.Core.Path.{_≡_};
 ghost use lib.ListN.{length};
+ghost use Rattle.byte_format.specs.Number.{Bytes};
 ghost use Rattle.settings.specs.Migration.{migration};
 ghost use Rattle.settings.specs.Writing.{written, bufferAfter};
 
@@ -46,7 +47,8 @@ pub struct Written {
 
 // Reads an old station's list.
 pub fn migrate(bytes: &[u8]) -> Migration
-    ensures { λ r. ⌜ r ≡ migration (now (bytes .entry)) ⌝ }
+    ensures answer { λ r. ⌜ r ≡ migration (now (bytes .entry)) ⌝ }
+    ensures bytes { λ r. ⌜ Bytes (now (bytes .entry)) ⌝ }
 {
     list::read_list(bytes)
 }

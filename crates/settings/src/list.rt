@@ -2,8 +2,7 @@
 ghost use mathlib.Core.Path.{_≡_};
 ghost use mathlib.Core.List.{[]};
 ghost use Prim.Native.Nat.{_≤_};
-ghost use lib.ListN.{length};
-ghost use Rattle.byte_format.specs.Play.{reply, play};
+ghost use Rattle.byte_format.specs.Play.{play};
 ghost use Rattle.byte_format.specs.End.{ended};
 ghost use Rattle.byte_format.specs.Section.{countAt};
 ghost use Rattle.settings.specs.Entry.{entries};

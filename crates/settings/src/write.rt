@@ -1,6 +1,5 @@
 // Settings written back: judged whole before the first byte is written.
 ghost use mathlib.Core.Path.{_≡_};
-ghost use mathlib.Core.Bool.{not};
 ghost use mathlib.Core.List.{_∷_, _++_};
 ghost use Prim.Native.Nat.{_+_, _*_, _≤_, _<_};
 ghost use lib.Dec.{eqb};
@@ -9,7 +8,7 @@ ghost use Rattle.byte_format.specs.Number.{bytesOf};
 ghost use Rattle.lent_bytes.specs.Put.{putAt};
 ghost use Rattle.settings.specs.Setting.{faultOf};
 ghost use Rattle.settings.specs.Entry.{entryOf, encodeEntry};
-ghost use Rattle.settings.specs.Writing.{goodAt, firstBad, AllGood, listOf, written, bufferAfter};
+ghost use Rattle.settings.specs.Writing.{firstBad, AllGood, listOf, written, bufferAfter};
 use crate::SETTINGS;
 use crate::Setting;
 use crate::Slot;

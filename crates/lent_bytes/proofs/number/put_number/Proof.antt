@@ -1,7 +1,7 @@
 -- `lent_bytes::number::put_number` meets its contract. The loop's invariant: the first i bytes of the number are put, and n is what is left of it.
 -- The measure is how many are left to put.
 -- Assumes nothing.
-use mathlib.Core.Path.{_≡_, refl, sym, ap, _∙_}
+use mathlib.Core.Path.{_≡_, refl, ap, _∙_}
 use mathlib.Core.List.{List}
 use Prim.Native.Nat.{ℕ, _+_, _-_, _≤_, _<_, min}
 use native.Mathlib.Numerals.{add-one}

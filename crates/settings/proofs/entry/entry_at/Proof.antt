@@ -1,7 +1,8 @@
--- `settings::entry::entry_at` meets its contract: no code, a cut entry, or its setting judged.
+-- `settings::entry::entry_at` meets its contract: no code, or what follows it.
 -- Assumes nothing.
-use Prim.Native.Nat.{_+_}
-use Rattle.settings.proofs.Entries.{no-code, rest-cut, all-there}
+use Prim.Native.Nat.{_+_, _<_}
+use lib.ListN.{length}
+use Rattle.settings.proofs.Entries.{no-code, code-there, known-entry}
 use borrow.Author.Needs.{needs}
 use Rattle.settings.proofs.entry.entry_at.Statement.{statement}
 use Rattle.settings.proofs.entry.entry_at.Tie as tie
@@ -21,33 +22,31 @@ returns c =
     let a = code .before .before .args in
     no-code (code .code-at .result) (a .s .now) (a .at) (code .code-at .ensures) (c .before .match .keys2) (c .reason .ensures)
 
-room-requires : tie.Need-room-requires
-room-requires c κs = search needs
-
-returns-2 : tie.Need-returns-2
-returns-2 c =
-    let found = c .before .before .before in
+add-number-at : tie.Need-add-number-at
+add-number-at c =
+    let found = c .before in
     let code = found .before .before in
     let a = code .before .before .args in
-    rest-cut (code .code-at .result) (a .s .now) (a .at) (code .code-at .ensures) (found .found .given .1) (c .before .room .ensures) (c .if1 .taken)
-
-add-number-at : tie.Need-add-number-at
-add-number-at c = search needs
+    let h : a .at < length (a .s .now) = code-there (code .code-at .result) (a .s .now) (a .at) (code .code-at .ensures) (found .found .given .1) in
+    search needs
 
 number-at-requires : tie.Need-number-at-requires
 number-at-requires c κs = search needs
 
+room-requires : tie.Need-room-requires
+room-requires c κs = search needs
+
 judge-requires : tie.Need-judge-requires
 judge-requires c κs = search needs
 
-returns-3 : tie.Need-returns-3
-returns-3 c =
-    let test = c .before .before in
-    let found = test .before .before .before in
+returns-2 : tie.Need-returns-2
+returns-2 c =
+    let number = c .before .before in
+    let found = number .before .before in
     let code = found .before .before in
     let a = code .before .before .args in
-    all-there (code .code-at .result) (a .s .now) (a .at) (code .code-at .ensures) (found .found .given .1) (test .before .room .ensures) (test .if1 .left)
-    (c .before .number-at .ensures) _ (c .judge .ensures (a .at + 9))
+    known-entry (code .code-at .result) (a .s .now) (a .at) (code .code-at .ensures) (found .found .given .1) (c .before .room .ensures)
+    (number .number-at .ensures) (c .judge .ensures (a .at + 9))
 
 pub entry-at-spec : {M : Type 1} → statement M
 entry-at-spec =
@@ -57,9 +56,8 @@ entry-at-spec =
     enum-known-found
     reason-requires
     returns
-    room-requires
-    returns-2
     add-number-at
     number-at-requires
+    room-requires
     judge-requires
-    returns-3)
+    returns-2)

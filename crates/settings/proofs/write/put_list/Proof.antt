@@ -1,9 +1,9 @@
 -- `settings::write::put_list` meets its contract. The loop's invariant: the count and the first i entries stand at the start of the buffer, and its other bytes are as they were.
 -- The measure is how many entries are left.
 -- Assumes nothing.
-use mathlib.Core.Path.{_≡_, refl, sym, ap, _∙_}
-use mathlib.Core.List.{List, _++_}
-use Prim.Native.Nat.{ℕ, _+_, _-_, _*_, _≤_}
+use mathlib.Core.Path.{_≡_, refl}
+use mathlib.Core.List.{_++_}
+use Prim.Native.Nat.{_+_, _-_, _*_, _≤_}
 use native.Mathlib.Omega.{arith}
 use lib.ListN.{length, drop}
 use Rattle.settings.proofs.Writing.{slot-there, begun, count-first, entry-behind, all-behind}
