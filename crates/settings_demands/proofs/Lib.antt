@@ -5,4 +5,5 @@ pub mod Slots
 pub mod Promises
 pub mod Refusals
 pub mod RoundTrip
+pub mod Prefix
 pub mod Contract

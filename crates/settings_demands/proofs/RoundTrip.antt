@@ -35,7 +35,7 @@ use Rattle.settings_demands.proofs.Slots.{slot-holds, slots-many, entri
 use Rattle.settings_demands.proofs.Promises.{answered, Accepted, accepted-list, accepted-bytes, only-answer, from-the-list, past-the-number}
 
 -- a count without a fault is from 1 to 64
-count-range : (n : ℕ) → countLimit n ≡ 0 → (n ≢ 0) × (n ≤ 64)
+pub count-range : (n : ℕ) → countLimit n ≡ 0 → (n ≢ 0) × (n ≤ 64)
 count-range n e =
     let k = cond-zero (eqb n 0 || ltb 64 n) 2 0 (λ (y : _≡_ {A = ℕ} 2 0). omega arith) e .0 in
     (eqb-false n 0 (or-left (eqb n 0) (ltb 64 n) k), ltb-false 64 n (or-right (eqb n 0) (ltb 64 n) k))
