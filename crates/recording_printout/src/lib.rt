@@ -7,7 +7,6 @@ ghost use mathlib.Core.Path.{_≡_};
 ghost use Prim.Native.Nat.{_≤_};
 ghost use Rattle.protocol_state.specs.Saved.{base};
 ghost use Rattle.recording.specs.Answers.{listAfter};
-use libc::STDOUT_FILENO;
 use lists::few;
 use mailbox::State;
 use mailbox_base::numbers::CELLS;
@@ -31,19 +30,13 @@ use recording_lines::put_task;
 use recording_read::event::Next;
 use recording_read::table::read_table;
 use recording_walk::event_at;
+use text_line::show;
 
 // The bytes of the longest recording, and one more so that an extra byte is seen: T and the defaults, L and the links, E and the events.
 pub const BYTES: usize = 1 + 4 * State::TASKS + 1 + 3 * State::LINKS + 2 + 6 * State::EVENTS + 1;
 
 // A program's room for numbers: as many as a recording may have events.
 pub const NUMBERS: usize = State::EVENTS;
-
-// Writes the first n bytes of a line, of which there are never more than its room.
-fn show(n: usize, line: &[u8]) {
-    if n <= line.len() {
-        io::write_all(STDOUT_FILENO, &line[..n]);
-    }
-}
 
 // The part of a list from a place on that has n entries; empty where there are fewer.
 fn part(list: &[u32], from: usize, n: usize) -> &[u32] {

@@ -5,6 +5,7 @@ ghost use lib.ListN.{length};
 ghost use lib.Seq.{paste};
 ghost use Rattle.text_line.specs.Numeral.{space, digits, number};
 ghost use Rattle.text_line.specs.Shown.{shown, joined, feed, fit, emptyLine, withText, Put};
+use libc::STDOUT_FILENO;
 use lists::few;
 
 // The room of a line, its line feed among it.
@@ -82,5 +83,12 @@ impl Line {
         let bytes = whole.bytes;
         copy(&bytes, size, out, 0);
         size
+    }
+}
+
+// Writes the first n bytes of a made line to standard output, of which there are never more than its room.
+pub fn show(n: usize, line: &[u8]) {
+    if n <= line.len() {
+        io::write_all(STDOUT_FILENO, &line[..n]);
     }
 }

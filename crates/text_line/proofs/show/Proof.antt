@@ -1,11 +1,11 @@
--- `recording_printout::show` is safe and ends: the part has n bytes, since the line has so many.
+-- `text_line::show` is safe and ends: the part has n bytes, since the line has so many.
 -- Assumes nothing.
 use borrow.Author.Needs.{needs}
 use lib.Seq.{length-take-le}
 use mathlib.Core.Path.{sym}
 use native.Mathlib.Omega.{arith}
-use Rattle.recording_printout.proofs.show.Statement.{statement}
-use Rattle.recording_printout.proofs.show.Tie as tie
+use Rattle.text_line.proofs.show.Statement.{statement}
+use Rattle.text_line.proofs.show.Tie as tie
 
 slice-aggregate-write-all : tie.Need-slice-aggregate-write-all
 slice-aggregate-write-all c = sym (length-take-le _ _ (omega arith))

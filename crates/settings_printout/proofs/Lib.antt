@@ -1,0 +1,2 @@
+-- What every migration's answer has.
+pub mod Migrated

@@ -1,0 +1,2 @@
+-- What the contracts of the printout cite.
+pub mod Lines
