@@ -1,0 +1,24 @@
+-- `settings_cases::show::written` is safe and ends: the part that is lent has so many bytes, since the buffer has 600.
+-- Assumes nothing.
+use lib.Seq.{length-take-le}
+use mathlib.Core.Path.{sym}
+use native.Mathlib.Omega.{arith}
+use borrow.Author.Needs.{needs}
+use Rattle.settings_cases.proofs.show.written.Statement.{statement}
+use Rattle.settings_cases.proofs.show.written.Tie as tie
+
+array-borrow-prefix-out : tie.Need-array-borrow-prefix-out
+array-borrow-prefix-out c = search needs
+
+slice-aggregate-lent : tie.Need-slice-aggregate-lent
+slice-aggregate-lent c = sym (length-take-le _ _ (omega arith))
+
+lent-requires : tie.Need-lent-requires
+lent-requires c κs = search needs
+
+returns : tie.Need-returns
+returns c = search needs
+
+pub written-spec : {M : Type 1} → statement M
+written-spec =
+    tie.close (tie.spec array-borrow-prefix-out slice-aggregate-lent lent-requires returns)
