@@ -11,8 +11,8 @@ use lib.ListN.{length, drop}
 use Rattle.lists.proofs.Search.{first-below}
 use Rattle.settings.specs.declared.Slot.{Slot}
 use Rattle.settings.specs.Setting.{faultOf}
-use Rattle.settings.specs.Migration.{countLimit}
 use Rattle.settings.specs.Writing.{settingAt, goodAt, firstBad, AllGood, listOf, sizeOf, answer, written, bufferAfter}
+use Rattle.settings.proofs.Counting.{count-fine}
 
 -- where the first bad one lies past them, the first n settings are good
 pub all-good : (ss : List Slot) (n : ℕ) {b : ℕ} → b ≡ firstBad ss n → n ≤ b → AllGood ss n
@@ -21,10 +21,6 @@ all-good ss n e h i l = go (goodAt ss i) refl
     go : (t : Bool) → goodAt ss i ≡ t → faultOf (settingAt ss i) ≡ 0
     go true t = eqb-true _ 0 t
     go false t = absurd (omega (arith, first-below (goodAt ss) n 0 i (omega arith) t))
-
--- a count from 1 to 64 has no fault
-pub count-fine : (n : ℕ) → n ≢ 0 → n ≤ 64 → countLimit n ≡ 0
-count-fine n z h = rw (ne-eqb n 0 z, le-ltb 64 n h)
 
 module _ (ss : List Slot) (n : ℕ) (old : List ℕ) where
   -- a refusal leaves the buffer as it was

@@ -19,8 +19,9 @@ use Rattle.settings.specs.declared.Migration.{Migration}
 use Rattle.settings.specs.Setting.{faultOf}
 use Rattle.settings.specs.Entry.{Entry, byteOf, encodeEntry, entries, settingOf}
 use Rattle.settings.specs.Migration.{slots}
-use Rattle.settings.specs.Writing.{settingAt}
+use Rattle.settings.specs.Writing.{settingAt, AllGood}
 use Rattle.settings.proofs.Records.{length-entry}
+use Rattle.settings.proofs.Counting.{count-range}
 use Rattle.settings_demands.specs.Ensured.{Migrated}
 use Rattle.settings_demands.specs.FromList.{FromEntry}
 use Rattle.settings_demands.specs.Outcome.{ListTo, refusedAt, holding, Outcome, badCount, badEntry, extraBytes, accepted}
@@ -130,3 +131,13 @@ module _ {s : List ℕ} {m : Migration} (said : Migrated s m) where
       go (accepted es w e) =
           let z = ap (λ (x : Migration). x .number) e in
           ap (λ (y : Migration). settingAt (y .settings) i) e ∙ slot-past (map settingOf es) i (omega (arith, length-map es settingOf))
+
+  -- at most 64 settings, and none of them is a bad float
+  pub few-and-good : (m .number ≤ 64) × AllGood (m .settings) (m .number)
+  few-and-good = (few answered, λ i h. from-the-list i h .good)
+    where
+      few : Outcome s m → m .number ≤ 64
+      few (badCount r n u e) = let z = ap (λ (x : Migration). x .number) e in omega arith
+      few (badEntry es r p n f e) = let z = ap (λ (x : Migration). x .number) e in omega arith
+      few (extraBytes es p w l e) = let z = ap (λ (x : Migration). x .number) e in omega arith
+      few (accepted es w e) = let z = ap (λ (x : Migration). x .number) e in omega (arith, count-range (length es) (w .kept .few) .1)

@@ -2,15 +2,14 @@
 -- Assumes nothing.
 use mathlib.Core.Path.{_≡_, refl, sym, ap, _∙_, subst}
 use mathlib.Core.Logic.{_≢_, ⊎-elim}
-use mathlib.Core.Bool.{Bool, true, false, cond, _||_, true≢false}
+use mathlib.Core.Bool.{Bool, true, false, cond, true≢false}
 use mathlib.Core.List.{List, [], _∷_, _++_, map, append-nil}
 use Prim.Native.Nat.{ℕ, suc, _+_, _*_, _≤_, _<_}
 use native.Mathlib.Omega.{arith}
-use borrow.Author.Tests.{ltb-true, ltb-false, eqb-true, eqb-false, eq-eqb}
+use borrow.Author.Tests.{ltb-true, ltb-false, eqb-true, eq-eqb}
 use lib.Dec.{eqb, ltb, lit<}
 use lib.ListN.{length, take, drop, length-map, List·getD-map}
 use lib.Seq.{take-at, drop-length, length-take-le, getD-take}
-use Rattle.lists.proofs.Bools.{or-left, or-right, cond-zero}
 use Rattle.lists.proofs.Search.{first-stops}
 use Rattle.byte_format.specs.Stands.{Stands}
 use Rattle.byte_format.specs.Format.{FitEach, encodeSection}
@@ -27,18 +26,13 @@ use Rattle.settings.specs.Entry.{Entry, entries, settingOf, entryOf}
 use Rattle.settings.specs.Migration.{countLimit, badFloat, andSetting, slot, slots}
 use Rattle.settings.specs.Writing.{settingAt, goodAt, firstBad, AllGood, entriesOf, listOf, sizeOf, answer, written, bufferAfter}
 use Rattle.settings.proofs.Writing.{length-list}
-use Rattle.settings.proofs.WriteAnswers.{all-good, count-fine, list-there, room-enough}
+use Rattle.settings.proofs.Counting.{count-fine, count-range}
+use Rattle.settings.proofs.WriteAnswers.{all-good, list-there, room-enough}
 use Rattle.settings_demands.specs.Ensured.{Migrated, WrittenBack, Held, HeldSlots}
 use Rattle.settings_demands.specs.Outcome.{ListTo, refusedAt, holding, Outcome, badCount, badEntry, extraBytes, accepted}
 use Rattle.settings_demands.proofs.Settings.{setting-kept, entry-wide, setting-held}
 use Rattle.settings_demands.proofs.Slots.{slot-holds, slots-many, entries-of-slots, allowed-at}
 use Rattle.settings_demands.proofs.Promises.{answered, Accepted, accepted-list, accepted-bytes, only-answer, from-the-list, past-the-number}
-
--- a count without a fault is from 1 to 64
-pub count-range : (n : ℕ) → countLimit n ≡ 0 → (n ≢ 0) × (n ≤ 64)
-count-range n e =
-    let k = cond-zero (eqb n 0 || ltb 64 n) 2 0 (λ (y : _≡_ {A = ℕ} 2 0). omega arith) e .0 in
-    (eqb-false n 0 (or-left (eqb n 0) (ltb 64 n) k), ltb-false 64 n (or-right (eqb n 0) (ltb 64 n) k))
 
 -- where all are good, no bad one is found
 none-bad : (ss : List Slot) (n : ℕ) → AllGood ss n → n ≤ firstBad ss n

@@ -1,7 +1,7 @@
 -- `settings_printout::print_migration` is safe and ends: what a migration answers may be printed.
 -- Assumes nothing.
 use borrow.Author.Needs.{needs}
-use Rattle.settings_printout.proofs.Migrated.{migrated}
+use Rattle.settings_demands.proofs.Promises.{few-and-good}
 use Rattle.settings_printout.proofs.print_migration.Statement.{statement}
 use Rattle.settings_printout.proofs.print_migration.Tie as tie
 
@@ -15,7 +15,7 @@ returns : tie.Need-returns
 returns c = search needs
 
 print-settings-requires : tie.Need-print-settings-requires
-print-settings-requires c κs = migrated _ (c .before .before .before .migrate .ensures)
+print-settings-requires c κs = let m = c .before .before .before .migrate in few-and-good (record { answer = m .ensures .0; bytes = m .ensures .1 })
 
 print-migrated-requires : tie.Need-print-migrated-requires
 print-migrated-requires c κs = search needs

@@ -1,2 +1,0 @@
--- What every migration's answer has.
-pub mod Migrated
