@@ -23,10 +23,10 @@ all-good ss n e h i l = go (goodAt ss i) refl
     go false t = absurd (omega (arith, first-below (goodAt ss) n 0 i (omega arith) t))
 
 module _ (ss : List Slot) (n : ℕ) (old : List ℕ) where
-  -- a refusal leaves the buffer as it was
-  pub left-alone : {r p : ℕ} → r ≢ 0 → answer r p ≡ written ss n (length old) → (answer r p ≡ written ss n (length old)) × (old ≡ bufferAfter ss n old)
+  -- a refusal leaves the buffer as it was, and what holds on acceptance need not hold
+  pub left-alone : {X : Type 0} {r p : ℕ} → r ≢ 0 → answer r p ≡ written ss n (length old) → (answer r p ≡ written ss n (length old)) × ((old ≡ bufferAfter ss n old) × (r ≡ 0 → X))
   unfolding bufferAfter
-  left-alone {r} z e = (e, sym (rw (← e, ne-eqb r 0 z)))
+  left-alone {r = r} z e = (e, (sym (rw (← e, ne-eqb r 0 z)), λ y. absurd (z y)))
 
   -- an acceptance puts the list there
   pub list-there : {p : ℕ} {new : List ℕ} → answer 0 p ≡ written ss n (length old) → new ≡ listOf ss n ++ drop (sizeOf n) old → (answer 0 p ≡ written ss n (length old)) × (new ≡ bufferAfter ss n old)

@@ -1,13 +1,14 @@
 -- Settings in their slots, and the list of them as it is written: entry behind entry.
 -- Assumes nothing.
-use mathlib.Core.Path.{_≡_, refl, sym, ap, _∙_}
-use mathlib.Core.Bool.{Bool}
+use mathlib.Core.Path.{_≡_, refl, sym, ap, _∙_, subst}
+use mathlib.Core.Bool.{Bool, true, false}
 use mathlib.Core.List.{List, [], _∷_, _++_, append-assoc, append-nil}
 use Prim.Native.Nat.{ℕ, zero, suc, _+_, _*_, _≤_, _<_}
 use native.Mathlib.Nat.{le-of-suc-le-suc, mod-eq-of-lt}
 use native.Mathlib.Numerals.{add-one}
 use native.Mathlib.Omega.{arith}
-use lib.Dec.{eqb}
+use borrow.Author.Tests.{ltb-true, ltb-false}
+use lib.Dec.{eqb, ltb}
 use lib.ListN.{length, getD, take, drop, length-map, length-append}
 use lib.Seq.{take-suc, drop-at, drop-drop, length-take-le}
 use Rattle.byte_format.specs.Number.{bytesOf}
@@ -19,7 +20,7 @@ use Rattle.lent_bytes.proofs.Puts.{put-whole, put-put, put-behind}
 use Rattle.settings.specs.declared.Setting.{Setting}
 use Rattle.settings.specs.declared.Setting.the-variants.{Count}
 use Rattle.settings.specs.declared.Slot.{Slot}
-use Rattle.settings.specs.Setting.{faultOf}
+use Rattle.settings.specs.Setting.{faultOf, Held}
 use Rattle.settings.specs.Entry.{encodeEntry, entries, entryOf}
 use Rattle.settings.specs.Migration.{slot}
 use Rattle.settings.specs.Writing.{settingAt, goodAt, entriesOf, listOf, sizeOf}
@@ -39,6 +40,21 @@ slot-there ss i d l h = ap (λ (s : Slot). s .setting) (within ss i d (slot (Cou
 -- and whether it is good
 pub good-there : (ss : List Slot) (i : ℕ) (d : Slot) {b : Bool} → length ss ≡ 64 → i < 64 → b ≡ eqb (faultOf (getD ss i d .setting)) 0 → b ≡ goodAt ss i
 good-there ss i d l h e = e ∙ ap (λ (x : Setting). eqb (faultOf x) 0) (slot-there ss i d l h)
+
+-- and that the machine holds it
+pub held-there : (ss : List Slot) (i : ℕ) (d : Slot) → length ss ≡ 64 → i < 64 → Held (getD ss i d .setting) → Held (settingAt ss i)
+held-there ss i d l h e = subst Held (slot-there ss i d l h) e
+
+-- one more that it holds
+pub held-more : (ss : List Slot) (i : ℕ) → ((k : ℕ) → k < i → Held (settingAt ss k)) → Held (settingAt ss i) → (k : ℕ) → k < i + 1 → Held (settingAt ss k)
+held-more ss i h e k l = go (ltb k i) refl
+  where
+    go : (t : Bool) → ltb k i ≡ t → Held (settingAt ss k)
+    go true t = h k (ltb-true k i t)
+    go false t =
+        let g : i ≤ k = ltb-false k i t in
+        let z : i ≡ k = omega arith in
+        subst (λ (j : ℕ). Held (settingAt ss j)) z e
 
 -- a code byte put, and then its 8 bytes
 one-byte : (n : ℕ) → n < 256 → bytesOf 1 n ≡ n ∷ []

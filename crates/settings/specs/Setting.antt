@@ -1,9 +1,10 @@
--- A setting's value: which floats are bad.
+-- A setting's value: which floats are bad, and which values a machine holds.
 -- Assumes nothing.
 use mathlib.Core.Bool.{Bool, false, cond, not, _&&_}
 use Prim.Native.Nat.{ℕ}
-use lib.Dec.{ltb}
-use lib.Ieee.{Float, nan, inf, fin}
+use lib.Dec.{T, ltb}
+use lib.Ieee.{Float, nan, inf, fin, binary64, fits}
+use Rattle.byte_format.specs.Number.{Wide}
 use Rattle.settings.specs.declared.Setting.{Setting}
 use Rattle.settings.specs.declared.Setting.the-variants.{Margin, Feed, Count}
 
@@ -18,3 +19,9 @@ abbrev pub faultOf : Setting → ℕ
 faultOf (Margin x) = cond (aboveZero x) 0 26
 faultOf (Feed x) = cond (aboveZero x) 0 26
 faultOf (Count n) = 0
+
+-- a setting as the machine holds it: a float is a value of binary64, a count one of 64 bits
+abbrev pub Held : Setting → Type 0
+Held (Margin x) = T (fits binary64 x)
+Held (Feed x) = T (fits binary64 x)
+Held (Count n) = Wide 8 n

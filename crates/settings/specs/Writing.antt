@@ -12,7 +12,7 @@ use Rattle.settings.specs.declared.Setting.{Setting}
 use Rattle.settings.specs.declared.Setting.the-variants.{Count}
 use Rattle.settings.specs.declared.Slot.{Slot}
 use Rattle.settings.specs.declared.Written.{Written}
-use Rattle.settings.specs.Setting.{faultOf}
+use Rattle.settings.specs.Setting.{faultOf, Held}
 use Rattle.settings.specs.Entry.{Entry, entries, entryOf}
 use Rattle.settings.specs.Migration.{countLimit, slot}
 
@@ -31,6 +31,11 @@ firstBad ss n = first (goodAt ss) n 0
 -- none of the first n is
 abbrev pub AllGood : List Slot → ℕ → Type 0
 AllGood ss n = (i : ℕ) → i < n → faultOf (settingAt ss i) ≡ 0
+
+-- 64 slots, the first n settings as the machine holds them
+pub record HeldSlots (ss : List Slot) (n : ℕ) : Type 0 where
+  pub many : length ss ≡ 64
+  pub each : (i : ℕ) → i < n → Held (settingAt ss i)
 
 -- the entries of the first n settings
 abbrev pub entriesOf : List Slot → ℕ → List Entry

@@ -1,6 +1,7 @@
 // Which floats are finite and above zero: by their bits before there is a float, and by comparing where there is one.
 ghost use mathlib.Core.Path.{_≡_};
-ghost use lib.Ieee.{binary64, ofBits};
+ghost use lib.Dec.{T};
+ghost use lib.Ieee.{binary64, fits, ofBits};
 ghost use Rattle.settings.specs.Setting.{aboveZero};
 
 // The bits of the infinity above zero: from here on there are infinities, NaNs and numbers with a minus sign.
@@ -18,7 +19,8 @@ pub fn bits_above_zero(bits: u64) -> bool
 
 // Whether a float is finite and above zero: a NaN is neither above nor below anything.
 pub fn above_zero(x: f64) -> bool
-    ensures { λ r. ⌜ r ≡ aboveZero x ⌝ }
+    ensures answer { λ r. ⌜ r ≡ aboveZero x ⌝ }
+    ensures held { λ r. ⌜ T (fits binary64 x) ⌝ }
 {
     if 0.0 < x {
         return x < f64::from_bits(INFINITE);

@@ -1,14 +1,15 @@
 // Settings written back: judged whole before the first byte is written.
 ghost use mathlib.Core.Path.{_≡_};
+ghost use mathlib.Core.Bool.{true};
 ghost use mathlib.Core.List.{_∷_, _++_};
 ghost use Prim.Native.Nat.{_+_, _*_, _≤_, _<_};
 ghost use lib.Dec.{eqb};
 ghost use lib.ListN.{length, drop};
-ghost use Rattle.byte_format.specs.Number.{bytesOf};
+ghost use Rattle.byte_format.specs.Number.{bytesOf, Wide};
 ghost use Rattle.lent_bytes.specs.Put.{putAt};
-ghost use Rattle.settings.specs.Setting.{faultOf};
+ghost use Rattle.settings.specs.Setting.{faultOf, Held};
 ghost use Rattle.settings.specs.Entry.{entryOf, encodeEntry};
-ghost use Rattle.settings.specs.Writing.{firstBad, AllGood, listOf, written, bufferAfter};
+ghost use Rattle.settings.specs.Writing.{firstBad, AllGood, HeldSlots, listOf, written, bufferAfter};
 use crate::SETTINGS;
 use crate::Setting;
 use crate::Slot;
@@ -17,21 +18,31 @@ use crate::entry::ENTRY;
 use crate::float::above_zero;
 use lent_bytes::number::put_number;
 
+// Any count may stand in a list: it is a number of 64 bits.
+fn any_count(n: u64) -> bool
+    ensures answer { λ r. ⌜ r ≡ true ⌝ }
+    ensures held { λ r. ⌜ Wide 8 n ⌝ }
+{
+    true
+}
+
 // Whether a setting may stand in a list: a margin and a feed rate only where they are finite and above zero.
 fn is_good(setting: Setting) -> bool
-    ensures { λ r. ⌜ r ≡ eqb (faultOf setting) 0 ⌝ }
+    ensures answer { λ r. ⌜ r ≡ eqb (faultOf setting) 0 ⌝ }
+    ensures held { λ r. ⌜ Held setting ⌝ }
 {
     match setting {
         Setting::Margin(x) => above_zero(x),
         Setting::Feed(x) => above_zero(x),
-        Setting::Count(_) => true,
+        Setting::Count(n) => any_count(n),
     }
 }
 
 // The first of so many settings that is a bad float; their number where none is.
 fn first_bad(settings: [Slot; SETTINGS], n: usize) -> usize
     requires { ⌜ n ≤ 64 ⌝ }
-    ensures { λ r. ⌜ r ≡ firstBad settings n ⌝ }
+    ensures answer { λ r. ⌜ r ≡ firstBad settings n ⌝ }
+    ensures held { λ r. ⌜ HeldSlots settings r ⌝ }
 {
     let mut i = 0;
     while i < n {
@@ -87,6 +98,7 @@ fn put_list(settings: [Slot; SETTINGS], n: usize, out: &mut [u8])
 pub fn write_list(settings: [Slot; SETTINGS], number: usize, out: &mut [u8]) -> Written
     ensures answer { λ r. ⌜ r ≡ written settings number (length (now (out .entry))) ⌝ }
     ensures buffer { λ r. ⌜ now (out .exit) ≡ bufferAfter settings number (now (out .entry)) ⌝ }
+    ensures held { λ r. ⌜ (r .refusal ≡ 0 → HeldSlots settings number) ⌝ }
 {
     if number == 0 {
         return Written {

@@ -21,7 +21,7 @@ module _ (κs : Lfts 1) (given : Dens κs migrate.ps) (m : resT migrate.r κs .D
 -- a call of `settings::write_back`: `given` are the slots, the number and the lent buffer, w is the answer, and `left` is what the buffer then holds
 module _ (κs : Lfts 1) (given : Dens κs write.ps) (w : resT write.r κs .Denot) (left : AtExit (endedOf 1 write.ps write.r) κs) where
   pub learnt-written : write-reads.Learnt κs given w left → WrittenBack (given .0) (given .1 .0) (now (given .1 .1 .0)) w (now (left .1 .1 .0))
-  learnt-written learnt = record { answer = learnt .0; buffer = learnt .1 }
+  learnt-written learnt = record { answer = learnt .0; buffer = learnt .1 .0; held = learnt .1 .1 }
 
   pub written-learnt : WrittenBack (given .0) (given .1 .0) (now (given .1 .1 .0)) w (now (left .1 .1 .0)) → write-reads.Learnt κs given w left
-  written-learnt said = (said .answer, said .buffer)
+  written-learnt said = (said .answer, (said .buffer, said .held))

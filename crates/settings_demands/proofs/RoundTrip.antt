@@ -1,38 +1,37 @@
 -- Both ways round: what was migrated is written back as the old list, and what is written back is migrated to the same settings.
 -- Assumes nothing.
-use mathlib.Core.Path.{_≡_, refl, sym, ap, _∙_, subst}
+use mathlib.Core.Path.{_≡_, refl, sym, ap, _∙_}
 use mathlib.Core.Logic.{_≢_, ⊎-elim}
 use mathlib.Core.Bool.{Bool, true, false, cond, true≢false}
 use mathlib.Core.List.{List, [], _∷_, _++_, map, append-nil}
-use Prim.Native.Nat.{ℕ, suc, _+_, _*_, _≤_, _<_}
+use Prim.Native.Nat.{ℕ, suc, _+_, _≤_, _<_}
 use native.Mathlib.Omega.{arith}
 use borrow.Author.Tests.{ltb-true, ltb-false, eqb-true, eq-eqb}
-use lib.Dec.{eqb, ltb, lit<}
+use lib.Dec.{eqb, ltb}
 use lib.ListN.{length, take, drop, length-map, List·getD-map}
 use lib.Seq.{take-at, drop-length, length-take-le, getD-take}
 use Rattle.lists.proofs.Search.{first-stops}
 use Rattle.byte_format.specs.Stands.{Stands}
 use Rattle.byte_format.specs.Format.{FitEach, encodeSection}
 use Rattle.byte_format.specs.Play.{Allowed}
-use Rattle.byte_format.proofs.Numbers.{number-wide}
 use Rattle.settings.specs.declared.Setting.{Setting}
 use Rattle.settings.specs.declared.Setting.the-variants.{Count}
 use Rattle.settings.specs.declared.code.Code.the-variants as code
 use Rattle.settings.specs.declared.Slot.{Slot}
 use Rattle.settings.specs.declared.Migration.{Migration}
 use Rattle.settings.specs.declared.Written.{Written}
-use Rattle.settings.specs.Setting.{faultOf}
+use Rattle.settings.specs.Setting.{faultOf, Held}
 use Rattle.settings.specs.Entry.{Entry, entries, settingOf, entryOf}
 use Rattle.settings.specs.Migration.{countLimit, badFloat, andSetting, slot, slots}
-use Rattle.settings.specs.Writing.{settingAt, goodAt, firstBad, AllGood, entriesOf, listOf, sizeOf, answer, written, bufferAfter}
+use Rattle.settings.specs.Writing.{settingAt, goodAt, firstBad, AllGood, HeldSlots, entriesOf, listOf, sizeOf, answer, written, bufferAfter}
 use Rattle.settings.proofs.Writing.{length-list}
 use Rattle.settings.proofs.Counting.{count-fine, count-range}
 use Rattle.settings.proofs.WriteAnswers.{all-good, list-there, room-enough}
-use Rattle.settings_demands.specs.Ensured.{Migrated, WrittenBack, Held, HeldSlots}
-use Rattle.settings_demands.specs.Outcome.{ListTo, refusedAt, holding, Outcome, badCount, badEntry, extraBytes, accepted}
-use Rattle.settings_demands.proofs.Settings.{setting-kept, entry-wide, setting-held}
+use Rattle.settings_demands.specs.Ensured.{Migrated, WrittenBack}
+use Rattle.settings_demands.specs.Outcome.{ListTo, holding, accepted}
+use Rattle.settings_demands.proofs.Settings.{setting-kept, entry-wide}
 use Rattle.settings_demands.proofs.Slots.{slot-holds, slots-many, entries-of-slots, allowed-at}
-use Rattle.settings_demands.proofs.Promises.{answered, Accepted, accepted-list, accepted-bytes, only-answer, from-the-list, past-the-number}
+use Rattle.settings_demands.proofs.Promises.{Accepted, accepted-list, accepted-bytes, only-answer}
 
 -- where all are good, no bad one is found
 none-bad : (ss : List Slot) (n : ℕ) → AllGood ss n → n ≤ firstBad ss n
@@ -135,7 +134,7 @@ abbrev pub sameSettings : List Slot → ℕ → Migration
 sameSettings ss n = record { refusal = 0; place = sizeOf n; number = n; settings = slots (map (λ s. s .setting) (take n ss)) }
 
 -- the list of settings that were written is accepted, as these settings
-module _ (ss : List Slot) (n room : ℕ) (held : HeldSlots ss) (w : Wrote ss n room) where
+module _ (ss : List Slot) (n room : ℕ) (held : HeldSlots ss n) (w : Wrote ss n room) where
   first-ones : List Slot
   first-ones = take n ss
 
@@ -148,7 +147,7 @@ module _ (ss : List Slot) (n room : ℕ) (held : HeldSlots ss) (w : Wrote ss n r
   each i h =
       let l : i < n = omega (arith, first-long) in
       let e : settingAt (take n ss) i ≡ settingAt ss i = ap (λ (s : Slot). s .setting) (getD-take n ss i (slot (Count 0)) l) in
-      rw e (held .each i (omega (arith, w .few)), w .good i l)
+      rw e (held .each i l, w .good i l)
 
   listed : ListTo (listOf ss n) (entriesOf ss n) (length (listOf ss n))
   unfolding listOf first-ones entryIn
@@ -172,9 +171,10 @@ module _ (ss : List Slot) (n room : ℕ) (held : HeldSlots ss) (w : Wrote ss n r
 
 -- "what is written back is migrated to the same settings"
 pub same-settings-again :
-    {ss : List Slot} {n : ℕ} {old new : List ℕ} {w : Written} {m : Migration} → HeldSlots ss → WrittenBack ss n old w new → w .refusal ≡ 0 →
+    {ss : List Slot} {n : ℕ} {old new : List ℕ} {w : Written} {m : Migration} → WrittenBack ss n old w new → w .refusal ≡ 0 →
     Migrated (take (w .place) new) m → m ≡ sameSettings ss n
-same-settings-again {ss} {n} {old} {new} {w} {m} held wrote z said =
+same-settings-again {ss} {n} {old} {new} {w} {m} wrote z said =
+    let held = wrote .held z in
     let k = wrote-well ss n (length old) (sym (ap (λ (x : Written). x .refusal) (wrote .answer)) ∙ z) in
     let t = there ss n old (k .some) (k .few) (k .good) (k .enough) in
     let p : w .place ≡ sizeOf n = ap (λ (x : Written). x .place) (wrote .answer ∙ sym (t .0)) in
@@ -182,25 +182,3 @@ same-settings-again {ss} {n} {old} {new} {w} {m} held wrote z said =
     let l : take (w .place) new ≡ listOf ss n = rw (p, b) (take-at (listOf ss n) (drop (sizeOf n) old) (sizeOf n) (length-list ss (held .many) n (k .few))) in
     let again : Migrated (listOf ss n) m = rw l at said in
     sym (only-answer again (accepted (entriesOf ss n) (listed ss n (length old) held k) refl)) ∙ same ss n (length old) held k
-
--- the settings of an answer are such as a machine holds, so that what was migrated can be written back and migrated again
-pub migrated-held : {s : List ℕ} {m : Migration} → Migrated s m → HeldSlots (m .settings)
-migrated-held {s} {m} said = record { many = many (answered said); each = λ i h. go i (ltb i (m .number)) refl }
-  where
-    none : {r p : ℕ} → m ≡ refusedAt r p → length (m .settings) ≡ 64
-    none e = ap (λ (x : Migration). length (x .settings)) e ∙ slots-many [] (omega arith)
-
-    many : Outcome s m → length (m .settings) ≡ 64
-    many (badCount r n u e) = none e
-    many (badEntry es r p n f e) = none e
-    many (extraBytes es p w h e) = none e
-    many (accepted es w e) =
-        let k = count-range (length es) (w .kept .few) .1 in
-        ap (λ (x : Migration). length (x .settings)) e ∙ slots-many (map settingOf es) (omega (arith, length-map es settingOf))
-
-    go : (i : ℕ) (t : Bool) → ltb i (m .number) ≡ t → Held (settingAt (m .settings) i)
-    go i true t =
-        let f = from-the-list said i (ltb-true _ _ t) in
-        let w = rw (f .eight) at (number-wide 8 s (1 + 9 * i + 1) (said .bytes)) in
-        subst Held (f .says) (setting-held (entryOf (settingAt (m .settings) i)) w)
-    go i false t = subst Held (sym (past-the-number said i (ltb-false _ _ t))) (lit< tt)

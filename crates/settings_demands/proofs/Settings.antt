@@ -3,16 +3,15 @@
 use mathlib.Core.Path.{_≡_, refl, ap}
 use Prim.Native.Nat.{ℕ}
 use lib.Ieee.{binary64}
-use lib.Ieee.Bits.{ofBits-toBits, ofBits-fits, toBits-lt}
+use lib.Ieee.Bits.{ofBits-toBits, toBits-lt}
 use Rattle.byte_format.specs.Number.{Wide}
 use Rattle.settings.specs.declared.Setting.{Setting}
 use Rattle.settings.specs.declared.Setting.the-variants.{Margin, Feed, Count}
 use Rattle.settings.specs.declared.code.Code.{Code}
 use Rattle.settings.specs.declared.code.Code.the-variants as code
-use Rattle.settings.specs.Setting.{faultOf}
+use Rattle.settings.specs.Setting.{faultOf, Held}
 use Rattle.settings.specs.Entry.{Entry, made, settingOf, entryOf}
 use Rattle.settings.proofs.Floats.{good-float, bits-kept}
-use Rattle.settings_demands.specs.Ensured.{Held}
 
 -- "Accepted floats keep their bits": an entry without a fault is that of its setting
 pub entry-kept : (e : Entry) → Wide 8 (e .bits) → faultOf (settingOf e) ≡ 0 → entryOf (settingOf e) ≡ e
@@ -37,12 +36,3 @@ pub entry-wide : (x : Setting) → Held x → Wide 8 (entryOf x .bits)
 entry-wide (Margin x) h = toBits-lt binary64 x h
 entry-wide (Feed x) h = toBits-lt binary64 x h
 entry-wide (Count n) h = h
-
--- the setting of an entry is one that a machine holds
-pub setting-held : (e : Entry) → Wide 8 (e .bits) → Held (settingOf e)
-setting-held e w = go (e .kind) (e .bits) w
-  where
-    go : (k : Code) (n : ℕ) → Wide 8 n → Held (made k n)
-    go code.Margin n w = ofBits-fits binary64 n
-    go code.Feed n w = ofBits-fits binary64 n
-    go code.Count n w = w

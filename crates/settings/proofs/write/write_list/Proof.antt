@@ -29,7 +29,7 @@ returns-3 c =
     let many = bad .before in
     let a = many .before .before .before .args in
     left-alone (a .settings) (a .number) (a .out .now) (λ (z : _≡_ {A = ℕ} 26 0). omega arith)
-    (bad-given (a .settings) (a .number) (a .out .now) (many .before .if1 .left) (many .if2 .left) (bad .first-bad .ensures) (c .if3 .taken))
+    (bad-given (a .settings) (a .number) (a .out .now) (many .before .if1 .left) (many .if2 .left) (bad .first-bad .ensures .0) (c .if3 .taken))
 
 mul-size : tie.Need-mul-size
 mul-size c = search needs
@@ -43,14 +43,14 @@ returns-4 c =
     let many = bad .before in
     let a = many .before .before .before .args in
     left-alone (a .settings) (a .number) (a .out .now) (λ (z : _≡_ {A = ℕ} 18 0). omega arith)
-    (short-buffer (a .settings) (a .number) (a .out .now) (many .before .if1 .left) (many .if2 .left) (bad .first-bad .ensures) (c .before .if3 .left) (c .if4 .taken))
+    (short-buffer (a .settings) (a .number) (a .out .now) (many .before .if1 .left) (many .if2 .left) (bad .first-bad .ensures .0) (c .before .if3 .left) (c .if4 .taken))
 
 put-list-requires : tie.Need-put-list-requires
 put-list-requires c κs =
     let bad = c .before .before .before in
     let many = bad .before in
     let a = many .before .before .before .args in
-    (many .if2 .left, (c .before .if4 .left, all-good (a .settings) (a .number) (bad .first-bad .ensures) (c .before .before .if3 .left)))
+    (many .if2 .left, (c .before .if4 .left, all-good (a .settings) (a .number) (bad .first-bad .ensures .0) (c .before .before .if3 .left)))
 
 same-length : tie.Need-same-length
 same-length c = search needs
@@ -62,9 +62,11 @@ returns-5 c =
     let bad = room .before .before in
     let many = bad .before in
     let a = many .before .before .before .args in
-    list-there (a .settings) (a .number) (a .out .now)
-    (room-enough (a .settings) (a .number) (a .out .now) (many .before .if1 .left) (many .if2 .left) (bad .first-bad .ensures) (room .before .if3 .left) (room .if4 .left))
-    (put .put-list .ensures)
+    let l = list-there (a .settings) (a .number) (a .out .now)
+    (room-enough (a .settings) (a .number) (a .out .now) (many .before .if1 .left) (many .if2 .left) (bad .first-bad .ensures .0) (room .before .if3 .left) (room .if4 .left))
+    (put .put-list .ensures) in
+    let held = bad .first-bad .ensures .1 in
+    (l .0, (l .1, λ y. record { many = held .many; each = λ i h. held .each i (omega (arith, room .before .if3 .left)) }))
 
 pub write-list-spec : {M : Type 1} → statement M
 write-list-spec =
