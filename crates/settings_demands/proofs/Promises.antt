@@ -24,16 +24,10 @@ use Rattle.settings.proofs.Records.{length-entry}
 use Rattle.settings.proofs.Counting.{count-range}
 use Rattle.settings_demands.specs.Ensured.{Migrated}
 use Rattle.settings_demands.specs.FromList.{FromEntry}
-use Rattle.settings_demands.specs.Outcome.{ListTo, refusedAt, holding, Outcome, badCount, badEntry, extraBytes, accepted}
+use Rattle.settings_demands.specs.Outcome.{ListTo, refusedAt, Outcome, badCount, badEntry, extraBytes, accepted, Accepted}
 use Rattle.settings_demands.proofs.Outcomes.{migration-outcome, outcome-is}
 use Rattle.settings_demands.proofs.Settings.{entry-kept}
 use Rattle.settings_demands.proofs.Slots.{slot-holds, slot-past, fit-at, allowed-at}
-
--- an accepted list: its bytes are those of entries that keep every rule, and the answer holds their settings
-pub record Accepted (s : List ℕ) (m : Migration) : Type 0 where
-  pub listed : List Entry
-  pub stands : ListTo s listed (length s)
-  pub answer : m ≡ holding listed (length s)
 
 -- entry i of a list that stands: its code byte and its 8 bytes, at the place 1 + 9 i
 entry-stands : (s : List ℕ) (es : List Entry) (d : Entry) {m : ℕ} → ListTo s es m → (i : ℕ) → i < length es → Stands s (1 + 9 * i) (encodeEntry (getD es i d)) (1 + 9 * (i + 1))

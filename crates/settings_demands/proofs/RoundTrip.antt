@@ -3,15 +3,15 @@
 use mathlib.Core.Path.{_≡_, refl, sym, ap, _∙_}
 use mathlib.Core.Logic.{_≢_, ⊎-elim}
 use mathlib.Core.Bool.{Bool, true, false, cond, true≢false}
-use mathlib.Core.List.{List, [], _∷_, _++_, map, append-nil}
+use mathlib.Core.List.{List, [], _∷_, _++_, map}
 use Prim.Native.Nat.{ℕ, suc, _+_, _≤_, _<_}
 use native.Mathlib.Omega.{arith}
 use borrow.Author.Tests.{ltb-true, ltb-false, eqb-true, eq-eqb}
 use lib.Dec.{eqb, ltb}
 use lib.ListN.{length, take, drop, length-map, List·getD-map}
-use lib.Seq.{take-at, drop-length, length-take-le, getD-take}
+use lib.Seq.{take-at, length-take-le, getD-take}
 use Rattle.lists.proofs.Search.{first-stops}
-use Rattle.byte_format.specs.Stands.{Stands}
+use Rattle.byte_format.proofs.Standing.{stands-all}
 use Rattle.byte_format.specs.Format.{FitEach, encodeSection}
 use Rattle.byte_format.specs.Play.{Allowed}
 use Rattle.settings.specs.declared.Setting.{Setting}
@@ -28,10 +28,11 @@ use Rattle.settings.proofs.Writing.{length-list}
 use Rattle.settings.proofs.Counting.{count-fine, count-range}
 use Rattle.settings.proofs.WriteAnswers.{all-good, list-there, room-enough}
 use Rattle.settings_demands.specs.Ensured.{Migrated, WrittenBack}
-use Rattle.settings_demands.specs.Outcome.{ListTo, holding, accepted}
+use Rattle.settings_demands.specs.Outcome.{ListTo, holding, accepted, Accepted}
+use Rattle.settings_demands.specs.Again.{sameSettings}
 use Rattle.settings_demands.proofs.Settings.{setting-kept, entry-wide}
 use Rattle.settings_demands.proofs.Slots.{slot-holds, slots-many, entries-of-slots, allowed-at}
-use Rattle.settings_demands.proofs.Promises.{Accepted, accepted-list, accepted-bytes, only-answer}
+use Rattle.settings_demands.proofs.Promises.{accepted-list, accepted-bytes, only-answer}
 
 -- where all are good, no bad one is found
 none-bad : (ss : List Slot) (n : ℕ) → AllGood ss n → n ≤ firstBad ss n
@@ -124,14 +125,6 @@ same-each (s ∷ ss) h =
     let u : settingOf (entryOf (s .setting)) ≡ s .setting = setting-kept (s .setting) (h 0 (omega arith) .0) in
     let v = same-each ss (λ i l. h (suc i) (omega arith)) in
     cc
-
--- all the bytes stand from the first to the last
-stands-all : (s : List ℕ) → Stands s 0 s (length s)
-stands-all s = record { bytes = sym (ap (λ (r : List ℕ). s ++ r) (drop-length s) ∙ append-nil s); next = omega arith; within = omega arith }
-
--- the answer to a list of the first n of these settings
-abbrev pub sameSettings : List Slot → ℕ → Migration
-sameSettings ss n = record { refusal = 0; place = sizeOf n; number = n; settings = slots (map (λ s. s .setting) (take n ss)) }
 
 -- the list of settings that were written is accepted, as these settings
 module _ (ss : List Slot) (n room : ℕ) (held : HeldSlots ss n) (w : Wrote ss n room) where

@@ -41,6 +41,12 @@ pub data Outcome (s : List ℕ) (m : Migration) : Type 0 where
   -- none: "On acceptance the place is the length"
   accepted : (es : List Entry) → ListTo s es (length s) → m ≡ holding es (length s) → Outcome s m
 
+-- an accepted list: its bytes are those of entries that keep every rule, and the answer holds their settings
+pub record Accepted (s : List ℕ) (m : Migration) : Type 0 where
+  pub listed : List Entry
+  pub stands : ListTo s listed (length s)
+  pub answer : m ≡ holding listed (length s)
+
 -- why an entry at place p is refused with r, in the order of document 01's events; 0 where it is not
 pub data EntryRefusal (s : List ℕ) (p r : ℕ) : Type 0 where
   -- "kind byte missing (1)"

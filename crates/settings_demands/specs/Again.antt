@@ -1,0 +1,13 @@
+-- Settings written back and migrated again.
+-- Assumes nothing.
+use mathlib.Core.List.{List, map}
+use Prim.Native.Nat.{ℕ}
+use lib.ListN.{take}
+use Rattle.settings.specs.declared.Slot.{Slot}
+use Rattle.settings.specs.declared.Migration.{Migration}
+use Rattle.settings.specs.Migration.{slots}
+use Rattle.settings.specs.Writing.{sizeOf}
+
+-- the answer to the list of the first n of these settings: they are the same ones
+abbrev pub sameSettings : List Slot → ℕ → Migration
+sameSettings ss n = record { refusal = 0; place = sizeOf n; number = n; settings = slots (map (λ s. s .setting) (take n ss)) }
