@@ -10,7 +10,6 @@ use libc::STDOUT_FILENO;
 use settings::SETTINGS;
 use settings::Slot;
 use settings::Written;
-use settings::migrate;
 use settings::write_back;
 use settings_printout::print_migration;
 use settings_printout::print_refused;
@@ -58,8 +57,7 @@ fn print_lent(settings: [Slot; SETTINGS], number: usize, buffer: &mut [u8]) {
 fn answer(list: &[u8], number: usize, room: usize)
     requires { ⌜ room ≤ 600 ⌝ }
 {
-    print_migration(list);
-    let m = migrate(list);
+    let m = print_migration(list);
     let settings = m.settings;
     let mut buffer = [UNTOUCHED; MOST];
     print_lent(settings, number, &mut buffer[..room]);

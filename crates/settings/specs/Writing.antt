@@ -41,10 +41,11 @@ pub record HeldSlots (ss : List Slot) (n : ℕ) : Type 0 where
 abbrev pub entriesOf : List Slot → ℕ → List Entry
 entriesOf ss n = map (λ s. entryOf (s .setting)) (take n ss)
 
--- the list of the first n settings, and its length
+-- the list of the first n settings
 unfoldable pub listOf : List Slot → ℕ → List ℕ
 listOf ss n = encodeSection entries (entriesOf ss n)
 
+-- how long a list of n settings is
 abbrev pub sizeOf : ℕ → ℕ
 sizeOf n = 1 + 9 * n
 

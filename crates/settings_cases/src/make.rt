@@ -1,5 +1,4 @@
-// Settings to write back, made of a letter and bits.
-use settings::Setting;
+// Floats to write back, made of bits.
 
 // The sign's bit, and the bits of the infinity above zero.
 const SIGN: u64 = 0x8000_0000_0000_0000;
@@ -7,18 +6,9 @@ const SIGN: u64 = 0x8000_0000_0000_0000;
 const INFINITE: u64 = 0x7ff0_0000_0000_0000;
 
 // The float of these bits. A NaN is made by arithmetic: what `from_bits` would make of its bits nothing says.
-fn float_of(bits: u64) -> f64 {
+pub fn float_of(bits: u64) -> f64 {
     if INFINITE < bits % SIGN {
         return 0.0 / 0.0;
     }
     f64::from_bits(bits)
-}
-
-// The setting of a kind's letter and its bits.
-pub fn setting_of(letter: u8, bits: u64) -> Setting {
-    match letter {
-        b'M' => Setting::Margin(float_of(bits)),
-        b'F' => Setting::Feed(float_of(bits)),
-        _ => Setting::Count(bits),
-    }
 }

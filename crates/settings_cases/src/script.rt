@@ -1,12 +1,11 @@
 // The script: one line for each case, read byte by byte. Its words are explained at its head, in the file `stdin`.
 ghost use Prim.Native.Nat.{_<_};
-use crate::make::setting_of;
+use crate::make::float_of;
 use crate::show::MOST;
 use crate::show::first_bytes;
 use crate::show::migrated;
 use crate::show::text;
 use crate::show::written;
-use lists::few;
 use settings::SETTINGS;
 use settings::Setting;
 use settings::Slot;
@@ -152,7 +151,9 @@ impl Desk {
         self.value = 0;
         match letter {
             b'L' => self.migrated(),
-            b'M' | b'F' | b'C' => return self.added(setting_of(letter, value)),
+            b'M' => return self.added(Setting::Margin(float_of(value))),
+            b'F' => return self.added(Setting::Feed(float_of(value))),
+            b'C' => return self.added(Setting::Count(value)),
             b'N' => self.number = value as usize,
             b'R' => self.room = value as usize,
             b'W' => self.written(),
@@ -182,7 +183,7 @@ impl Desk {
     // The settings written back.
     fn written(self) {
         let settings = self.settings;
-        written(settings, self.number, few(self.room, MOST));
+        written(settings, self.number, self.room);
     }
 }
 

@@ -10,7 +10,7 @@ use Rattle.settings.specs.declared.Setting.{Setting}
 use Rattle.settings.specs.Entry.{Entry, byteOf, codes, entries}
 use Rattle.settings.specs.Migration.{badFloat, andSetting}
 use Rattle.settings.proofs.Records.{codes-told}
-use Rattle.settings_demands.specs.Outcome.{FaultAt, EntryRefusal, codeMissing, codeUnknown, restMissing, judgedFloat}
+use Rattle.settings_demands.specs.Outcome.{FaultAt, EntryRefusal, codeMissing, codeUnknown, restMissing, wholeEntry}
 
 -- for any bytes, whatever was read before
 entry-judged : (s : List ℕ) (p : ℕ) (xs : List Setting) → EntryRefusal s p (refusalAt entries badFloat andSetting xs s p)
@@ -20,7 +20,7 @@ entry-judged s p xs = go (which codes byteOf codes-told s p)
     go (missing h v) = codeMissing h (ap (λ (g : Got Entry). refusalOf g (badFloat xs)) v)
     go (strange h n v) = codeUnknown h n (ap (λ (g : Got Entry). refusalOf g (badFloat xs)) v)
     go (short k h e l v) = restMissing k h e l (ap (λ (g : Got Entry). refusalOf g (badFloat xs)) v)
-    go (whole k e h v) = judgedFloat k e h (ap (λ (g : Got Entry). refusalOf g (badFloat xs)) v)
+    go (whole k e h v) = wholeEntry k e h (ap (λ (g : Got Entry). refusalOf g (badFloat xs)) v)
 
 -- so the refusal of the entry at fault is one of them
 pub entry-refusal : {s : List ℕ} {es : List Entry} {r p : ℕ} → FaultAt s es r p → EntryRefusal s p r

@@ -56,4 +56,4 @@ pub data EntryRefusal (s : List ℕ) (p r : ℕ) : Type 0 where
   -- "rest missing (1)", whatever is left of it
   restMissing : (k : Code) → p < length s → getD s p 0 ≡ byteOf k → length s < p + 9 → r ≡ 1 → EntryRefusal s p r
   -- a code and its 8 bytes, judged: "26 bad float", or none
-  judgedFloat : (k : Code) → getD s p 0 ≡ byteOf k → p + 9 ≤ length s → r ≡ faultOf (made k (numberAt 8 s (p + 1))) → EntryRefusal s p r
+  wholeEntry : (k : Code) → getD s p 0 ≡ byteOf k → p + 9 ≤ length s → r ≡ faultOf (made k (numberAt 8 s (p + 1))) → EntryRefusal s p r

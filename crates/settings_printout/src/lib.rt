@@ -5,11 +5,13 @@
 // with, and none of them is a NaN, of which no bits are known.
 ghost use mathlib.Core.Path.{_≡_};
 ghost use Prim.Native.Nat.{_≤_};
+ghost use Rattle.settings.specs.Migration.{migration};
 ghost use Rattle.settings.specs.Setting.{faultOf};
 ghost use Rattle.settings.specs.Writing.{AllGood};
 ghost use Rattle.text_line.specs.Shown.{Put};
 ghost use Rattle.settings_printout.specs.Lines.{settingLine};
 use recording_lines::put_refused;
+use settings::Migration;
 use settings::SETTINGS;
 use settings::Setting;
 use settings::Slot;
@@ -69,14 +71,18 @@ pub fn print_refused(refusal: u8, place: usize) {
     show(put_refused(refusal, place, &mut line), &line);
 }
 
-// Writes what a list says: its settings and their number, or, where it is refused, the refusal and no setting at all.
-pub fn print_migration(s: &[u8]) {
+// Writes what a list says: its settings and their number, or, where it is refused, the refusal and no setting at all. Hands on what was
+// migrated.
+pub fn print_migration(s: &[u8]) -> Migration
+    ensures { λ r. ⌜ r ≡ migration (now (s .entry)) ⌝ }
+{
     let m = migrate(s);
     if m.refusal != 0 {
         print_refused(m.refusal, m.place);
-        return;
+        return m;
     }
     let settings = m.settings;
     print_settings(settings, m.number);
     print_migrated(m.number);
+    m
 }

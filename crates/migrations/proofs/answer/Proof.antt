@@ -10,9 +10,6 @@ use Rattle.migrations.proofs.answer.Tie as tie
 print-migration-requires : tie.Need-print-migration-requires
 print-migration-requires c κs = search needs
 
-migrate-requires : tie.Need-migrate-requires
-migrate-requires c κs = search needs
-
 array-borrow-prefix-buffer : tie.Need-array-borrow-prefix-buffer
 array-borrow-prefix-buffer c = search needs
 
@@ -30,7 +27,6 @@ answer-spec =
     tie.close
     (tie.spec
     print-migration-requires
-    migrate-requires
     array-borrow-prefix-buffer
     slice-aggregate-print-lent
     print-lent-requires
