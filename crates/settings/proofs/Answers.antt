@@ -19,7 +19,7 @@ use Rattle.settings.specs.declared.Setting.the-variants.{Count}
 use Rattle.settings.specs.declared.Slot.{Slot}
 use Rattle.settings.specs.declared.Migration.{Migration}
 use Rattle.settings.specs.Entry.{entries}
-use Rattle.settings.specs.Migration.{countLimit, badFloat, andSetting, listRead, slot, slots, answered, migration}
+use Rattle.settings.specs.Migration.{countLimit, badFloat, andSetting, listRead, slot, slots, refusedAt, answered, migration}
 
 -- a map of lists joined
 pub map-join : {A B : Type 0} (f : A → B) (xs ys : List A) → map f (xs ++ ys) ≡ map f xs ++ map f ys
@@ -40,18 +40,14 @@ slots-more xs x h =
     rw (b, map-join slot xs (x ∷ [])) (append-snoc (map slot xs) (slot x) rest) in
     left ∙ sym right
 
--- the answer to a refused list
-abbrev pub refusedWith : ℕ → ℕ → Migration
-refusedWith r p = record { refusal = r; place = p; number = 0; settings = slots [] }
-
 -- w is the reply of the entries
 module _ (s : List ℕ) (p : ℕ) (xs : List Setting) {w : Reply (List Setting)} where
   -- an entry is refused
-  pub refused-answer : {r : ℕ} → r ≢ 0 → reply r p xs ≡ w → refusedWith r p ≡ answered (ended s w)
-  refused-answer {r} n e = let a : refusedWith r p ≡ answered (reply r p xs) = sym (rw (ne-eqb r 0 n)) in a ∙ ap answered (sym (ended-refused s n (sym e)))
+  pub refused-answer : {r : ℕ} → r ≢ 0 → reply r p xs ≡ w → refusedAt r p ≡ answered (ended s w)
+  refused-answer {r} n e = let a : refusedAt r p ≡ answered (reply r p xs) = sym (rw (ne-eqb r 0 n)) in a ∙ ap answered (sym (ended-refused s n (sym e)))
 
   -- bytes are left
-  pub extra-answer : p < length s → reply 0 p xs ≡ w → refusedWith 17 p ≡ answered (ended s w)
+  pub extra-answer : p < length s → reply 0 p xs ≡ w → refusedAt 17 p ≡ answered (ended s w)
   extra-answer h e = ap answered (sym (ended-extra s h (sym e)))
 
   -- none are
@@ -66,6 +62,6 @@ unfolding listRead
 list-counted s e f = f ∙ ap (λ (w : Reply (List Setting)). answered (ended s w)) (sym (section-counted entries countLimit badFloat andSetting [] [] s 0 (sym e)))
 
 -- or the count's refusal
-pub list-uncounted : (s : List ℕ) {r : ℕ} → r ≢ 0 → stop r ≡ countAt 1 countLimit s 0 → refusedWith r 0 ≡ migration s
+pub list-uncounted : (s : List ℕ) {r : ℕ} → r ≢ 0 → stop r ≡ countAt 1 countLimit s 0 → refusedAt r 0 ≡ migration s
 unfolding listRead
 list-uncounted s z e = refused-answer s 0 [] z (sym (section-refused entries countLimit badFloat andSetting [] [] s 0 (sym e)))

@@ -84,9 +84,6 @@ module _ (f : Found) (s : List ℕ) (p : ℕ) (e : foundOf f (p + 1) ≡ firstBy
     unfolding thenJudged
     known-entry {m} {n} {x} l u v = v ∙ rw (l, u) (go (leb 9 (length s - p)) refl) ∙ ap (λ (y : Found). thenJudged s p (foundOf y (p + 1))) (sym g) ∙ then-taken s p e
       where
-        b : Entry
-        b = codes .body k s p
-
         go : (t : Bool) → leb 9 (length s - p) ≡ t → cond t (judged k (numberAt 8 s (p + 1)) (p + 9)) (stop 1) ≡ thenJudged s p (got k (p + 1))
         go true t = sym (rw t)
         go false t = sym (rw t)

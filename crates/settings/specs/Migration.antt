@@ -39,12 +39,16 @@ slot x = record { setting = x }
 unfoldable pub slots : List Setting → List Slot
 slots xs = map slot xs ++ replicate (64 - length xs) (slot (Count 0))
 
--- "The answer holds the settings and how many there are; .. on a refusal it is 0"
+-- the answer to a list that is refused: "on a refusal it is 0"
+abbrev pub refusedAt : ℕ → ℕ → Migration
+refusedAt r p = record { refusal = r; place = p; number = 0; settings = slots [] }
+
+-- "The answer holds the settings and how many there are"
 abbrev pub answered : Reply (List Setting) → Migration
 answered r =
     cond (eqb (r .refusal) 0)
     (record { refusal = 0; place = r .place; number = length (r .state); settings = slots (r .state) })
-    (record { refusal = r .refusal; place = r .place; number = 0; settings = slots [] })
+    (refusedAt (r .refusal) (r .place))
 
 -- the answer to any bytes
 abbrev pub migration : List ℕ → Migration

@@ -7,7 +7,7 @@ ghost use Rattle.byte_format.specs.End.{ended};
 ghost use Rattle.byte_format.specs.Section.{countAt};
 ghost use Rattle.settings.specs.Entry.{entries};
 ghost use Rattle.settings.specs.Found.{countedOf};
-ghost use Rattle.settings.specs.Migration.{countLimit, badFloat, andSetting, slots, answered, migration};
+ghost use Rattle.settings.specs.Migration.{countLimit, badFloat, andSetting, slots, refusedAt, answered, migration};
 use crate::Migration;
 use crate::SETTINGS;
 use crate::Setting;
@@ -51,7 +51,7 @@ fn no_settings() -> [Slot; SETTINGS]
 
 // The answer to a list that is refused: there is no setting in it.
 fn refused(refusal: u8, place: usize) -> Migration
-    ensures { λ r. ⌜ r ≡ record { refusal = refusal; place = place; number = 0; settings = slots [] } ⌝ }
+    ensures { λ r. ⌜ r ≡ refusedAt refusal place ⌝ }
 {
     Migration {
         refusal,

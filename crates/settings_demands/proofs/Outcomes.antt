@@ -17,10 +17,10 @@ use Rattle.byte_format.proofs.Sections.{Answered, countRefused, recordRefused, 
 use Rattle.settings.specs.declared.Setting.{Setting}
 use Rattle.settings.specs.declared.Migration.{Migration}
 use Rattle.settings.specs.Entry.{Entry, entries, settingOf}
-use Rattle.settings.specs.Migration.{countLimit, badFloat, andSetting, listRead, answered, migration}
+use Rattle.settings.specs.Migration.{countLimit, badFloat, andSetting, listRead, answered, migration, refusedAt}
 use Rattle.settings.proofs.Records.{entries-lawful}
 use Rattle.settings.proofs.Answers.{refused-answer, extra-answer, whole-answer}
-use Rattle.settings_demands.specs.Outcome.{ListTo, refusedAt, holding, Outcome, badCount, badEntry, extraBytes, accepted}
+use Rattle.settings_demands.specs.Outcome.{ListTo, holding, Outcome, badCount, badEntry, extraBytes, accepted}
 
 -- entries that are taken one after the other are their settings
 pub settings-taken : (xs : List Setting) (es : List Entry) → finally andSetting xs es ≡ xs ++ map settingOf es

@@ -18,13 +18,13 @@ use Rattle.settings.specs.declared.code.Code.the-variants as code
 use Rattle.settings.specs.declared.Migration.{Migration}
 use Rattle.settings.specs.Setting.{faultOf}
 use Rattle.settings.specs.Entry.{Entry, byteOf, encodeEntry, entries, settingOf}
-use Rattle.settings.specs.Migration.{slots}
+use Rattle.settings.specs.Migration.{slots, refusedAt}
 use Rattle.settings.specs.Writing.{settingAt, AllGood}
 use Rattle.settings.proofs.Records.{length-entry}
 use Rattle.settings.proofs.Counting.{count-range}
 use Rattle.settings_demands.specs.Ensured.{Migrated}
 use Rattle.settings_demands.specs.FromList.{FromEntry}
-use Rattle.settings_demands.specs.Outcome.{ListTo, refusedAt, Outcome, badCount, badEntry, extraBytes, accepted, Accepted}
+use Rattle.settings_demands.specs.Outcome.{ListTo, Outcome, badCount, badEntry, extraBytes, accepted, Accepted}
 use Rattle.settings_demands.proofs.Outcomes.{migration-outcome, outcome-is}
 use Rattle.settings_demands.proofs.Settings.{entry-kept}
 use Rattle.settings_demands.proofs.Slots.{slot-holds, slot-past, fit-at, allowed-at}

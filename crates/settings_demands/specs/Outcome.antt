@@ -12,7 +12,7 @@ use Rattle.settings.specs.declared.Migration.{Migration}
 use Rattle.settings.specs.declared.code.Code.{Code}
 use Rattle.settings.specs.Setting.{faultOf}
 use Rattle.settings.specs.Entry.{Entry, byteOf, entries, made, settingOf}
-use Rattle.settings.specs.Migration.{countLimit, badFloat, andSetting, slots}
+use Rattle.settings.specs.Migration.{countLimit, badFloat, andSetting, slots, refusedAt}
 
 -- these entries stand in s after their count, up to m: 1 to 64 of them, and none a bad float
 abbrev pub ListTo : List ℕ → List Entry → ℕ → Type 0
@@ -21,10 +21,6 @@ ListTo s es m = Whole entries countLimit badFloat andSetting s [] 0 es m
 -- these entries stand there so, and one more is due at m, whose refusal is r
 abbrev pub FaultAt : List ℕ → List Entry → ℕ → ℕ → Type 0
 FaultAt s es r m = Faulty entries countLimit badFloat andSetting s [] 0 es r m
-
--- the answer to a list that is refused: no setting is in it
-abbrev pub refusedAt : ℕ → ℕ → Migration
-refusedAt r p = record { refusal = r; place = p; number = 0; settings = slots [] }
 
 -- the answer with these entries, at this place
 abbrev pub holding : List Entry → ℕ → Migration
