@@ -6,3 +6,4 @@ pub mod Kinded
 pub mod Play
 pub mod Section
 pub mod End
+pub mod Handed
