@@ -9,3 +9,4 @@ pub mod Sections
 pub mod Ended
 pub mod Unique
 pub mod Lengths
+pub mod Handed
