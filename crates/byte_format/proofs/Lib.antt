@@ -10,3 +10,4 @@ pub mod Ended
 pub mod Unique
 pub mod Lengths
 pub mod Handed
+pub mod Weighing
