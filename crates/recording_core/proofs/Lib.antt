@@ -3,4 +3,5 @@ pub mod Counting
 pub mod Right
 pub mod Promises
 pub mod Answers
+pub mod Writings
 pub mod Vectors

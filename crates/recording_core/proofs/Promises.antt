@@ -1,10 +1,10 @@
 -- Demand 2 for a whole recording: accepted exactly when there are a table, links and events whose encoding the bytes are, within every limit, every link rule kept,
 -- every event possible in its turn by history alone, and no more reads than the list has room.
 -- Assumes nothing.
-use mathlib.Core.Path.{_≡_, refl, ap, _∙_}
+use mathlib.Core.Path.{_≡_, ap, _∙_}
 use mathlib.Core.Logic.{_⊎_, inl, inr}
 use mathlib.Core.Bool.{Bool}
-use mathlib.Core.List.{List, [], _∷_}
+use mathlib.Core.List.{List, []}
 use Prim.Native.Nat.{ℕ, _+_, _≤_, _<_}
 use lib.ListN.{length, take}
 use Rattle.protocol.specs.Event.{Event}
@@ -16,7 +16,6 @@ use Rattle.byte_format.specs.Number.{Bytes}
 use Rattle.byte_format.specs.Stands.{Stands}
 use Rattle.byte_format.specs.Format.{got, encodes, FitEach}
 use Rattle.byte_format.specs.Play.{Reply, reply, Allowed, Cut}
-use Rattle.recording_format.specs.Task.{anyDefault, andDefault}
 use Rattle.recording_format.specs.Link.{Link, listed}
 use Rattle.byte_format.specs.Section.{Faulty}
 use Rattle.recording_format.specs.Event.{eventAt, events}
@@ -29,16 +28,11 @@ use Rattle.byte_format.proofs.Sections.{section-records, faulty-records}
 use Rattle.recording_format.proofs.Recordings.{accepted-recorded, recorded-accepted}
 use Rattle.recording_format.proofs.Cuts.{recorded-cut}
 use Rattle.recording_format.proofs.WholeRecords.{cut-as-whole}
+use Rattle.recording_format.proofs.Weighed.{any-allowed}
 use Rattle.recording_core.specs.Playing.{Playing, coreOf, judgedIn, steppedIn}
 use Rattle.recording_core.specs.Promise.{past, freshTable, refusedBy, tableOf, Genuine}
 use Rattle.recording_core.specs.Right.{Right, WithTable}
 use Rattle.recording_core.proofs.Right.{refused-by, right-fresh, right-finally, happens-allowed}
-
--- any default is allowed
-any-allowed : (qs ds : List ℕ) → Allowed anyDefault andDefault qs ds
-unfolding Allowed
-any-allowed qs [] = tt
-any-allowed qs (d ∷ ds) = (refl, any-allowed (andDefault qs d) ds)
 
 -- a table that earns no refusal
 abbrev Fine : (ℕ → ℕ → Bool) → Limits → List ℕ → List Link → Type 0
