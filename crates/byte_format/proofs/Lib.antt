@@ -10,4 +10,5 @@ pub mod Ended
 pub mod Unique
 pub mod Lengths
 pub mod Handed
+pub mod Said
 pub mod Weighing
