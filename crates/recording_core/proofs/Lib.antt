@@ -4,4 +4,5 @@ pub mod Right
 pub mod Promises
 pub mod Answers
 pub mod Writings
+pub mod Rooms
 pub mod Vectors

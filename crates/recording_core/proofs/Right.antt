@@ -47,7 +47,7 @@ length-placed [] out = refl
 length-placed (v ∷ vs) out = rw length-set (length-placed vs out)
 
 -- reads never become fewer
-reads-past : (h es : List (Event ℕ)) → reads h ≤ reads (past h es)
+pub reads-past : (h es : List (Event ℕ)) → reads h ≤ reads (past h es)
 unfolding past reads
 reads-past h [] = omega arith
 reads-past h (arrival m ∷ es) = reads-past (arrival m ∷ h) es
@@ -69,7 +69,7 @@ first-same {x} e = ap front e
     front (v ∷ vs) = v
 
 -- a refusal of the core, or else one for want of room
-both-zero : (j r : ℕ) → cond (eqb j 0) r j ≡ 0 → (j ≡ 0) × (r ≡ 0)
+pub both-zero : (j r : ℕ) → cond (eqb j 0) r j ≡ 0 → (j ≡ 0) × (r ≡ 0)
 both-zero j r e = go (eqb j 0) refl e
   where
     go : (b : Bool) → eqb j 0 ≡ b → cond b r j ≡ 0 → (j ≡ 0) × (r ≡ 0)
@@ -84,7 +84,7 @@ room-left (start u) h out r z = r
 room-left (read k) h out r z = let x = leb-false (length out) (reads h) (cond-zero (leb (length out) (reads h)) 18 0 (λ y. omega arith) z .0) in omega arith
 room-left (finish u v) h out r z = r
 
-room-enough : (e : Event ℕ) (h : List (Event ℕ)) (out : List ℕ) → reads (e ∷ h) ≤ length out → noRoom e (full out (reads h)) ≡ 0
+pub room-enough : (e : Event ℕ) (h : List (Event ℕ)) (out : List ℕ) → reads (e ∷ h) ≤ length out → noRoom e (full out (reads h)) ≡ 0
 unfolding reads
 room-enough (arrival m) h out r = refl
 room-enough (start u) h out r = refl
