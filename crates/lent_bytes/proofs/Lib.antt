@@ -2,3 +2,4 @@
 pub mod Rests
 pub mod Digits
 pub mod Puts
+pub mod Halfway
