@@ -1,3 +1,5 @@
 -- Laws that several proofs cite.
 pub mod Links
 pub mod Puts
+pub mod Heads
+pub mod Judging
