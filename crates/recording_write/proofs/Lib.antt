@@ -1,5 +1,7 @@
 -- Laws that several proofs cite.
 pub mod Links
+pub mod NamedLinks
 pub mod Puts
 pub mod Heads
 pub mod Judging
+pub mod Tables
