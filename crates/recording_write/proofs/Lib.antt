@@ -5,3 +5,4 @@ pub mod Puts
 pub mod Heads
 pub mod Judging
 pub mod Tables
+pub mod Alls
