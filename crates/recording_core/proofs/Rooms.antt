@@ -1,23 +1,28 @@
 -- A recording that is judged by the state alone and one that is read into a lent list: with room for its numbers they are the same.
 -- Assumes nothing.
-use mathlib.Core.Path.{_≡_, refl, ap, _∙_}
-use mathlib.Core.Bool.{Bool}
+use mathlib.Core.Path.{_≡_, refl, sym, ap, _∙_}
+use mathlib.Core.Bool.{Bool, true, false, cond}
 use mathlib.Core.List.{List, [], _∷_}
-use Prim.Native.Nat.{ℕ, suc, _≤_}
+use Prim.Native.Nat.{ℕ, suc, _+_, _≤_}
 use native.Mathlib.Numerals.{add-one}
 use native.Mathlib.Omega.{arith}
-use borrow.Author.Tests.{eq-eqb}
+use borrow.Author.Tests.{eqb-true}
+use lib.Dec.{eqb}
 use lib.ListN.{length, length-set}
 use Rattle.protocol.specs.Event.{Event, arrival, start, read, finish}
 use Rattle.protocol.specs.History.{reads}
 use Rattle.protocol_state.specs.Saved.{Size}
 use Rattle.protocol_state.specs.Judge.{judgedOn}
 use Rattle.protocol_state.specs.Next.{next, valueOf}
-use Rattle.byte_format.specs.Play.{Allowed}
-use Rattle.recording_format.specs.Link.{Link, listed}
-use Rattle.recording_format.specs.Limits.{Limits}
+use Rattle.protocol_state.specs.Fresh.{single}
+use Rattle.byte_format.specs.Play.{Reply, reply, Allowed}
+use Rattle.byte_format.specs.Handed.{Handed, tally, weighed, weighedSection}
+use Rattle.recording_format.specs.Link.{Link, Links, listed}
+use Rattle.recording_format.specs.Event.{encodeEvent, events}
+use Rattle.recording_format.specs.Limits.{Limits, eventLimit}
 use Rattle.recording_format.specs.Recording.{Core, Recorded}
-use Rattle.recording_core.specs.Playing.{Playing, judgedIn, steppedIn, coreOf, stateCore}
+use Rattle.recording_format.specs.Writing.{tasksWeighed, linksWeighed, tableWeighed, whole}
+use Rattle.recording_core.specs.Playing.{Playing, judgedIn, steppedIn, coreOf, stateCore, alone}
 use Rattle.recording_core.specs.Promise.{past}
 use Rattle.recording_core.proofs.Right.{reads-past, both-zero, room-enough}
 
@@ -38,15 +43,25 @@ module _ (ahead : ℕ → ℕ → Bool) where
   length-next q (read l) = length-set (q .list) (q .counts .reads) (valueOf (q .state) (read l))
   length-next q (finish t v) = refl
 
+  -- where there is room for the number that it may read, the state alone judges it
+  judged-with-room :
+      (q : Playing) (e : Event ℕ) (h : List (Event ℕ)) → q .counts .reads ≡ reads h → reads (e ∷ h) ≤ length (q .list) → judgedIn ahead q e ≡ judgedOn ahead (q .state) e
+  unfolding judgedIn
+  judged-with-room q e h r l = rw (r, room-enough e h (q .list) l) (go (eqb (judgedOn ahead (q .state) e) 0) refl)
+    where
+      go : (t : Bool) → eqb (judgedOn ahead (q .state) e) 0 ≡ t → cond t 0 (judgedOn ahead (q .state) e) ≡ judgedOn ahead (q .state) e
+      go true t = sym (eqb-true (judgedOn ahead (q .state) e) 0 t)
+      go false t = refl
+
   -- after the history h: events that the state allows in their turn are allowed where there is room for their numbers
   pub allowed-with-room :
       (es : List (Event ℕ)) (h : List (Event ℕ)) (q : Playing) → q .counts .reads ≡ reads h → Allowed (judgedOn ahead) (next ahead) (q .state) es →
       reads (past h es) ≤ length (q .list) → Allowed (judgedIn ahead) (steppedIn ahead) q es
-  unfolding Allowed past judgedIn steppedIn
+  unfolding Allowed past steppedIn
   allowed-with-room [] h q r a l = tt
   allowed-with-room (e ∷ es) h q r a l =
       let m : reads (e ∷ h) ≤ length (q .list) = omega (arith, reads-past (e ∷ h) es) in (
-        rw (eq-eqb (judgedOn ahead (q .state) e) 0 (a .0), r) (room-enough e h (q .list) m),
+        judged-with-room q e h r m ∙ a .0,
         allowed-with-room es (e ∷ h) (steppedIn ahead q e) (reads-next q e h r) (a .1) (omega (arith, length-next q e)),
       )
 
@@ -56,6 +71,66 @@ module _ (ahead : ℕ → ℕ → Bool) where
   unfolding Allowed judgedIn steppedIn
   allowed-by-state [] q a = tt
   allowed-by-state (e ∷ es) q a = (both-zero (judgedOn ahead (q .state) e) _ (a .0) .0, allowed-by-state es (steppedIn ahead q e) (a .1))
+
+  -- so they are weighed the same
+  weighed-with-room :
+      (ending : ℕ) (es : List (Event ℕ)) (h : List (Event ℕ)) (q : Playing) (p : ℕ) → q .counts .reads ≡ reads h → reads (past h es) ≤ length (q .list) →
+      weighed events (judgedOn ahead) (next ahead) ending (q .state) es p ≡ alone (weighed events (judgedIn ahead) (steppedIn ahead) ending q es p)
+  unfolding weighed past steppedIn
+  weighed-with-room ending [] h q p r l = refl
+  weighed-with-room ending (e ∷ es) h q p r l =
+      let m : reads (e ∷ h) ≤ length (q .list) = omega (arith, reads-past (e ∷ h) es) in
+      rw (judged-with-room q e h r m)
+      (go (eqb (judgedOn ahead (q .state) e) 0)
+      (weighed-with-room ending es (e ∷ h) (steppedIn ahead q e) n (reads-next q e h r) (omega (arith, length-next q e))))
+    where
+      j : ℕ
+      j = judgedOn ahead (q .state) e
+
+      n : ℕ
+      n = p + length (encodeEvent e)
+
+      go :
+          (t : Bool) →
+          weighed events (judgedOn ahead) (next ahead) ending (next ahead (q .state) e) es n ≡ alone (weighed events (judgedIn ahead) (steppedIn ahead) ending (steppedIn ahead q e) es n) →
+          cond t (weighed events (judgedOn ahead) (next ahead) ending (next ahead (q .state) e) es n) (reply j p (q .state))
+          ≡ alone (cond t (weighed events (judgedIn ahead) (steppedIn ahead) ending (steppedIn ahead q e) es n) (reply j p q))
+      go true i = i
+      go false i = refl
+
+-- so too with a table before them: the same refusal at the same place, in the same state
+pub whole-with-room :
+    (ahead : ℕ → ℕ → Bool) (most : Limits) (size : Size) (out ds : List ℕ) (ls : Handed Link) (es : Handed (Event ℕ)) → reads (past [] (es .whole)) ≤ length out →
+    whole ahead most (stateCore ahead size) ds ls es ≡ alone (whole ahead most (coreOf ahead size out) ds ls es)
+unfolding whole tableWeighed weighedSection reads
+whole-with-room ahead most size out ds ls es l =
+    go (eqb (tasksWeighed most ds .refusal) 0) (eqb (linksWeighed ahead most (length (tasksWeighed most ds .state)) ls (tasksWeighed most ds .place) .refusal) 0) (eqb (eventLimit most (tally es)) 0)
+  where
+    T : Reply (List ℕ)
+    T = tasksWeighed most ds
+
+    L : Reply Links
+    L = linksWeighed ahead most (length (T .state)) ls (T .place)
+
+    E : ℕ
+    E = eventLimit most (tally es)
+
+    q : Playing
+    q = coreOf ahead size out .start (T .state) (L .state)
+
+    go :
+        (t u v : Bool) →
+        cond t
+        (cond u (cond v (weighed events (judgedOn ahead) (next ahead) (es .ending) (q .state) (es .whole) (L .place + 2)) (reply E (L .place) (single size))) (reply (L .refusal) (L .place) (single size)))
+        (reply (T .refusal) (T .place) (single size))
+        ≡ alone
+        (cond t
+        (cond u (cond v (weighed events (judgedIn ahead) (steppedIn ahead) (es .ending) q (es .whole) (L .place + 2)) (reply E (L .place) (coreOf ahead size out .single))) (reply (L .refusal) (L .place) (coreOf ahead size out .single)))
+        (reply (T .refusal) (T .place) (coreOf ahead size out .single)))
+    go true true true = weighed-with-room ahead (es .ending) (es .whole) [] q (L .place + 2) refl l
+    go true true false = refl
+    go true false v = refl
+    go false u v = refl
 
 -- a recording for one core is one for another that allows its events in their turn
 recorded-for :
