@@ -57,7 +57,7 @@ module _ (ahead : ℕ → ℕ → Bool) where
       (cond-small (allows (decided k (ph t))) (cond-small (preempted ahead t T ph) (omega arith) (omega arith)) (omega (arith, decided-small k (ph t))))
 
   -- no event is judged above 16
-  judged-small : (q : Saved) (e : Event ℕ) → judgedOn ahead q e ≤ 16
+  pub judged-small : (q : Saved) (e : Event ℕ) → judgedOn ahead q e ≤ 16
   unfolding judgedArrival judgedRead
   judged-small q (arrival m) =
       cond-small (eqb m 0 || leb (2 ^ (q .tasks)) m) (omega arith) (cond-small (every (mayArrive m (at (q .phase))) (q .tasks)) (omega arith) (omega arith))

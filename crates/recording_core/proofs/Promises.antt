@@ -52,7 +52,7 @@ module _ {ahead : ℕ → ℕ → Bool} (ranks : Ranks ahead) (most : Limits) (o
 
   module _ {s ds : List ℕ} {ls : List Link} {es : List (Event ℕ)} where
     -- what the reader accepts as a recording is one by the document's words
-    recorded-genuine : Recorded ahead most (coreOf ahead (most .size) out) s ds ls es → Genuine ahead most s out ds ls es
+    pub recorded-genuine : Recorded ahead most (coreOf ahead (most .size) out) s ds ls es → Genuine ahead most s out ds ls es
     recorded-genuine r =
         let n = length-listed ls in
         let ok : Fine ahead most ds ls = recorded-judged ahead most (coreOf ahead (most .size) out) s ds ls es r in
@@ -77,7 +77,7 @@ module _ {ahead : ℕ → ℕ → Bool} (ranks : Ranks ahead) (most : Limits) (o
 
   -- and the other way round, where each limit fits the bytes of its count
   module _ (wt : most .size .tasks < 256) (wl : most .size .links < 256) (we : most .events < 65536) {s ds : List ℕ} {ls : List Link} {es : List (Event ℕ)} (g : Genuine ahead most s out ds ls es) where
-    genuine-recorded : Recorded ahead most (coreOf ahead (most .size) out) s ds ls es
+    pub genuine-recorded : Recorded ahead most (coreOf ahead (most .size) out) s ds ls es
     genuine-recorded =
         let n = length-listed ls in
         let t = within-tasks most (length ds) (g .few-tasks .0) (g .few-tasks .1) in
