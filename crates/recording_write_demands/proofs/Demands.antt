@@ -1,0 +1,240 @@
+-- The promises over what the writer ensures: for any defaults ds, any numbers lw and ew, any buffer old, and any answer a and buffer that its contract allows.
+-- Assumes nothing.
+use mathlib.Core.Path.{_≡_, refl, sym, ap, _∙_}
+use mathlib.Core.Logic.{_≢_}
+use mathlib.Core.Bool.{Bool, true, false}
+use mathlib.Core.List.{List, [], _++_}
+use Prim.Native.Nat.{ℕ, _≤_, _<_}
+use native.Mathlib.Omega.{arith}
+use borrow.Author.Tests.{eq-eqb, ne-eqb}
+use lib.Dec.{eqb, ltb, lit≤, lit<}
+use lib.ListN.{length, take, drop, replicate, length-replicate}
+use lib.Seq.{take-at, drop-at}
+use Rattle.protocol.specs.Event.{Event}
+use Rattle.protocol.specs.History.{reads}
+use Rattle.protocol_state.specs.Saved.{Saved, base}
+use Rattle.protocol_state.proofs.Rules.{ltb-ranks}
+use Rattle.protocol_state.proofs.Give.{judged-small}
+use Rattle.byte_format.specs.Play.{Reply, reply}
+use Rattle.byte_format.specs.Handed.{Handed, handed, tally}
+use Rattle.recording_format.specs.Link.{Link}
+use Rattle.recording_format.specs.Limits.{baseLimits}
+use Rattle.recording_format.specs.Recording.{encodeRecording, recording, stateAfter}
+use Rattle.recording_format.specs.Words.{linksSaid, eventsSaid, linkWords, eventWords}
+use Rattle.recording_format.specs.Writing.{whole, writing, bytesAsWritten, InBytes}
+use Rattle.recording_format.proofs.Words.{links-said, events-said, values-said}
+use Rattle.recording_format.proofs.Weighed.{whole-fine, whole-reply, recorded-whole}
+use Rattle.recording_format.proofs.NumbersRead.{links-ending, events-ending, numbers-as-read, whole-as-written}
+use Rattle.recording_format.proofs.Buffers.{whole-small, Way, refused, short, fits, which-way, buffer-written, buffer-refused}
+use Rattle.recording_core.specs.Playing.{Playing, coreOf, stateCore, alone}
+use Rattle.recording_core.specs.Promise.{past, Genuine}
+use Rattle.recording_core.proofs.Promises.{recorded-genuine, genuine-recorded}
+use Rattle.recording_core.proofs.Writings.{written-recorded}
+use Rattle.recording_core.proofs.Rooms.{recorded-with-room, recorded-by-state, whole-with-room}
+use Rattle.recording_write_demands.specs.Ensured.{Written, writtenOf, held, Ensured, RecordingOf}
+
+-- what is judged: the tasks, and the links and events that the numbers say
+abbrev weighs : List ℕ → List ℕ → List ℕ → Reply Saved
+weighs ds lw ew = whole ltb baseLimits (stateCore ltb base) ds (linksSaid lw) (eventsSaid ew)
+
+-- their bytes
+abbrev bytes : List ℕ → List ℕ → List ℕ → List ℕ
+bytes ds lw ew = encodeRecording ds (linksSaid lw .whole) (eventsSaid ew .whole)
+
+-- no refusal of them is 18
+not-eighteen : (ds lw ew : List ℕ) → weighs ds lw ew .refusal ≤ 16
+not-eighteen ds lw ew =
+    whole-small ltb baseLimits (stateCore ltb base) ds (linksSaid lw) (eventsSaid ew) (judged-small ltb) (omega (arith, links-ending lw)) (omega (arith, events-ending ew))
+
+-- a recording that is handed over as what it says is refused nothing
+genuine-weighs :
+    {s out ds : List ℕ} {ls : List Link} {es : List (Event ℕ)} → Genuine ltb baseLimits s out ds ls es →
+    whole ltb baseLimits (stateCore ltb base) ds (handed ls 0) (handed es 0) ≡ reply 0 (length s) (stateAfter (stateCore ltb base) ds ls es)
+genuine-weighs {s} {out} {ds} {ls} {es} g =
+    recorded-whole ltb baseLimits (stateCore ltb base) ds s ls es
+    (recorded-by-state ltb baseLimits base out (genuine-recorded ltb-ranks baseLimits out (lit< tt) (lit< tt) (lit< tt) g))
+
+-- a list with room for the numbers that the events read
+roomOf : List ℕ → List ℕ
+roomOf ew = replicate (reads (past [] (eventsSaid ew .whole))) 0
+
+-- for it a recording that the numbers say is one
+recording-genuine : {ds lw ew s : List ℕ} → RecordingOf ds lw ew s → Genuine ltb baseLimits s (roomOf ew) ds (linksSaid lw .whole) (eventsSaid ew .whole)
+unfolding roomOf
+recording-genuine {ew = ew} r =
+    let n = reads (past [] (eventsSaid ew .whole)) in
+    r .genuine (roomOf ew) (omega (arith, length-replicate {A = ℕ} n 0))
+
+-- so it too is refused nothing
+recording-weighs : {ds lw ew s : List ℕ} → RecordingOf ds lw ew s → (weighs ds lw ew .refusal ≡ 0) × (weighs ds lw ew .place ≡ length s)
+recording-weighs {ds} {lw} {ew} {s} r =
+    let g = genuine-weighs (recording-genuine r) in
+    let e : weighs ds lw ew ≡ whole ltb baseLimits (stateCore ltb base) ds (handed (linksSaid lw .whole) 0) (handed (eventsSaid ew .whole) 0) =
+    ap (λ (k : ℕ). whole ltb baseLimits (stateCore ltb base) ds (handed (linksSaid lw .whole) k) (eventsSaid ew)) (r .links-whole)
+    ∙ ap (λ (k : ℕ). whole ltb baseLimits (stateCore ltb base) ds (handed (linksSaid lw .whole) 0) (handed (eventsSaid ew .whole) k)) (r .events-whole) in
+    (ap (λ (x : Reply Saved). x .refusal) (e ∙ g), ap (λ (x : Reply Saved). x .place) (e ∙ g))
+
+-- the room for the bytes asks nothing of the state
+held-alone : (room : ℕ) (x : Reply Playing) → writtenOf (held room (alone x)) ≡ writtenOf (held room x)
+held-alone room x = go (eqb (x .refusal) 0) (ltb room (x .place)) refl refl
+  where
+    go : (t u : Bool) → eqb (x .refusal) 0 ≡ t → ltb room (x .place) ≡ u → writtenOf (held room (alone x)) ≡ writtenOf (held room x)
+    go true true t u = rw (t, u)
+    go true false t u = rw (t, u)
+    go false u t v = rw t
+
+module _ {ds lw ew old new : List ℕ} {a : Written} (said : Ensured ds lw ew old a new) where
+  -- the answer by its parts
+  refusal-is : a .refusal ≡ writing ltb baseLimits (stateCore ltb base) ds (linksSaid lw) (eventsSaid ew) (length old) .refusal
+  refusal-is = ap (λ (w : Written). w .refusal) (said .answer)
+
+  place-is : a .place ≡ writing ltb baseLimits (stateCore ltb base) ds (linksSaid lw) (eventsSaid ew) (length old) .place
+  place-is = ap (λ (w : Written). w .place) (said .answer)
+
+  -- which of the three it is
+  way : Way ltb baseLimits (stateCore ltb base) ds (linksSaid lw) (eventsSaid ew) (length old)
+  way = which-way ltb baseLimits (stateCore ltb base) ds (linksSaid lw) (eventsSaid ew) (length old)
+
+  -- an answer that is this reply
+  is : {x : Reply Saved} → writing ltb baseLimits (stateCore ltb base) ds (linksSaid lw) (eventsSaid ew) (length old) ≡ x → (a .refusal ≡ x .refusal) × (a .place ≡ x .place)
+  is e = (refusal-is ∙ ap (λ (y : Reply Saved). y .refusal) e, place-is ∙ ap (λ (y : Reply Saved). y .place) e)
+
+  -- no refusal: nothing is at fault, and there is room
+  accepted : a .refusal ≡ 0 → (weighs ds lw ew .refusal ≡ 0) × (a .place ≡ weighs ds lw ew .place) × (weighs ds lw ew .place ≤ length old)
+  accepted z = go way
+    where
+      go : Way ltb baseLimits (stateCore ltb base) ds (linksSaid lw) (eventsSaid ew) (length old) → (weighs ds lw ew .refusal ≡ 0) × (a .place ≡ weighs ds lw ew .place) × (weighs ds lw ew .place ≤ length old)
+      go (refused n e) = absurd (n (sym (is e .0) ∙ z))
+      go (short w l e) = absurd (omega (arith, is e .0))
+      go (fits w l e) = (w, is e .1, l)
+
+  -- 18: nothing is at fault, and there is no room
+  eighteen : a .refusal ≡ 18 → (weighs ds lw ew .refusal ≡ 0) × (a .place ≡ weighs ds lw ew .place) × (length old < weighs ds lw ew .place)
+  eighteen z = go way
+    where
+      go : Way ltb baseLimits (stateCore ltb base) ds (linksSaid lw) (eventsSaid ew) (length old) → (weighs ds lw ew .refusal ≡ 0) × (a .place ≡ weighs ds lw ew .place) × (length old < weighs ds lw ew .place)
+      go (refused n e) = absurd (omega (arith, is e .0, not-eighteen ds lw ew))
+      go (short w l e) = (w, is e .1, l)
+      go (fits w l e) = absurd (omega (arith, is e .0))
+
+  -- and the other way round
+  roomy : weighs ds lw ew .refusal ≡ 0 → weighs ds lw ew .place ≤ length old → (a .refusal ≡ 0) × (a .place ≡ weighs ds lw ew .place)
+  roomy z h = go way
+    where
+      go : Way ltb baseLimits (stateCore ltb base) ds (linksSaid lw) (eventsSaid ew) (length old) → (a .refusal ≡ 0) × (a .place ≡ weighs ds lw ew .place)
+      go (refused n e) = absurd (n z)
+      go (short w l e) = absurd (omega arith)
+      go (fits w l e) = (is e .0 ∙ w, is e .1)
+
+  roomless : weighs ds lw ew .refusal ≡ 0 → length old < weighs ds lw ew .place → (a .refusal ≡ 18) × (a .place ≡ weighs ds lw ew .place)
+  roomless z h = go way
+    where
+      go : Way ltb baseLimits (stateCore ltb base) ds (linksSaid lw) (eventsSaid ew) (length old) → (a .refusal ≡ 18) × (a .place ≡ weighs ds lw ew .place)
+      go (refused n e) = absurd (n z)
+      go (short w l e) = is e
+      go (fits w l e) = absurd (omega arith)
+
+  -- what is refused nothing is a recording, and its place the length
+  module _ (z : weighs ds lw ew .refusal ≡ 0) where
+    fine : RecordingOf ds lw ew (bytes ds lw ew)
+    fine =
+        let f = whole-fine ltb baseLimits (stateCore ltb base) ds (linksSaid lw) (eventsSaid ew) z in
+        let r = written-recorded ltb baseLimits (lit≤ tt) (lit< tt) (lit< tt) ds (linksSaid lw) (eventsSaid ew) (said .numbers .0) (values-said ew (said .numbers .1)) z in
+        record { links-whole = f .0; events-whole = f .1 .0; genuine = λ out l. recorded-genuine ltb-ranks baseLimits out (recorded-with-room ltb baseLimits base out l r) }
+
+    long : weighs ds lw ew .place ≡ length (bytes ds lw ew)
+    long = ap (λ (x : Reply Saved). x .place) (whole-reply ltb baseLimits (stateCore ltb base) ds (linksSaid lw) (eventsSaid ew) z)
+
+  -- "On a refusal the buffer is untouched"
+  pub refused-untouched : a .refusal ≢ 0 → new ≡ old
+  refused-untouched n = said .buffer ∙ buffer-refused ltb baseLimits (stateCore ltb base) ds (linksSaid lw) (eventsSaid ew) old (λ z. n (refusal-is ∙ z))
+
+  module _ (z : a .refusal ≡ 0) where
+    -- the buffer: the recording, and what stood after its place
+    parts : new ≡ bytes ds lw ew ++ drop (a .place) old
+    parts = said .buffer ∙ buffer-written ltb baseLimits (stateCore ltb base) ds (linksSaid lw) (eventsSaid ew) old (sym refusal-is ∙ z) ∙ rw place-is
+
+    ends : length (bytes ds lw ew) ≡ a .place
+    ends = sym (accepted z .1 ∙ long (accepted z .0))
+
+    -- what is written is a recording that the reader accepts, of all that is handed over
+    pub what-is-written-is-read : RecordingOf ds lw ew (take (a .place) new)
+    what-is-written-is-read =
+        let e : take (a .place) new ≡ bytes ds lw ew = ap (take (a .place)) parts ∙ take-at (bytes ds lw ew) (drop (a .place) old) (a .place) ends in
+        rw e (fine (accepted z .0))
+
+    -- it ends inside the buffer
+    pub written-within : a .place ≤ length old
+    written-within = omega (arith, accepted z .1, accepted z .2)
+
+    -- "no byte after it changes"
+    pub rest-untouched : drop (a .place) new ≡ drop (a .place) old
+    rest-untouched = ap (drop (a .place)) parts ∙ drop-at (bytes ds lw ew) (drop (a .place) old) (a .place) ends
+
+  -- 18: what is handed over is a recording, and the buffer is shorter; the place is its length
+  pub short-buffer : a .refusal ≡ 18 → (s : List ℕ) × RecordingOf ds lw ew s × (a .place ≡ length s) × (length old < length s)
+  short-buffer z = let e = eighteen z in let l = long (e .0) in (bytes ds lw ew, fine (e .0), e .1 ∙ l, omega (arith, e .2))
+
+  module _ {s : List ℕ} (r : RecordingOf ds lw ew s) where
+    -- and 18 always then
+    pub shorter-refused : length old < length s → (a .refusal ≡ 18) × (a .place ≡ length s)
+    shorter-refused h = let w = recording-weighs r in let e = roomless (w .0) (omega (arith, w .1)) in (e .0, e .1 ∙ w .1)
+
+    -- with room it is written
+    pub recording-written : length s ≤ length old → (a .refusal ≡ 0) × (a .place ≡ length s) × (take (length s) new ≡ s)
+    recording-written h =
+        let w = recording-weighs r in
+        let e = roomy (w .0) (omega (arith, w .1)) in
+        let p = e .1 ∙ w .1 in
+        (e .0, p, ap (λ (n : ℕ). take n new) (sym p) ∙ recording-genuine (what-is-written-is-read (e .0)) .bytes ∙ sym (recording-genuine r .bytes))
+
+  module _ (out : List ℕ) (b : InBytes ds (linksSaid lw) (eventsSaid ew)) (room : reads (past [] (eventsSaid ew .whole)) ≤ length out) where
+    -- where each number fits its bytes: the answer is the reader's to the bytes as written, with room for its numbers; only that a recording may find no
+    -- room in the buffer
+    pub as-the-reader : a ≡ writtenOf (held (length old) (recording ltb baseLimits (coreOf ltb base out) (bytesAsWritten ds lw ew)))
+    unfolding writing
+    as-the-reader =
+        said .answer
+        ∙ ap (λ (x : Reply Saved). writtenOf (held (length old) x)) (whole-with-room ltb baseLimits base out ds (linksSaid lw) (eventsSaid ew) room)
+        ∙ held-alone (length old) (whole ltb baseLimits (coreOf ltb base out) ds (linksSaid lw) (eventsSaid ew))
+        ∙ ap (λ (x : Reply Playing). writtenOf (held (length old) x)) (sym (numbers-as-read ltb baseLimits (coreOf ltb base out) ds lw ew b))
+
+    -- so a fault has the reader's number and place
+    pub same-fault :
+        let x = recording ltb baseLimits (coreOf ltb base out) (bytesAsWritten ds lw ew) in x .refusal ≢ 0 → (a .refusal ≡ x .refusal) × (a .place ≡ x .place)
+    same-fault n =
+        let x = recording ltb baseLimits (coreOf ltb base out) (bytesAsWritten ds lw ew) in
+        let e : a ≡ writtenOf x = rw (ne-eqb (x .refusal) 0 n) at as-the-reader in
+        (ap (λ (w : Written). w .refusal) e, ap (λ (w : Written). w .place) e)
+
+-- each number of a recording fits its bytes; so one that does not is refused
+pub recording-in-bytes : {ds lw ew s : List ℕ} → RecordingOf ds lw ew s → InBytes ds (linksSaid lw) (eventsSaid ew)
+recording-in-bytes {ds} {lw} {ew} r =
+    let g = genuine-recorded ltb-ranks baseLimits (roomOf ew) (lit< tt) (lit< tt) (lit< tt) (recording-genuine r) in
+    let n : tally (linksSaid lw) ≡ length (linksSaid lw .whole) = rw (eq-eqb (linksSaid lw .ending) 0 (r .links-whole)) (omega arith) in
+    let m : tally (eventsSaid ew) ≡ length (eventsSaid ew .whole) = rw (eq-eqb (eventsSaid ew .ending) 0 (r .events-whole)) (omega arith) in
+    record {
+      tasked = (g .tasked .counted, g .tasked .fits);
+      linked = (rw n (g .linked .counted), g .linked .fits);
+      played = λ _. (rw m (g .played .counted), g .played .fits);
+    }
+
+-- and its bytes are the bytes as written
+pub recording-as-written : {ds lw ew s : List ℕ} → RecordingOf ds lw ew s → bytesAsWritten ds lw ew ≡ s
+recording-as-written {ds} {lw} {ew} r = whole-as-written ds lw ew (r .links-whole) (r .events-whole) ∙ sym (recording-genuine r .bytes)
+
+-- what the reader accepts, handed over as its tasks and the numbers of its links and events, is a recording that these say
+pub genuine-recording : {s out ds : List ℕ} {ls : List Link} {es : List (Event ℕ)} → Genuine ltb baseLimits s out ds ls es → RecordingOf ds (linkWords ls) (eventWords es) s
+genuine-recording {s} {out} {ds} {ls} {es} g =
+    let r = recorded-by-state ltb baseLimits base out (genuine-recorded ltb-ranks baseLimits out (lit< tt) (lit< tt) (lit< tt) g) in
+    record {
+      links-whole = ap (λ (h : Handed Link). h .ending) (links-said ls);
+      events-whole = ap (λ (h : Handed (Event ℕ)). h .ending) (events-said es);
+      genuine = rw (links-said ls, events-said es) (λ (o : List ℕ) (l : reads (past [] es) ≤ length o). recorded-genuine ltb-ranks baseLimits o (recorded-with-room ltb baseLimits base o l r));
+    }
+
+-- so it is written again, byte for byte
+pub accepted-written-again :
+    {s out ds old new : List ℕ} {ls : List Link} {es : List (Event ℕ)} {a : Written} → Genuine ltb baseLimits s out ds ls es →
+    Ensured ds (linkWords ls) (eventWords es) old a new → length s ≤ length old → (a .refusal ≡ 0) × (a .place ≡ length s) × (take (length s) new ≡ s)
+accepted-written-again g said h = recording-written said (genuine-recording g) h

@@ -1,0 +1,44 @@
+-- What the writer of recordings ensures, and what an answer of the reader becomes where the buffer is too short.
+-- Assumes nothing.
+use mathlib.Core.Path.{_≡_}
+use mathlib.Core.Bool.{cond}
+use mathlib.Core.List.{List, []}
+use Prim.Native.Nat.{ℕ, _≤_}
+use lib.Dec.{eqb, ltb}
+use lib.ListN.{length}
+use Rattle.protocol.specs.History.{reads}
+use Rattle.protocol_state.specs.Saved.{base}
+use Rattle.byte_format.specs.Play.{Reply, reply}
+use Rattle.recording_format.specs.Limits.{baseLimits}
+use Rattle.recording_format.specs.Words.{Words, linksSaid, eventsSaid}
+use Rattle.recording_format.specs.Writing.{writing, bufferAfter}
+use Rattle.recording_core.specs.Playing.{stateCore}
+use Rattle.recording_core.specs.Promise.{past, Genuine}
+
+-- the answer: the refusal, 0 for none, and the place
+pub record Written : Type 0 where
+  pub refusal : ℕ
+  pub place : ℕ
+
+module _ {S : Type 0} where
+  -- of a reply, these two
+  abbrev pub writtenOf : Reply S → Written
+  writtenOf x = record { refusal = x .refusal; place = x .place }
+
+  -- a reply where there is room for so many bytes: "18 is tried last, with the whole length as place"
+  abbrev pub held : ℕ → Reply S → Reply S
+  held room x = cond (eqb (x .refusal) 0) (cond (ltb room (x .place)) (reply 18 (x .place) (x .state)) x) x
+
+-- the three clauses of `recording_write::write`, for the defaults ds, the numbers lw that say links and ew that say events, and a buffer that held `old`:
+-- it answers a and leaves `new`
+pub record Ensured (ds lw ew old : List ℕ) (a : Written) (new : List ℕ) : Type 0 where
+  pub answer : a ≡ writtenOf (writing ltb baseLimits (stateCore ltb base) ds (linksSaid lw) (eventsSaid ew) (length old))
+  pub buffer : new ≡ bufferAfter ltb baseLimits (stateCore ltb base) ds (linksSaid lw) (eventsSaid ew) old
+  pub numbers : Words ds × Words ew
+
+-- s is the recording of these: nothing comes after the whole links and events that the numbers say, and for every lent list with room for the numbers
+-- read, the bytes are theirs, they keep every limit and rule, and the events could happen
+pub record RecordingOf (ds lw ew s : List ℕ) : Type 0 where
+  pub links-whole : linksSaid lw .ending ≡ 0
+  pub events-whole : eventsSaid ew .ending ≡ 0
+  pub genuine : (out : List ℕ) → reads (past [] (eventsSaid ew .whole)) ≤ length out → Genuine ltb baseLimits s out ds (linksSaid lw .whole) (eventsSaid ew .whole)
