@@ -9,6 +9,7 @@ pub mod Sections
 pub mod Ended
 pub mod Unique
 pub mod Lengths
+pub mod Bytes
 pub mod Handed
 pub mod Said
 pub mod Weighing

@@ -24,7 +24,8 @@ use Rattle.recording_format.specs.Words.{linksSaid, eventsSaid, linkWords, even
 use Rattle.recording_format.specs.Writing.{whole, writing, bytesAsWritten, InBytes}
 use Rattle.recording_format.proofs.Words.{links-said, events-said, values-said}
 use Rattle.recording_format.proofs.Weighed.{whole-fine, whole-reply, recorded-whole}
-use Rattle.recording_format.proofs.NumbersRead.{links-ending, events-ending, numbers-as-read, whole-as-written}
+use Rattle.recording_format.proofs.NumbersRead.{links-ending, events-ending, numbers-as-read}
+use Rattle.recording_format.proofs.WrittenBytes.{whole-as-written}
 use Rattle.recording_format.proofs.Buffers.{whole-small, Way, refused, short, fits, which-way, buffer-written, buffer-refused}
 use Rattle.recording_core.specs.Playing.{Playing, coreOf, stateCore, alone}
 use Rattle.recording_core.specs.Promise.{past, Genuine}
