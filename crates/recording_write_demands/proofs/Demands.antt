@@ -158,11 +158,16 @@ module _ {ds lw ew old new : List ℕ} {a : Written} (said : Ensured ds lw ew ol
     ends : length (bytes ds lw ew) ≡ a .place
     ends = sym (accepted z .1 ∙ long (accepted z .0))
 
+    first : take (a .place) new ≡ bytes ds lw ew
+    first = ap (take (a .place)) parts ∙ take-at (bytes ds lw ew) (drop (a .place) old) (a .place) ends
+
     -- what is written is a recording that the reader accepts, of all that is handed over
     pub what-is-written-is-read : RecordingOf ds lw ew (take (a .place) new)
-    what-is-written-is-read =
-        let e : take (a .place) new ≡ bytes ds lw ew = ap (take (a .place)) parts ∙ take-at (bytes ds lw ew) (drop (a .place) old) (a .place) ends in
-        rw e (fine (accepted z .0))
+    what-is-written-is-read = rw first (fine (accepted z .0))
+
+    -- it has so many bytes
+    pub written-length : length (take (a .place) new) ≡ a .place
+    written-length = ap length first ∙ ends
 
     -- it ends inside the buffer
     pub written-within : a .place ≤ length old
