@@ -21,7 +21,7 @@ use Rattle.recording_format.specs.Link.{Link}
 use Rattle.recording_format.specs.Limits.{baseLimits}
 use Rattle.recording_format.specs.Recording.{encodeRecording, recording, stateAfter}
 use Rattle.recording_format.specs.Words.{linksSaid, eventsSaid, linkWords, eventWords}
-use Rattle.recording_format.specs.Writing.{whole, writing, bytesAsWritten, InBytes}
+use Rattle.recording_format.specs.Writing.{whole, held, writing, bytesAsWritten, InBytes}
 use Rattle.recording_format.proofs.Words.{links-said, events-said, values-said}
 use Rattle.recording_format.proofs.Weighed.{whole-fine, whole-reply, recorded-whole}
 use Rattle.recording_format.proofs.NumbersRead.{links-ending, events-ending, numbers-as-read}
@@ -32,7 +32,7 @@ use Rattle.recording_core.specs.Promise.{past, Genuine}
 use Rattle.recording_core.proofs.Promises.{recorded-genuine, genuine-recorded}
 use Rattle.recording_core.proofs.Writings.{written-recorded}
 use Rattle.recording_core.proofs.Rooms.{recorded-with-room, recorded-by-state, whole-with-room}
-use Rattle.recording_write_demands.specs.Ensured.{Written, writtenOf, held, Ensured, RecordingOf}
+use Rattle.recording_write_demands.specs.Ensured.{Written, writtenOf, Ensured, RecordingOf}
 
 -- what is judged: the tasks, and the links and events that the numbers say
 abbrev weighs : List ℕ → List ℕ → List ℕ → Reply Saved
@@ -85,10 +85,11 @@ held-alone room x = go (eqb (x .refusal) 0) (ltb room (x .place)) refl refl
     go false u t v = rw t
 
 module _ {ds lw ew old new : List ℕ} {a : Written} (said : Ensured ds lw ew old a new) where
-  -- the answer by its parts
+  -- the refusal of the answer
   refusal-is : a .refusal ≡ writing ltb baseLimits (stateCore ltb base) ds (linksSaid lw) (eventsSaid ew) (length old) .refusal
   refusal-is = ap (λ (w : Written). w .refusal) (said .answer)
 
+  -- and the place
   place-is : a .place ≡ writing ltb baseLimits (stateCore ltb base) ds (linksSaid lw) (eventsSaid ew) (length old) .place
   place-is = ap (λ (w : Written). w .place) (said .answer)
 
@@ -118,7 +119,7 @@ module _ {ds lw ew old new : List ℕ} {a : Written} (said : Ensured ds lw ew ol
       go (short w l e) = (w, is e .1, l)
       go (fits w l e) = absurd (omega (arith, is e .0))
 
-  -- and the other way round
+  -- and the other way round, with room
   roomy : weighs ds lw ew .refusal ≡ 0 → weighs ds lw ew .place ≤ length old → (a .refusal ≡ 0) × (a .place ≡ weighs ds lw ew .place)
   roomy z h = go way
     where
@@ -127,6 +128,7 @@ module _ {ds lw ew old new : List ℕ} {a : Written} (said : Ensured ds lw ew ol
       go (short w l e) = absurd (omega arith)
       go (fits w l e) = (is e .0 ∙ w, is e .1)
 
+  -- without room
   roomless : weighs ds lw ew .refusal ≡ 0 → length old < weighs ds lw ew .place → (a .refusal ≡ 18) × (a .place ≡ weighs ds lw ew .place)
   roomless z h = go way
     where
@@ -135,14 +137,15 @@ module _ {ds lw ew old new : List ℕ} {a : Written} (said : Ensured ds lw ew ol
       go (short w l e) = is e
       go (fits w l e) = absurd (omega arith)
 
-  -- what is refused nothing is a recording, and its place the length
   module _ (z : weighs ds lw ew .refusal ≡ 0) where
+    -- what is refused nothing is a recording
     fine : RecordingOf ds lw ew (bytes ds lw ew)
     fine =
         let f = whole-fine ltb baseLimits (stateCore ltb base) ds (linksSaid lw) (eventsSaid ew) z in
         let r = written-recorded ltb baseLimits (lit≤ tt) (lit< tt) (lit< tt) ds (linksSaid lw) (eventsSaid ew) (said .numbers .0) (values-said ew (said .numbers .1)) z in
         record { links-whole = f .0; events-whole = f .1 .0; genuine = λ out l. recorded-genuine ltb-ranks baseLimits out (recorded-with-room ltb baseLimits base out l r) }
 
+    -- and its place the length
     long : weighs ds lw ew .place ≡ length (bytes ds lw ew)
     long = ap (λ (x : Reply Saved). x .place) (whole-reply ltb baseLimits (stateCore ltb base) ds (linksSaid lw) (eventsSaid ew) z)
 
@@ -155,9 +158,11 @@ module _ {ds lw ew old new : List ℕ} {a : Written} (said : Ensured ds lw ew ol
     parts : new ≡ bytes ds lw ew ++ drop (a .place) old
     parts = said .buffer ∙ buffer-written ltb baseLimits (stateCore ltb base) ds (linksSaid lw) (eventsSaid ew) old (sym refusal-is ∙ z) ∙ rw place-is
 
+    -- the place is the length of the recording
     ends : length (bytes ds lw ew) ≡ a .place
     ends = sym (accepted z .1 ∙ long (accepted z .0))
 
+    -- which stands first
     first : take (a .place) new ≡ bytes ds lw ew
     first = ap (take (a .place)) parts ∙ take-at (bytes ds lw ew) (drop (a .place) old) (a .place) ends
 

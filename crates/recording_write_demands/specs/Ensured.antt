@@ -1,14 +1,13 @@
--- What the writer of recordings ensures, and what an answer of the reader becomes where the buffer is too short.
+-- What the writer of recordings ensures, and what it is that numbers say a recording.
 -- Assumes nothing.
 use mathlib.Core.Path.{_≡_}
-use mathlib.Core.Bool.{cond}
 use mathlib.Core.List.{List, []}
 use Prim.Native.Nat.{ℕ, _≤_}
-use lib.Dec.{eqb, ltb}
+use lib.Dec.{ltb}
 use lib.ListN.{length}
 use Rattle.protocol.specs.History.{reads}
 use Rattle.protocol_state.specs.Saved.{base}
-use Rattle.byte_format.specs.Play.{Reply, reply}
+use Rattle.byte_format.specs.Play.{Reply}
 use Rattle.recording_format.specs.Limits.{baseLimits}
 use Rattle.recording_format.specs.Words.{Words, linksSaid, eventsSaid}
 use Rattle.recording_format.specs.Writing.{writing, bufferAfter}
@@ -24,10 +23,6 @@ module _ {S : Type 0} where
   -- of a reply, these two
   abbrev pub writtenOf : Reply S → Written
   writtenOf x = record { refusal = x .refusal; place = x .place }
-
-  -- a reply where there is room for so many bytes: "18 is tried last, with the whole length as place"
-  abbrev pub held : ℕ → Reply S → Reply S
-  held room x = cond (eqb (x .refusal) 0) (cond (ltb room (x .place)) (reply 18 (x .place) (x .state)) x) x
 
 -- the three clauses of `recording_write::write`, for the defaults ds, the numbers lw that say links and ew that say events, and a buffer that held `old`:
 -- it answers a and leaves `new`

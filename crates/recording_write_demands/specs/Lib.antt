@@ -1,2 +1,2 @@
--- What the promises over the writer speak of: its contract, and the answer where the buffer is too short.
+-- What the promises over the writer speak of: its contract, and the recording that numbers say.
 pub mod Ensured
