@@ -11,5 +11,6 @@ pub mod Unique
 pub mod Lengths
 pub mod Bytes
 pub mod Handed
+pub mod HandedBytes
 pub mod Said
 pub mod Weighing

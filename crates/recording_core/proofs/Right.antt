@@ -84,6 +84,7 @@ room-left (start u) h out r z = r
 room-left (read k) h out r z = let x = leb-false (length out) (reads h) (cond-zero (leb (length out) (reads h)) 18 0 (λ y. omega arith) z .0) in omega arith
 room-left (finish u v) h out r z = r
 
+-- and the other way round
 pub room-enough : (e : Event ℕ) (h : List (Event ℕ)) (out : List ℕ) → reads (e ∷ h) ≤ length out → noRoom e (full out (reads h)) ≡ 0
 unfolding reads
 room-enough (arrival m) h out r = refl
