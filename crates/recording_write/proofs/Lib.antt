@@ -6,3 +6,4 @@ pub mod Heads
 pub mod Judging
 pub mod Tables
 pub mod Alls
+pub mod Writes
