@@ -1,8 +1,8 @@
 /* The proved mailboxes, for hosts in C.
  *
  * The host keeps the saved state in its own memory, as a struct parnusild_state. Each call lends the state's fields to the proved
- * core, which works on them in place: no state is copied and nothing is kept between calls. Nothing is asked of a state, a table or
- * a recording: whatever they hold, an answer comes back, and a refused event leaves the state as it was lent.
+ * core, which works on them in place: no state is copied and nothing is kept between calls. Nothing is asked of a state, a table, a
+ * recording or what is to be written: whatever they hold, an answer comes back, and a refused event leaves the state as it was lent.
  *
  * What the core takes for granted, and no proof can see: each pointer points to what its type says, and no two of one call overlap.
  * So the table is not a part of the state, and `number`, the answer and the lists lie outside of it. A call writes to what it is lent
@@ -112,6 +112,17 @@ uint8_t parnusild_replay(const uint8_t *bytes, size_t size, uint32_t *numbers, s
                          uint8_t *previous, uint32_t *cells, uint8_t *writer, uint8_t *reader, uint8_t *kind,
                          uint8_t *pointer);
 
+/* A recording, written into a lent buffer of `room` bytes. `defaults`: one for each of `tasks` tasks. `links`, `links_size` numbers:
+ * writer, reader and kind of each link. `events`, `events_size` numbers: the kind of each event and what it has, so 1 and a set (bit t is
+ * task t); 2 and a task; 3 and a link; 4, a task and a value. Judged from the left as a replay would judge the bytes, and the first fault
+ * decides. Answers the refusal, 0 accepted, 1 to 16 (docs/FORMAT.md), at the `place` where a replay would find the fault: the first byte
+ * of the count or record. No number is cut to its field: a task 256 is not in the table. A link or an event whose numbers are not all
+ * there counts as one, and is 1; a kind outside 1 to 4 counts as one event, is 11, and nothing after it is looked at. Tried last: 18, the
+ * buffer is too short, and `place` is the length of the whole recording. On acceptance `place` is how many bytes were written, which a
+ * replay accepts with room for the numbers; no byte after them is touched, and on a refusal none at all. */
+uint8_t parnusild_write(const uint32_t *defaults, size_t tasks, const uint32_t *links, size_t links_size, const uint32_t *events,
+                        size_t events_size, uint8_t *bytes, size_t room, size_t *place);
+
 /* The fresh state of a table: `newest` and `previous` at 1, every position holding the task's default, every pointer absent, every
  * task idle. Answers 0, or the refusal that the table earns, 2 to 9; the state is then the fresh one of a single task with default 0
  * and no links. What the state held before doesn't matter. */
@@ -188,6 +199,19 @@ static inline uint8_t parnusild_state_replay(struct parnusild_state *PARNUSILD_R
     answer->reads = counts[2];
     answer->finishes = counts[3];
     return answer->refusal;
+}
+
+/* A recording, written into a lent buffer, as parnusild_write says. Each of the four slices may be null where its length is 0. */
+static inline uint8_t parnusild_recording_write(const uint32_t *PARNUSILD_RESTRICT defaults, size_t tasks,
+                                                const uint32_t *PARNUSILD_RESTRICT links, size_t links_size,
+                                                const uint32_t *PARNUSILD_RESTRICT events, size_t events_size,
+                                                uint8_t *PARNUSILD_RESTRICT bytes, size_t room,
+                                                size_t *PARNUSILD_RESTRICT place)
+{
+    const uint32_t no_default = 0, no_link = 0, no_event = 0;
+    uint8_t no_byte = 0;
+    return parnusild_write(tasks ? defaults : &no_default, tasks, links_size ? links : &no_link, links_size,
+                           events_size ? events : &no_event, events_size, room ? bytes : &no_byte, room, place);
 }
 
 #ifdef __cplusplus

@@ -1,5 +1,6 @@
 /* A host in C. It replays a recording and prints what was read and counted, then gives the same events one by one to a saved state
- * of its own and sees that both end in the same state; then gives some events that are refused; then tries each call at edge sizes.
+ * of its own and sees that both end in the same state; then gives some events that are refused; then tries each call at edge sizes;
+ * then writes the recording itself, replays what it wrote, and has some writing refused.
  *
  *     host FILE       the long example of docs/FORMAT.md (recordings/figure-17.rec)
  */
@@ -183,6 +184,76 @@ static void edge_sizes(size_t size)
     edge("one byte more", least, 9, NULL, 0);
 }
 
+/* the buffer that is written to, 77 in each byte before */
+static uint8_t written[160];
+
+/* whether a byte of the buffer is no longer 77, from a place on */
+static int touched(size_t from)
+{
+    for (; from < sizeof written; from++)
+        if (written[from] != 77)
+            return 1;
+    return 0;
+}
+
+/* the example's events as numbers; how many numbers those are */
+static size_t as_numbers(uint32_t *list)
+{
+    size_t i, size = 0;
+    for (i = 0; i < sizeof example / sizeof example[0]; i++) {
+        list[size++] = example[i].kind;
+        list[size++] = example[i].which;
+        if (example[i].kind == PARNUSILD_FINISH)
+            list[size++] = example[i].value;
+    }
+    return size;
+}
+
+/* the example's table with so many numbers of its links, and events, written with so much room: the refusal, the place, and whether the
+ * bytes that must be as they were are so, all of them on a refusal and else the rest; the place */
+static size_t put(const char *what, size_t links_size, const uint32_t *events, size_t events_size, size_t room)
+{
+    uint32_t links[9];
+    size_t i, place = 77;
+    unsigned refusal;
+    for (i = 0; i < table.links; i++) {
+        links[3 * i] = table.writer[i];
+        links[3 * i + 1] = table.reader[i];
+        links[3 * i + 2] = table.kind[i];
+    }
+    memset(written, 77, sizeof written);
+    refusal = parnusild_recording_write(table.defaults, table.tasks, links, links_size, events, events_size, written, room, &place);
+    printf("%s: refusal %u at %zu, %s %s\n", what, refusal, place, refusal ? "buffer" : "rest",
+           touched(refusal ? 0 : place) ? "CHANGED" : "kept");
+    return place;
+}
+
+/* the long example is written as it stands in the file, and is accepted; then what is refused */
+static void writing(size_t size)
+{
+    uint32_t events[3 * sizeof example / sizeof example[0]];
+    const size_t all = as_numbers(events);
+    size_t place = put("written", 9, events, all, sizeof written);
+    printf("bytes %s\n", place == size && !memcmp(written, bytes, size) ? "as in the file" : "DIFFER");
+    edge("replay of what was written", written, place, numbers, 9);
+    put("exact room", 9, events, all, size);
+    put("one byte short", 9, events, all, size - 1);
+    put("no room", 9, events, all, 0);
+    put("no events", 9, NULL, 0, sizeof written);
+    put("link begun", 8, events, all, sizeof written);
+    put("event begun", 9, events, all - 1, sizeof written);
+    events[2] = 256 + PARNUSILD_START;
+    put("unknown kind 258", 9, events, all, sizeof written);
+    events[2] = PARNUSILD_START;
+    events[3] = 256;
+    put("start of task 256", 9, events, all, sizeof written);
+    events[3] = 1;
+    put("start of task 1 before task 0", 9, events, all, 0);
+    place = 77;
+    printf("nothing to write: refusal %u", parnusild_recording_write(NULL, 0, NULL, 0, NULL, 0, NULL, 0, &place));
+    printf(" at %zu\n", place);
+}
+
 int main(int argc, char **argv)
 {
     struct parnusild_state whole, state;
@@ -201,5 +272,6 @@ int main(int argc, char **argv)
     refusals(&state);
     refused_tables();
     edge_sizes(size);
+    writing(size);
     return 0;
 }

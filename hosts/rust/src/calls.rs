@@ -1,6 +1,7 @@
 //! The calls of the library, on the fields of a state. A slice passes as a pointer and a length, an array as a pointer.
 //!
-//! The library asks that each points to what its type says and that no two of one call overlap: references give both.
+//! The library asks that each points to what its type says and that what it writes to overlaps nothing else of the call: references give
+//! both.
 use crate::{CELLS, LINKS, TASKS};
 
 extern "C" {
@@ -59,5 +60,17 @@ extern "C" {
         reader: &mut [u8; LINKS],
         kind: &mut [u8; LINKS],
         pointer: &mut [u8; LINKS],
+    ) -> u8;
+
+    pub fn parnusild_write(
+        defaults: *const u32,
+        tasks: usize,
+        links: *const u32,
+        links_size: usize,
+        events: *const u32,
+        events_size: usize,
+        bytes: *mut u8,
+        room: usize,
+        place: &mut usize,
     ) -> u8;
 }

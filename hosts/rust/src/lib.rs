@@ -1,8 +1,8 @@
-//! The proved mailboxes, for hosts in Rust: a saved state in the host's own memory, one event given to it, and the replay of a whole
-//! recording. Each call lends the state's fields to the proved core, which works on them in place.
+//! The proved mailboxes, for hosts in Rust: a saved state in the host's own memory, one event given to it, the replay of a whole
+//! recording, and a recording written. Each call lends the state's fields to the proved core, which works on them in place.
 //!
-//! Nothing is asked of a state, a table or a recording: whatever they hold, an answer comes back, and a refused event leaves the state
-//! as it was lent. Refusals are the numbers of docs/FORMAT.md, explained in docs/REFUSALS.md.
+//! Nothing is asked of a state, a table, a recording or what is to be written: whatever they hold, an answer comes back, and a refused
+//! event leaves the state as it was lent. Refusals are the numbers of docs/FORMAT.md, explained in docs/REFUSALS.md.
 mod calls;
 
 /// At most so many tasks.
@@ -76,6 +76,13 @@ pub struct Answer {
     /// so many first entries of the list hold the numbers read
     pub reads: usize,
     pub finishes: usize,
+}
+
+/// What became of a recording to be written: the refusal, 0 for none, and its place; on acceptance how many bytes were written.
+#[derive(Clone, Copy, Debug, PartialEq, Eq)]
+pub struct Written {
+    pub refusal: u8,
+    pub place: usize,
 }
 
 impl State {
@@ -204,4 +211,33 @@ pub fn replay(bytes: &[u8], numbers: &mut [u32]) -> Answer {
 /// The unread rest of a recording, from the place of its answer to the end: empty after acceptance.
 pub fn rest<'a>(bytes: &'a [u8], answer: &Answer) -> &'a [u8] {
     bytes.get(answer.place..).unwrap_or(&[])
+}
+
+/// Writes a recording into the buffer. `defaults` has the default of each task; `links` writer, reader and kind of each link; `events` the
+/// kind of each event and what it has: 1 and a set, 2 and a task, 3 and a link, 4, a task and a value. What is written `replay` accepts,
+/// with room for the numbers, as the same table, links and events.
+///
+/// Refusals are the reader's, at the place where it would find the fault. No number is cut to its field: a task 256 is not in the table.
+/// A link or event whose numbers are not all there counts, and is refusal 1; an unknown kind of event counts, is 11, and nothing after it
+/// is looked at. Last comes 18, a buffer too short, with the length of the whole recording as its place. A refusal touches no byte of the
+/// buffer, and an acceptance none past those written.
+pub fn write(defaults: &[u32], links: &[u32], events: &[u32], bytes: &mut [u8]) -> Written {
+    let mut place = usize::MAX;
+    // SAFETY: each slice passes with its own length, and its pointer is not null even where it is empty. The buffer is lent to this
+    // function alone, so it overlaps nothing, and the place is its own. The other three are only read, so that it does no harm where a
+    // caller's slices are parts of each other.
+    let refusal = unsafe {
+        calls::parnusild_write(
+            defaults.as_ptr(),
+            defaults.len(),
+            links.as_ptr(),
+            links.len(),
+            events.as_ptr(),
+            events.len(),
+            bytes.as_mut_ptr(),
+            bytes.len(),
+            &mut place,
+        )
+    };
+    Written { refusal, place }
 }

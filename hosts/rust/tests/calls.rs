@@ -1,5 +1,5 @@
-//! Each call of the library from Rust: the long example, edge sizes, refusals and what they leave.
-use parnusild::{replay, rest, Answer, Event, State, Table, LINKS, TASKS};
+//! Each call of the library from Rust: the long example, edge sizes, refusals and what they leave; what is written, and read again.
+use parnusild::{replay, rest, write, Answer, Event, State, Table, Written, LINKS, TASKS};
 use Event::{Arrival, Finish, Read, Start};
 
 /// A table from its defaults and its links: writer, reader, kind.
@@ -329,4 +329,131 @@ fn a_fresh_state() {
         (vec![1, 1, 1, 0], vec![0, 2, 3, 0], vec![1, 0, 0, 0])
     );
     assert_eq!(s.pointer, [0; LINKS]);
+}
+
+/// A table's defaults and links as they are handed over, and events.
+fn numbers(t: &Table, events: &[Event]) -> (Vec<u32>, Vec<u32>, Vec<u32>) {
+    let links = (0..t.links).flat_map(|l| [t.writer[l], t.reader[l], t.kind[l]].map(u32::from));
+    let events = events.iter().flat_map(|e| match *e {
+        Arrival(set) => vec![1, set],
+        Start(task) => vec![2, task],
+        Read(link) => vec![3, link],
+        Finish(task, value) => vec![4, task, value],
+    });
+    (t.defaults[..t.tasks].to_vec(), links.collect(), events.collect())
+}
+
+/// The refusal and the place with so much room; a refusal must leave the buffer as it was, an acceptance what is past the place.
+fn written(defaults: &[u32], links: &[u32], events: &[u32], room: usize) -> (u8, usize, Vec<u8>) {
+    let mut bytes = vec![77; room];
+    let Written { refusal, place } = write(defaults, links, events, &mut bytes);
+    let kept = if refusal == 0 { place } else { 0 };
+    assert!(bytes[kept..].iter().all(|&b| b == 77), "refusal {} at {}: {:?}", refusal, place, bytes);
+    bytes.truncate(kept);
+    (refusal, place, bytes)
+}
+
+#[test]
+fn the_long_example_is_written_and_replayed() {
+    let (defaults, links, events) = numbers(&example_table(), &EVENTS);
+    for room in [148, 149, 1000] {
+        assert_eq!(written(&defaults, &links, &events, room), (0, 148, example()));
+    }
+    for room in [147, 29, 1, 0] {
+        assert_eq!(written(&defaults, &links, &events, room), (18, 148, vec![]));
+    }
+    let (_, place, bytes) = written(&defaults, &links, &events, 148);
+    let mut list = [77; 8];
+    let a = replay(&bytes, &mut list);
+    assert_eq!((a.refusal, a.place, list), (0, place, NUMBERS));
+    assert_eq!(a.state, replay(&example(), &mut [0; 8]).state);
+}
+
+/// Every number of the example in turn, replaced by those that a field can't hold: never cut, and refused unless it is a value.
+#[test]
+fn numbers_that_no_field_holds() {
+    let (defaults, links, events) = numbers(&example_table(), &EVENTS);
+    for wide in [256, 257, 1 << 16, 1 << 20, u32::MAX] {
+        for at in 0..links.len() {
+            let mut links = links.clone();
+            links[at] = wide;
+            let refusal = if at % 3 == 2 { 6 } else { 4 };
+            assert_eq!(written(&defaults, &links, &events, 148), (refusal, 18 + at / 3 * 3, vec![]));
+        }
+        let mut at = 0;
+        for (i, e) in EVENTS.iter().enumerate() {
+            let size = numbers(&example_table(), &[*e]).2.len();
+            for (field, refusal) in [11, 12].into_iter().enumerate() {
+                let mut events = events.clone();
+                events[at + field] = wide;
+                assert_eq!(written(&defaults, &links, &events, 148), (refusal, place_of(i), vec![]));
+            }
+            if size == 3 {
+                let mut events = events.clone();
+                events[at + 2] = wide;
+                assert_eq!(written(&defaults, &links, &events, 148).0, 0);
+            }
+            at += size;
+        }
+        assert_eq!(written(&[wide], &[], &[], 8).0, 0);
+    }
+}
+
+/// Each slice of the example cut at every number.
+#[test]
+fn slices_that_end_too_early() {
+    let (defaults, links, events) = numbers(&example_table(), &EVENTS);
+    for cut in 0..links.len() {
+        let begun = (1, 18 + cut / 3 * 3, vec![]);
+        let without_events = written(&defaults, &links[..cut], &[], 148);
+        match cut % 3 {
+            0 => assert_eq!((without_events.0, without_events.1), (0, 20 + cut)),
+            _ => assert_eq!(without_events, begun),
+        }
+    }
+    let mut ends = vec![0];
+    for e in EVENTS {
+        ends.push(ends[ends.len() - 1] + numbers(&example_table(), &[e]).2.len());
+    }
+    for cut in 0..events.len() {
+        let whole = ends.iter().rposition(|&end| end <= cut).unwrap();
+        let w = written(&defaults, &links, &events[..cut], 148);
+        if ends[whole] == cut {
+            assert_eq!(w, (0, place_of(whole), record(&example_table(), &EVENTS[..whole])));
+        } else {
+            assert_eq!(w, (1, place_of(whole), vec![]));
+        }
+    }
+}
+
+#[test]
+fn writing_is_refused_as_reading_is() {
+    let refused = |defaults: &[u32], links: &[u32], events: &[u32]| {
+        let (refusal, place, _) = written(defaults, links, events, 60_164);
+        (refusal, place)
+    };
+    assert_eq!(refused(&[], &[], &[]), (2, 0));
+    assert_eq!(refused(&[0; 17], &[], &[]), (2, 0));
+    assert_eq!(refused(&[0; 16], &[0; 97], &[]), (3, 65));
+    let second = |link: [u32; 3]| refused(&[9, 8], &[&[0, 1, 0], &link[..]].concat(), &[]);
+    assert_eq!(second([0, 2, 0]), (4, 13));
+    assert_eq!(second([1, 1, 0]), (5, 13));
+    assert_eq!(second([1, 0, 2]), (6, 13));
+    assert_eq!(second([1, 0, 0]), (7, 13));
+    assert_eq!(second([0, 1, 1]), (8, 13));
+    let nine: Vec<u32> = (1..=9).flat_map(|r| [0, r, 0]).collect();
+    assert_eq!(refused(&[0; 16], &nine, &[]), (9, 66 + 24));
+    let event = |events: &[u32]| refused(&[9, 8], &[0, 1, 0], events);
+    assert_eq!(event(&[1, 1].repeat(10_001)), (10, 13));
+    assert_eq!(event(&[&[0][..], &[1, 1].repeat(10_001)].concat()), (11, 15));
+    assert_eq!(event(&[1, 0]), (12, 15));
+    assert_eq!(event(&[1, 1, 1, 1]), (13, 18));
+    assert_eq!(event(&[2, 0]), (14, 15));
+    assert_eq!(event(&[3, 0]), (15, 15));
+    assert_eq!(event(&[1, 3, 2, 1]), (16, 18));
+    assert_eq!(event(&[1, 3, 2, 0]), (0, 20));
+    // the buffer is tried last, and empty slices are slices
+    assert_eq!(written(&[9, 8], &[0, 1, 2], &[0], 0), (6, 10, vec![]));
+    assert_eq!(written(&[9, 8], &[], &[], 0), (18, 12, vec![]));
+    assert_eq!(written(&[0], &[], &[], 8), (0, 8, vec![1, 0, 0, 0, 0, 0, 0, 0]));
 }
