@@ -1,11 +1,12 @@
 //! The proved library as the subject of the judge: every answer is compared
-//! with the oracle's, which was written from document 01 alone.
+//! with the oracle's, which was written from documents 01 and 02 alone.
 
 use oracle::command;
 use oracle::format::{Counts, Event};
 use oracle::state::State;
 use oracle::subject::{Answer, Made, OneAnswer, Subject};
 use oracle::tables::LentTable;
+use oracle::writing::{Handover, Written};
 
 struct Proved;
 
@@ -97,6 +98,11 @@ impl Subject for Proved {
         let mut after = lent(state);
         let (refusal, value) = after.call(kind, which, value);
         OneAnswer { refusal, value, state: handed_back(&after) }
+    }
+
+    fn write(&self, handover: &Handover, buffer: &mut [u8]) -> Written {
+        let written = parnusild::write(&handover.defaults, &handover.links, &handover.events, buffer);
+        Written { refusal: written.refusal, place: written.place }
     }
 }
 

@@ -1,5 +1,6 @@
 //! Every sequence of events up to a depth over small tables: `Pointers`
-//! against `ZeroTime`, and the subject against both.
+//! against `ZeroTime`, and the subject against both; and a sequence to each
+//! state, with one more event, written by the subject.
 //!
 //! Finish values are all different, and neither engine looks at a value, so
 //! two histories whose states differ only by a renaming of values have the
@@ -9,16 +10,19 @@
 use std::collections::HashSet;
 
 use crate::engine::{Engine, FreshEngine, IDLE};
-use crate::format::{Event, Link, Table, DELAYED, DIRECT};
+use crate::format::{encode, Event, Link, Recording, Table, DELAYED, DIRECT};
 use crate::laws::sound_by_sentence;
 use crate::pointers::Pointers;
 use crate::subject::{OneAnswer, Subject};
+use crate::writing::{Handover, Written};
 use crate::zero_time::ZeroTime;
 
 #[derive(Clone, Copy, Default, Debug)]
 pub struct Visited {
     pub states: usize,
     pub transitions: usize,
+    /// Sequences given to the writer.
+    pub written: usize,
     pub depth: usize,
     /// No new state was left: every longer sequence is covered as well.
     pub closed: bool,
@@ -29,6 +33,7 @@ impl Visited {
     pub fn add(&mut self, other: Visited) {
         self.states += other.states;
         self.transitions += other.transitions;
+        self.written += other.written;
         self.depth = self.depth.max(other.depth);
         self.closed &= other.closed;
     }
@@ -164,13 +169,14 @@ struct Search<'a> {
     nodes: Vec<Node>,
     seen: HashSet<Box<[u8]>>,
     transitions: usize,
+    written: usize,
 }
 
 impl<'a> Search<'a> {
     fn new(subject: &'a dyn Subject, table: &'a Table) -> Search<'a> {
         let nodes = vec![Node { before: u32::MAX, event: 0 }];
         let seen = HashSet::from([Pair::fresh(table).key(table)]);
-        Search { subject, table, events: alphabet(table), nodes, seen, transitions: 0 }
+        Search { subject, table, events: alphabet(table), nodes, seen, transitions: 0, written: 0 }
     }
 
     /// Gives every event to the state of a node; a state not seen before
@@ -185,6 +191,27 @@ impl<'a> Search<'a> {
             if next.map_or(false, |next| self.seen.insert(next.key(self.table))) {
                 self.nodes.push(Node { before: number as u32, event: code as u8 });
             }
+        }
+        self.written += 1;
+        self.write(number, self.events[number % self.events.len()], &pair)
+    }
+
+    /// The events that lead to a node and one more, written: refused if that
+    /// one is, at its place.
+    fn write(&self, number: usize, more: Event, pair: &Pair) -> Result<(), String> {
+        let mut recording = Recording { table: self.table.clone(), events: self.path(number) };
+        let place = encode(&recording).len();
+        recording.events.push(more);
+        let bytes = encode(&recording);
+        let handover = Handover::of(&recording);
+        let mut buffer = vec![0xA5; bytes.len()];
+        let written = self.subject.write(&handover, &mut buffer);
+        let (wanted, left) = match pair.pointers.judge(more) {
+            0 => (Written { refusal: 0, place: bytes.len() }, bytes),
+            refusal => (Written { refusal, place }, vec![0xA5; bytes.len()]),
+        };
+        if (written, &buffer) != (wanted, &left) {
+            return Err(format!("{:?} is written as {:?}, buffer {:?}", handover, written, buffer));
         }
         Ok(())
     }
@@ -222,8 +249,8 @@ pub fn explore(subject: &dyn Subject, table: &Table, most: usize) -> Result<Visi
         level = level.end..search.nodes.len();
         depth += 1;
     }
-    let Search { nodes, transitions, .. } = search;
-    Ok(Visited { states: nodes.len(), transitions, depth, closed: level.is_empty() })
+    let Search { nodes, transitions, written, .. } = search;
+    Ok(Visited { states: nodes.len(), transitions, written, depth, closed: level.is_empty() })
 }
 
 /// Every table of three tasks with the given number of links, apart from the

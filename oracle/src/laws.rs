@@ -1,11 +1,14 @@
 //! The document's rules once more, as properties of an answer. They share no
 //! step with the engines, so an engine's slip does not repeat itself here.
 
+mod writing;
+
 use crate::engine::{IDLE, RUNNING, WAITING};
 use crate::format::{encode, Counts, Event, Recording};
 use crate::state::State;
 use crate::subject::{Answer, Made, OneAnswer, Subject};
 use crate::tables::LentTable;
+pub use writing::{read_back_law_broken, write_law_broken};
 
 /// Soundness as the document's sentence reads, over all links and pairs.
 pub fn sound_by_sentence(state: &State) -> bool {

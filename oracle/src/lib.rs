@@ -1,11 +1,13 @@
 //! A second judge of the mailbox core and the recording reader, written from
-//! document 01 (the scope) alone; and in `settings` one of the settings
-//! migrator, from document 02 (the change requests).
+//! document 01 (the scope) alone; in `writing` one of the recording writer, and
+//! in `settings` one of the settings migrator, both from document 02 (the
+//! change requests).
 //!
-//! `format` reads recordings, `pointers` and `zero_time` are two engines that
-//! know nothing of each other, `subject` is what gets judged, `laws` says the
-//! same rules once more as properties, `wrong` holds the errors that look
-//! right, `corpus`, `tables`, `saved` and `exhaustive` make the inputs (out of
+//! `format` reads recordings, `writing` writes them from numbers that are
+//! handed over, `pointers` and `zero_time` are two engines that know nothing of
+//! each other, `subject` is what gets judged, `laws` says the same rules once
+//! more as properties, `wrong` holds the errors that look right, `corpus`,
+//! `handovers`, `tables`, `saved` and `exhaustive` make the inputs (out of
 //! `random_table`, `schedule`, `nasty` and `example`), `run` compares all the
 //! answers, `reach` says how deep it went, and `command` reads its options.
 
@@ -17,6 +19,7 @@ pub mod engine;
 pub mod example;
 mod exhaustive;
 pub mod format;
+pub mod handovers;
 mod laws;
 mod nasty;
 pub mod pointers;
@@ -30,5 +33,6 @@ pub mod settings;
 pub mod state;
 pub mod subject;
 pub mod tables;
-mod wrong;
+pub mod writing;
+pub mod wrong;
 mod zero_time;

@@ -53,6 +53,11 @@ pub struct Reached {
     pub recordings: Reach,
     pub events: Reach,
     pub tables: Refusals,
+    pub writing: Refusals,
+    /// Accepted recordings that were written again.
+    pub written_again: usize,
+    /// Refused ones whose numbers were refused alike.
+    pub refused_alike: usize,
     /// Of every sequence of events.
     pub states: usize,
 }
@@ -64,6 +69,8 @@ impl Reached {
         print_refusals("refusals of one event: ", &self.events.refusals);
         println!("{}", self.events.depth());
         print_refusals("refusals of tables:    ", &self.tables[..10]);
+        print_refusals("refusals of writing:   ", &self.writing[..19]);
+        println!("  recordings written again {}, refused alike {}", self.written_again, self.refused_alike);
     }
 
     /// What the default run must reach and this one did not.
@@ -72,6 +79,10 @@ impl Reached {
         never_given(&mut missing, "in recordings", &self.recordings.refusals, (0..=18).collect());
         never_given(&mut missing, "of one event", &self.events.refusals, vec![0, 12, 13, 14, 15, 16, 19]);
         never_given(&mut missing, "of tables", &self.tables, vec![0, 2, 3, 4, 5, 6, 7, 8, 9]);
+        // Extra bytes (17) can't be handed over.
+        never_given(&mut missing, "of writing", &self.writing, (0..=16).chain([18]).collect());
+        at_least(&mut missing, "recordings written again", self.written_again, 100_000);
+        at_least(&mut missing, "recordings refused alike in writing", self.refused_alike, 100_000);
         for (reach, place) in [(&self.recordings, "recordings"), (&self.events, "saved states")] {
             at_least(&mut missing, &format!("tasks running at once in {}", place), reach.most_running, MOST_TASKS);
             let highest = usize::from(reach.highest_position);

@@ -2,6 +2,7 @@
 //! against each other, and the wrong subjects against all of it.
 
 mod exposure;
+mod handovers;
 mod options;
 mod recordings;
 mod report;
@@ -12,7 +13,7 @@ mod tables;
 use crate::corpus::CORPORA;
 use crate::reach::Reached;
 use crate::subject::Subject;
-use crate::wrong::{in_saved_states, in_tables, Wrong, IN_RECORDINGS};
+use crate::wrong::{in_handovers, in_saved_states, in_tables, Wrong, IN_RECORDINGS};
 use exposure::{subjects, Exposure};
 use options::quota;
 pub use options::{stream, Options};
@@ -22,11 +23,13 @@ struct Run<'a> {
     recordings: usize,
     saved_states: usize,
     tables: usize,
+    handovers: usize,
     differences: usize,
     first_difference: Option<String>,
     wrong_replays: Vec<(Wrong, Exposure)>,
     wrong_events: Vec<(Wrong, Exposure)>,
     wrong_tables: Vec<(Wrong, Exposure)>,
+    wrong_writers: Vec<(Wrong, Exposure)>,
     reached: Reached,
 }
 
@@ -37,11 +40,13 @@ impl<'a> Run<'a> {
             recordings: 0,
             saved_states: 0,
             tables: 0,
+            handovers: 0,
             differences: 0,
             first_difference: None,
             wrong_replays: subjects(&IN_RECORDINGS),
             wrong_events: subjects(&in_saved_states()),
             wrong_tables: subjects(&in_tables()),
+            wrong_writers: subjects(&in_handovers()),
             reached: Reached::default(),
         }
     }
@@ -68,6 +73,9 @@ pub fn run(subject: &dyn Subject, options: &Options) -> bool {
     println!("{:<16} {:>8} events on saved states", "SoundStates", sound);
     let spoiled = run.spoiled_states(options.count / 2, &mut stream(options.seed, 101));
     println!("{:<16} {:>8} events on saved states", "SpoiledStates", spoiled);
+    let handovers = run.random_handovers(options.count / 4, &mut stream(options.seed, 103));
+    println!("{:<16} {:>8} handovers", "Handovers", handovers);
+    println!("{:<16} {:>8} handovers", "ShortHandovers", run.short_handovers());
     if options.exhaustive > 0 {
         run.exhaustive(options.exhaustive, options.long);
     }

@@ -1,5 +1,5 @@
 //! What gets judged: whole replays, the fresh state of a table, one event on
-//! a saved state. The oracle and the wrong subjects stand behind this trait;
+//! a saved state, recordings written. The oracle and the wrong subjects stand behind this trait;
 //! the crate `judge` links the proved library behind it.
 
 use crate::engine::{Engine, FreshEngine};
@@ -7,6 +7,7 @@ use crate::format::{replay, Counts, Event, Reading};
 use crate::pointers::{judge, Pointers};
 use crate::state::{sound, State};
 use crate::tables::LentTable;
+use crate::writing::{write, Handover, Written};
 use crate::zero_time::ZeroTime;
 
 /// The answer to a whole recording. The list is the lent one afterwards, its
@@ -48,6 +49,9 @@ pub trait Subject {
 
     /// One event given to a state that may hold any bytes.
     fn one_event(&self, state: &State, event: Event) -> OneAnswer;
+
+    /// Writes what is handed over into a buffer lent as it stands.
+    fn write(&self, handover: &Handover, buffer: &mut [u8]) -> Written;
 }
 
 /// The oracle itself: the reader of recordings on the `Pointers` engine.
@@ -75,6 +79,10 @@ impl Subject for Oracle {
             let value = engine.apply(event);
             (engine.state, value)
         })
+    }
+
+    fn write(&self, handover: &Handover, buffer: &mut [u8]) -> Written {
+        write(&handover.defaults, &handover.links, &handover.events, buffer)
     }
 }
 

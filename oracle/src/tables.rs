@@ -5,6 +5,7 @@ use crate::format::{link_faults, link_refusal, Link, Table, MOST_LINKS, MOST_TAS
 use crate::nasty::competing_table;
 use crate::prng::Prng;
 use crate::random_table::{random_table, Size};
+use crate::writing::Handover;
 
 /// A table that is lent: any two counts, and arrays that may hold anything.
 /// Slots past the counts are not looked at.
@@ -70,6 +71,18 @@ impl LentTable {
         let table = self.as_it_stands();
         let fault = link_faults(self.tasks, &table.links, link_refusal).next();
         fault.map_or(Ok(table), Err)
+    }
+
+    /// What a station would hand over that has this table and no events, with
+    /// marks where there is no slot; none for counts that no slice has.
+    pub fn handed_over(&self) -> Option<Handover> {
+        if self.tasks > 1_000 || self.links > 1_000 {
+            return None;
+        }
+        let defaults = (0..self.tasks).map(|task| self.defaults.get(task).copied().unwrap_or(0xA5A5_A5A5)).collect();
+        let mark = |slots: &[u8; MOST_LINKS], number: usize| u32::from(slots.get(number).copied().unwrap_or(0xA5));
+        let link = |number: usize| [&self.writer, &self.reader, &self.kind].map(|slots| mark(slots, number));
+        Some(Handover { defaults, links: (0..self.links).flat_map(link).collect(), events: Vec::new() })
     }
 
     /// The table of counts within the limits, whatever its links say.

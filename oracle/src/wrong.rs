@@ -4,16 +4,19 @@ mod engine;
 mod flaws;
 mod reader;
 mod tables;
+mod writer;
 
 use crate::engine::Engine;
 use crate::format::{replay, Event, Table};
 use crate::state::{broken_clauses, State};
 use crate::subject::{answer_of, one_event_with, Answer, Made, OneAnswer, Oracle, Subject};
 use crate::tables::LentTable;
+use crate::writing::{Handover, Written};
 use engine::WrongEngine;
-pub use flaws::{in_saved_states, in_tables, Flaw, IN_RECORDINGS};
+pub use flaws::{in_handovers, in_saved_states, in_tables, Flaw, IN_RECORDINGS};
 use reader::distorted;
 use tables::distorted_table;
+use writer::wrong_write;
 
 pub struct Wrong {
     pub flaw: Flaw,
@@ -53,5 +56,9 @@ impl Subject for Wrong {
                 },
             ),
         }
+    }
+
+    fn write(&self, handover: &Handover, buffer: &mut [u8]) -> Written {
+        wrong_write(self.flaw, handover, buffer)
     }
 }

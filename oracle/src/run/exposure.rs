@@ -7,7 +7,8 @@ use crate::wrong::{Flaw, Wrong};
 #[derive(Clone, Copy, Default)]
 pub struct Exposure {
     pub whole: usize,
-    /// By numbers, refusal, place, counts or rest, without looking at the state.
+    /// By numbers, refusal, place, counts or rest, without looking at the state
+    /// or the buffer.
     pub without_state: usize,
 }
 

@@ -26,6 +26,7 @@ impl Run<'_> {
             self.differ(law, || both_answers(bytes, case.room, &answer, "law", law));
         }
         self.compare_origin(case, &lent, &answer);
+        self.take_split(bytes, &answer);
         self.expose_replay(bytes, &lent, &answer);
         self.reached.recordings.note(bytes, &answer);
     }
@@ -92,7 +93,7 @@ fn lent_list(room: usize) -> Vec<u32> {
     (0..room as u32).map(|entry| 0xA5A5_A5A5 ^ entry.wrapping_mul(0x9E37_79B1)).collect()
 }
 
-fn hex(bytes: &[u8]) -> String {
+pub fn hex(bytes: &[u8]) -> String {
     bytes.iter().map(|byte| format!("{:02x}", byte)).collect()
 }
 

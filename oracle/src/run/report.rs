@@ -11,7 +11,9 @@ impl Run<'_> {
         let events = print_exposed(&self.wrong_events);
         println!("wrong subjects, tables that exposed each (by refusal alone):");
         let tables = print_exposed(&self.wrong_tables);
-        replays && events && tables
+        println!("wrong subjects, handovers that exposed each (by refusal or place alone):");
+        let writers = print_exposed(&self.wrong_writers);
+        replays && events && tables && writers
     }
 
     /// The end of the run: true when nothing differed, all were exposed, and
@@ -29,7 +31,10 @@ impl Run<'_> {
         if !exposed {
             println!("a wrong subject was not exposed");
         }
-        println!("{} recordings, {} tables, {} saved states", self.recordings, self.tables, self.saved_states);
+        println!(
+            "{} recordings, {} tables, {} saved states, {} handovers",
+            self.recordings, self.tables, self.saved_states, self.handovers
+        );
         println!("{} differences", self.differences);
         exposed && missing.is_empty() && self.differences == 0
     }

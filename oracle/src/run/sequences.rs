@@ -19,11 +19,12 @@ impl Run<'_> {
         }
         self.reached.states = total.states;
         println!(
-            "exhaustive: {} tables, depth {}, {} states, {} transitions{}",
+            "exhaustive: {} tables, depth {}, {} states, {} transitions, {} sequences written{}",
             tables.len(),
             total.depth,
             total.states,
             total.transitions,
+            total.written,
             if total.closed { ", no state left: all depths" } else { "" }
         );
     }

@@ -25,6 +25,7 @@ impl Run<'_> {
             exposure.without_state += (given.refusal != answer.refusal) as usize;
         }
         self.reached.tables[usize::from(answer.refusal)] += 1;
+        self.take_table_handover(table, answer.refusal);
     }
 
     pub fn tables(&mut self, quota: usize, prng: &mut Prng) -> usize {

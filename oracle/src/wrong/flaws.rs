@@ -42,6 +42,59 @@ pub enum Flaw {
     // In the judgement of a saved state, and of a table.
     Unsound(Clause),
     TwelveBeforeNineteen,
+    // In the writer of recordings: its counts and limits,
+    NoTaskWritten,
+    SeventeenTasks,
+    ThirtyThreeLinks,
+    OneEventMore,
+    OneEventLess,
+    UnfinishedLinkNotCounted,
+    UnfinishedLinkDropped,
+    UnfinishedEventNotCounted,
+    UnfinishedEventDropped,
+    UnknownEventNotCounted,
+    UnknownEventDropped,
+    CountedPastUnknown,
+    // the order of what it tries,
+    EventCountBeforeLinks,
+    RoomFirst,
+    RoomBeforeEvents,
+    // the places,
+    PlaceWithoutEventCount,
+    PlaceOfNumber,
+    PlaceOfRoom,
+    PlaceOfMissing,
+    WrittenIsRoom,
+    // numbers that a field can't hold, or that are no kind,
+    WriterCut,
+    ReaderCut,
+    LinkKindCut,
+    EventKindCut,
+    SetCut,
+    SetOfSixteenCut,
+    TaskCut,
+    LinkCut,
+    KindZeroAsOne,
+    AnyKindDelayed,
+    // the rules of links and events,
+    Untried(u8),
+    // the bytes,
+    LinkFieldsSwapped,
+    FinishFieldsSwapped,
+    DefaultHighByteFirst,
+    ValueHighByteFirst,
+    SetHighByteFirst,
+    EventCountHighByteFirst,
+    LinkCountOneLess,
+    EventCountOneLess,
+    KindFromZero,
+    // and the buffer.
+    BytePastEnd,
+    BufferCleared,
+    ShortBufferFilled,
+    TouchedOnRefusal,
+    ExactRoomRefused,
+    OneShortWritten,
 }
 
 /// The errors the corpus of whole recordings must expose.
@@ -96,5 +149,27 @@ pub fn in_saved_states() -> Vec<Flaw> {
     flaws.extend([Flaw::AllFreedAtFinish, Flaw::AheadProtectedToo, Flaw::OnlyRunningBlock, Flaw::SixteenFirst]);
     flaws.push(Flaw::TwelveBeforeNineteen);
     flaws.extend(CLAUSES.iter().map(|clause| Flaw::Unsound(*clause)));
+    flaws
+}
+
+/// The errors the handovers must expose.
+#[rustfmt::skip]
+pub fn in_handovers() -> Vec<Flaw> {
+    use Flaw::*;
+    let mut flaws = vec![
+        NoTaskWritten, SeventeenTasks, ThirtyThreeLinks, OneEventMore, OneEventLess, CountsCutToBytes,
+        UnfinishedLinkNotCounted, UnfinishedLinkDropped, UnfinishedEventNotCounted, UnfinishedEventDropped,
+        UnknownEventNotCounted, UnknownEventDropped, CountedPastUnknown,
+        EventCountBeforeLinks, RoomFirst, RoomBeforeEvents, RestBeforeKind, LinkFaultsFalling, ThirteenBeforeTwelve,
+        SixteenFirst,
+        PlaceInsideLink, PlaceInsideEvent, PlaceInsideCount, PlaceWithoutEventCount, PlaceOfNumber, PlaceOfRoom,
+        PlaceOfMissing, WrittenIsRoom,
+        WriterCut, ReaderCut, LinkKindCut, EventKindCut, SetCut, SetOfSixteenCut, TaskCut, LinkCut, KindZeroAsOne,
+        AnyKindDelayed,
+        LinkFieldsSwapped, FinishFieldsSwapped, DefaultHighByteFirst, ValueHighByteFirst, SetHighByteFirst,
+        EventCountHighByteFirst, LinkCountOneLess, EventCountOneLess, KindFromZero,
+        BytePastEnd, BufferCleared, ShortBufferFilled, TouchedOnRefusal, ExactRoomRefused, OneShortWritten,
+    ];
+    flaws.extend((4..=9).chain(12..=16).map(Untried));
     flaws
 }

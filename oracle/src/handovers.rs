@@ -1,0 +1,95 @@
+//! What a station hands over to be written, and the handovers that get tried:
+//! lawful ones, every single change and cut, faults that compete, counts at
+//! their limits, and every short one.
+
+mod changed;
+mod competing;
+mod limits;
+mod short;
+mod split;
+
+use crate::format::{Event, Recording, Table};
+use crate::prng::Prng;
+use crate::random_table::Size;
+use crate::schedule::random_recording;
+use crate::writing::{begun_events, Handover};
+use changed::{every_cut, every_number, every_room, small_or_example};
+use competing::{competing_events, competing_links, soup};
+pub use limits::limits;
+pub use short::every_short;
+pub use split::{arises_in_writing, split};
+
+/// A handover and the room of the buffer lent with it.
+#[derive(Clone, PartialEq, Eq, Debug)]
+pub struct Lent {
+    pub handover: Handover,
+    pub room: usize,
+}
+
+impl Handover {
+    pub fn of(recording: &Recording) -> Handover {
+        let Recording { table: Table { defaults, links }, events } = recording;
+        let links = links.iter().flat_map(|link| [link.writer, link.reader, link.kind].map(u32::from)).collect();
+        Handover {
+            defaults: defaults.clone(),
+            links,
+            events: events.iter().flat_map(|event| numbers(*event)).collect(),
+        }
+    }
+
+    /// How many bytes the whole has, if it can be written; roughly so else.
+    pub fn length(&self) -> usize {
+        let events = begun_events(&self.events).into_iter().map(|record| match record[0] {
+            1 => 3,
+            4 => 6,
+            _ => 2,
+        });
+        1 + 4 * self.defaults.len() + 1 + self.links.len() + 2 + events.sum::<usize>()
+    }
+
+    /// With as much room as the whole needs, and `more`, which may be less.
+    fn lent(self, more: isize) -> Lent {
+        let room = (self.length() as isize + more).max(0) as usize;
+        Lent { handover: self, room }
+    }
+}
+
+/// An event as numbers: its kind, then what the kind has.
+pub fn numbers(event: Event) -> Vec<u32> {
+    match event {
+        Event::Arrival(set) => vec![1, u32::from(set)],
+        Event::Start(task) => vec![2, u32::from(task)],
+        Event::Read(link) => vec![3, u32::from(link)],
+        Event::Finish(task, value) => vec![4, u32::from(task), value],
+    }
+}
+
+/// The next handovers: one, or a whole family from one. `number` counts the
+/// batches.
+pub fn batch(number: usize, prng: &mut Prng) -> Vec<Lent> {
+    match number % 400 {
+        200 => every_cut(&small_or_example(prng, number / 400)),
+        201 => every_number(&small_or_example(prng, number / 400)),
+        202 => every_room(&small_or_example(prng, number / 400)),
+        n => vec![match n % 4 {
+            0 => lawful(prng),
+            1 => competing_links(prng),
+            2 => competing_events(prng),
+            _ => soup(prng),
+        }],
+    }
+}
+
+fn lawful(prng: &mut Prng) -> Lent {
+    let size = prng.pick(&[Size::Small, Size::Any, Size::Limit]);
+    let (recording, _) = random_recording(prng, size, 60);
+    some_room(prng, Handover::of(&recording))
+}
+
+/// Exact, more than enough, one byte short, none, or anything less.
+fn some_room(prng: &mut Prng, handover: Handover) -> Lent {
+    let length = handover.length();
+    let less = prng.below(length);
+    let room = prng.pick(&[length, length, length, length + 1, length + 9, length + 300, length - 1, 0, less]);
+    Lent { handover, room }
+}

@@ -1,0 +1,64 @@
+//! Handovers in which several rules are broken at once, so that the order of
+//! the refusals shows.
+
+use super::{numbers, some_room, Lent};
+use crate::format::Recording;
+use crate::nasty::{competing_table, nasty_event};
+use crate::prng::Prng;
+use crate::random_table::Size;
+use crate::schedule::random_recording;
+use crate::writing::Handover;
+
+/// Links that break several rules, then perhaps a cut inside the last link, a
+/// number too large for a byte, events, and a buffer too short.
+pub fn competing_links(prng: &mut Prng) -> Lent {
+    let mut handover = Handover::of(&Recording { table: competing_table(prng), events: Vec::new() });
+    let length = handover.links.len();
+    if prng.chance(15) {
+        handover.links.truncate(length - prng.between(1, 2));
+    } else if prng.chance(30) {
+        let place = length - prng.between(1, 3);
+        handover.links[place] = widened(prng, handover.links[place]);
+    }
+    if prng.chance(20) {
+        handover.events = vec![prng.pick(&[0, 1, 2, 3, 4, 5])];
+    }
+    some_room(prng, handover)
+}
+
+/// A possible history, then an event that breaks several rules, of an unknown
+/// kind, with a number too large for its field or without all its numbers;
+/// then perhaps more, and a buffer too short.
+pub fn competing_events(prng: &mut Prng) -> Lent {
+    let size = prng.pick(&[Size::Small, Size::Any]);
+    let (recording, schedule) = random_recording(prng, size, 30);
+    let mut handover = Handover::of(&recording);
+    let mut last = numbers(nasty_event(prng, &recording.table, &schedule));
+    match prng.below(8) {
+        0 => last[0] = prng.pick(&[0, 5, 6, 255, 256, 257, 258, 259, 260, u32::MAX]),
+        1 => last.truncate(prng.between(1, last.len() - 1)),
+        2 | 3 => last[1] = widened(prng, last[1]),
+        _ => {}
+    }
+    if prng.chance(20) {
+        last.push(prng.below(6) as u32);
+    }
+    handover.events.extend(last);
+    some_room(prng, handover)
+}
+
+/// A number that would be the old one again, cut to a byte or to two.
+fn widened(prng: &mut Prng, number: u32) -> u32 {
+    number.wrapping_add(prng.pick(&[256, 1 << 16, 1 << 20, 1 << 24, 1 << 31, 257, u32::MAX]))
+}
+
+/// Numbers that were never a table, links or events, small ones in the main.
+pub fn soup(prng: &mut Prng) -> Lent {
+    let small = prng.chance(80);
+    let mut slice = |most: usize| -> Vec<u32> {
+        let length = prng.below(most + 1);
+        (0..length).map(|_| if small { prng.below(5) as u32 } else { prng.word() >> prng.below(32) }).collect()
+    };
+    let handover = Handover { defaults: slice(5), links: slice(8), events: slice(20) };
+    some_room(prng, handover)
+}

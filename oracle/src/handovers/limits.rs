@@ -1,0 +1,122 @@
+//! Counts at their limits, and those that a byte or two can't hold; sets,
+//! tasks and links at the end of a table, and past it.
+
+use super::Lent;
+use crate::format::{MOST_BEHIND, MOST_EVENTS, MOST_LINKS, MOST_TASKS};
+use crate::writing::Handover;
+
+pub fn limits() -> Vec<Lent> {
+    let mut handovers = task_counts();
+    handovers.extend(link_counts());
+    handovers.extend(event_counts());
+    handovers.extend((1..=MOST_TASKS as u32).flat_map(named_tasks));
+    handovers.extend([1, 8, 9, 31, 32].into_iter().flat_map(named_links));
+    let lent = handovers.iter().flat_map(|handover| [0, 1, -1].map(|more| handover.clone().lent(more)));
+    let large = large_event_counts().into_iter().map(|handover| handover.lent(0));
+    lent.chain(large).collect()
+}
+
+/// Counts of tasks by themselves, with a link, and with faults after them.
+fn task_counts() -> Vec<Handover> {
+    let counts = (0..=MOST_TASKS + 2).chain([255, 256, 257, 272, 273, 65_536, 65_537]);
+    let with = |tasks: usize, links: Vec<u32>, events: Vec<u32>| Handover { defaults: vec![9; tasks], links, events };
+    let each = counts.flat_map(|tasks| {
+        [
+            with(tasks, Vec::new(), Vec::new()),
+            with(tasks, vec![0, 1, 0], vec![1, 1]),
+            with(tasks, vec![0, 1, 1, 0, 1, 1], vec![0]),
+            with(tasks, vec![0; 3 * (MOST_LINKS + 1)], Vec::new()),
+        ]
+    });
+    each.collect()
+}
+
+/// Counts of links with the last one whole or begun; those past the limit are
+/// at fault as well.
+fn link_counts() -> Vec<Handover> {
+    let counts = [0, 1, 31, 32, 33, 34, 255, 256, 257, 288, 289, 65_536];
+    let slices = counts.iter().flat_map(|&count| {
+        let numbers: Vec<u32> = (0..count).flat_map(link).collect();
+        (0..3).map(move |more| [&numbers[..], &vec![0; more]].concat())
+    });
+    slices.map(|links| Handover { defaults: vec![5; MOST_TASKS], links, events: Vec::new() }).collect()
+}
+
+/// Four writers with eight readers behind each; then their first ones again.
+fn link(number: usize) -> [u32; 3] {
+    let behind = number % MOST_LINKS;
+    [(behind / MOST_BEHIND) as u32, (MOST_BEHIND + behind % MOST_BEHIND) as u32, 0]
+}
+
+/// Counts of events with the last one whole, of an unknown kind, or begun.
+fn event_counts() -> Vec<Handover> {
+    let counts = [0, 1, MOST_EVENTS - 1, MOST_EVENTS, MOST_EVENTS + 1];
+    let ends: [&[u32]; 7] = [&[], &[0], &[5, 1], &[257, 1], &[2], &[4, 1], &[4]];
+    let mut slices = Vec::new();
+    for count in counts {
+        slices.extend(ends.map(|end| [&events(count)[..], end].concat()));
+    }
+    // What is after an unknown kind doesn't count; an event at fault does, and
+    // so does all that is after it.
+    slices.push([&[0][..], &events(MOST_EVENTS + 1)].concat());
+    slices.push([&[1, 1, 7][..], &events(MOST_EVENTS + 1)].concat());
+    slices.push([&[2, 9][..], &events(MOST_EVENTS - 1)].concat());
+    slices.push([&[2, 9][..], &events(MOST_EVENTS)].concat());
+    let mut handovers: Vec<Handover> = slices.into_iter().map(|slice| two(vec![0, 1, 0], slice)).collect();
+    // A fault in the links, or a link that was begun, comes before the events.
+    for links in [vec![0, 1, 2], vec![0, 1, 0, 1], vec![0, 0, 0]] {
+        handovers.push(two(links, events(MOST_EVENTS + 1)));
+    }
+    handovers.push(Handover { defaults: Vec::new(), ..two(Vec::new(), events(MOST_EVENTS + 1)) });
+    handovers
+}
+
+/// Counts that two bytes can't hold, or just can.
+fn large_event_counts() -> Vec<Handover> {
+    [65_535, 65_536, 65_537].map(|count| two(vec![0, 1, 0], events(count))).to_vec()
+}
+
+/// Sets and tasks around the end of a table with so many tasks, where the last
+/// one may run.
+fn named_tasks(tasks: u32) -> Vec<Handover> {
+    let last = 1 << (tasks - 1);
+    let wide = [1 << 15, 1 << 16, 1 << 17, 1 << 20, 1 << 31];
+    let sets = [0, 1, last, 2 * last - 1, 2 * last, 2 * last + 1, u32::from(u16::MAX), u32::MAX];
+    let sets = sets.into_iter().chain(wide).chain(wide.map(|bit| bit | last));
+    let mut events: Vec<Vec<u32>> = sets.map(|set| vec![1, set]).collect();
+    for task in around(tasks) {
+        events.push(vec![1, last, 2, task]);
+        events.push(vec![1, last, 2, tasks - 1, 4, task, 5]);
+    }
+    let with = |events| Handover { defaults: vec![1; tasks as usize], links: Vec::new(), events };
+    events.into_iter().map(with).collect()
+}
+
+/// Reads by links around the end of a list with so many, where the last one's
+/// reader is running.
+fn named_links(links: u32) -> Vec<Handover> {
+    let numbers: Vec<u32> = (0..links as usize).flat_map(link).collect();
+    let reader = numbers[numbers.len() - 2];
+    let with = |which: u32| {
+        let events = vec![1, 1 << reader, 2, reader, 3, which];
+        Handover { defaults: vec![1; MOST_TASKS], links: numbers.clone(), events }
+    };
+    around(links).into_iter().map(with).collect()
+}
+
+/// Numbers around the end of so many, and those that would be the last one
+/// again, cut to a byte or to two.
+fn around(count: u32) -> Vec<u32> {
+    let last = count - 1;
+    vec![0, last, count, count + 1, 15, 16, 31, 32, 127, 128, 255, last + 256, last | 1 << 16, last | 1 << 31, u32::MAX]
+}
+
+fn two(links: Vec<u32>, events: Vec<u32>) -> Handover {
+    Handover { defaults: vec![3, 4], links, events }
+}
+
+/// The first events of a round that goes on for ever.
+fn events(count: usize) -> Vec<u32> {
+    let round: [&[u32]; 8] = [&[1, 3], &[2, 0], &[4, 0, 6], &[2, 1], &[3, 0], &[3, 0], &[3, 0], &[4, 1, 0]];
+    round.iter().cycle().take(count).flat_map(|event| event.iter().copied()).collect()
+}

@@ -1,0 +1,26 @@
+//! Every short handover.
+
+use super::Lent;
+use crate::writing::Handover;
+
+/// Every slice of links of up to six numbers from 0 to 3, with none to three
+/// tasks; every slice of events of up to seven numbers from 0 to 4, with two
+/// tasks and the link between them, and of up to five without the link.
+pub fn every_short() -> impl Iterator<Item = Lent> {
+    let links = (0..=3).flat_map(|tasks| slices(4, 6).map(move |links| (tasks, links, Vec::new())));
+    let linked = slices(5, 7).map(|events| (2, vec![0, 1, 0], events));
+    let without = slices(5, 5).map(|events| (2, Vec::new(), events));
+    let all = links.chain(linked).chain(without).enumerate();
+    all.map(|(number, (tasks, links, events))| {
+        let handover = Handover { defaults: (7..7 + tasks).collect(), links, events };
+        // One byte short, exact, and one more.
+        handover.lent(number as isize % 3 - 1)
+    })
+}
+
+/// Every slice of up to `longest` numbers below `bound`.
+fn slices(bound: u32, longest: u32) -> impl Iterator<Item = Vec<u32>> {
+    (0..=longest).flat_map(move |length| {
+        (0..bound.pow(length)).map(move |code| (0..length).map(|place| code / bound.pow(place) % bound).collect())
+    })
+}

@@ -1,0 +1,69 @@
+//! The bytes of a recording taken apart into what a station would hand over.
+
+use crate::format::{MOST_EVENTS, MOST_LINKS, MOST_TASKS};
+use crate::writing::{begun_events, Handover};
+
+/// The numbers in the bytes, as far as they go. What the bytes end inside of
+/// is left out, and so are bytes after the last event.
+pub fn split(bytes: &[u8]) -> Handover {
+    let mut rest = Rest { bytes };
+    let mut handover = Handover::default();
+    let tasks = rest.number(1).unwrap_or(0);
+    handover.defaults.extend((0..tasks).map_while(|_| rest.number(4)));
+    let links = rest.number(1).unwrap_or(0);
+    handover.links.extend((0..3 * links).map_while(|_| rest.number(1)));
+    let events = rest.number(2).unwrap_or(0);
+    for _ in 0..events {
+        let kind = match rest.number(1) {
+            Some(kind) => kind,
+            None => break,
+        };
+        handover.events.push(kind);
+        let fields: &[usize] = match kind {
+            1 => &[2],
+            2 | 3 => &[1],
+            4 => &[1, 4],
+            _ => break,
+        };
+        handover.events.extend(fields.iter().map_while(|length| rest.number(*length)));
+    }
+    handover
+}
+
+struct Rest<'a> {
+    bytes: &'a [u8],
+}
+
+impl Rest<'_> {
+    /// The next number, of so many bytes, its lowest byte first; where they
+    /// are not all there nothing follows either.
+    fn number(&mut self, length: usize) -> Option<u32> {
+        if self.bytes.len() < length {
+            self.bytes = &[];
+            return None;
+        }
+        let (number, after) = self.bytes.split_at(length);
+        self.bytes = after;
+        Some(number.iter().rev().fold(0, |high, byte| high << 8 | u32::from(*byte)))
+    }
+}
+
+/// Whether the reader's refusal of a recording is one that the numbers taken
+/// from it earn too. A count above what is there can't be handed over: there
+/// is no count but that of the numbers. Nor can extra bytes, and no list is
+/// lent.
+pub fn arises_in_writing(handover: &Handover, refusal: u8) -> bool {
+    let events = || begun_events(&handover.events);
+    match refusal {
+        1 => handover.links.len() % 3 != 0 || events().last().map_or(false, |last| unfinished(last)),
+        2 => handover.defaults.is_empty() || handover.defaults.len() > MOST_TASKS,
+        3 => handover.links.len() > 3 * MOST_LINKS,
+        10 => events().len() > MOST_EVENTS,
+        17 | 18 => false,
+        _ => true,
+    }
+}
+
+fn unfinished(record: &[u32]) -> bool {
+    matches!(*record, [1..=4] | [4, _])
+}
