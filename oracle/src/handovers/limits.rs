@@ -8,7 +8,9 @@ use crate::writing::Handover;
 pub fn limits() -> Vec<Lent> {
     let mut handovers = task_counts();
     handovers.extend(link_counts());
+    handovers.extend(readers_behind());
     handovers.extend(event_counts());
+    handovers.extend(longest());
     handovers.extend((1..=MOST_TASKS as u32).flat_map(named_tasks));
     handovers.extend([1, 8, 9, 31, 32].into_iter().flat_map(named_links));
     let lent = handovers.iter().flat_map(|handover| [0, 1, -1].map(|more| handover.clone().lent(more)));
@@ -48,6 +50,24 @@ fn link(number: usize) -> [u32; 3] {
     [(behind / MOST_BEHIND) as u32, (MOST_BEHIND + behind % MOST_BEHIND) as u32, 0]
 }
 
+/// Seven to nine readers behind a writer, and three ahead of it, which don't
+/// count; the ninth by itself, a second one to its reader, and begun.
+fn readers_behind() -> Vec<Handover> {
+    let ahead: Vec<u32> = (0..3).flat_map(|reader| [3, reader, 1]).collect();
+    let behind = |count: u32| (4..4 + count).flat_map(|reader| [3, reader, reader % 2]).collect::<Vec<u32>>();
+    let slices = [
+        [&ahead[..], &behind(7)].concat(),
+        [&ahead[..], &behind(8)].concat(),
+        [&ahead[..], &behind(9)].concat(),
+        [&behind(8)[..], &ahead].concat(),
+        behind(9),
+        [&behind(8)[..], &[3, 4, 1]].concat(),
+        [&behind(8)[..], &[3, 12]].concat(),
+        [&behind(8)[..], &[2, 12, 0]].concat(),
+    ];
+    slices.map(|links| Handover { defaults: vec![6; MOST_TASKS], links, events: Vec::new() }).to_vec()
+}
+
 /// Counts of events with the last one whole, of an unknown kind, or begun.
 fn event_counts() -> Vec<Handover> {
     let counts = [0, 1, MOST_EVENTS - 1, MOST_EVENTS, MOST_EVENTS + 1];
@@ -68,6 +88,21 @@ fn event_counts() -> Vec<Handover> {
         handovers.push(two(links, events(MOST_EVENTS + 1)));
     }
     handovers.push(Handover { defaults: Vec::new(), ..two(Vec::new(), events(MOST_EVENTS + 1)) });
+    handovers
+}
+
+/// The most bytes that can be accepted, and faults in the last event of so
+/// many: a set too large, a task that has not arrived, an unknown kind, and
+/// numbers that are not all there.
+fn longest() -> Vec<Handover> {
+    let mut round = vec![vec![1, 0xFFFF]];
+    round.extend((0..MOST_TASKS as u32).flat_map(|task| [vec![2, task], vec![4, task, task << 24]]));
+    let events = |count: usize| round.iter().cycle().take(count).flatten().copied().collect::<Vec<u32>>();
+    let links: Vec<u32> = (0..MOST_LINKS).flat_map(link).collect();
+    let with = |events| Handover { defaults: vec![u32::MAX; MOST_TASKS], links: links.clone(), events };
+    let ends: [&[u32]; 5] = [&[1, 1 << 16], &[2, 15], &[9], &[3], &[4, 15]];
+    let mut handovers = vec![with(events(MOST_EVENTS))];
+    handovers.extend(ends.map(|end| with([&events(MOST_EVENTS - 1)[..], end].concat())));
     handovers
 }
 
