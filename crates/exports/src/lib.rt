@@ -7,3 +7,4 @@ pub mod event;
 pub mod fresh;
 mod parts;
 pub mod replay;
+pub mod write;
