@@ -32,7 +32,9 @@ use Rattle.recording_core.specs.Promise.{past, Genuine}
 use Rattle.recording_core.proofs.Promises.{recorded-genuine, genuine-recorded}
 use Rattle.recording_core.proofs.Writings.{written-recorded}
 use Rattle.recording_core.proofs.Rooms.{recorded-with-room, recorded-by-state, whole-with-room}
-use Rattle.recording_write_demands.specs.Ensured.{Written, writtenOf, Ensured, RecordingOf}
+use Rattle.recording_write.specs.Answers.{writtenOf}
+use Rattle.recording_write.specs.declared.Written.{Written}
+use Rattle.recording_write_demands.specs.Ensured.{Ensured, RecordingOf}
 
 -- what is judged: the tasks, and the links and events that the numbers say
 abbrev weighs : List ℕ → List ℕ → List ℕ → Reply Saved

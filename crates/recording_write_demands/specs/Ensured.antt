@@ -7,22 +7,13 @@ use lib.Dec.{ltb}
 use lib.ListN.{length}
 use Rattle.protocol.specs.History.{reads}
 use Rattle.protocol_state.specs.Saved.{base}
-use Rattle.byte_format.specs.Play.{Reply}
 use Rattle.recording_format.specs.Limits.{baseLimits}
 use Rattle.recording_format.specs.Words.{Words, linksSaid, eventsSaid}
 use Rattle.recording_format.specs.Writing.{writing, bufferAfter}
 use Rattle.recording_core.specs.Playing.{stateCore}
 use Rattle.recording_core.specs.Promise.{past, Genuine}
-
--- the answer: the refusal, 0 for none, and the place
-pub record Written : Type 0 where
-  pub refusal : ℕ
-  pub place : ℕ
-
-module _ {S : Type 0} where
-  -- of a reply, these two
-  abbrev pub writtenOf : Reply S → Written
-  writtenOf x = record { refusal = x .refusal; place = x .place }
+use Rattle.recording_write.specs.Answers.{writtenOf}
+use Rattle.recording_write.specs.declared.Written.{Written}
 
 -- the three clauses of `recording_write::write`, for the defaults ds, the numbers lw that say links and ew that say events, and a buffer that held `old`:
 -- it answers a and leaves `new`
