@@ -1,0 +1,180 @@
+-- `recording_text::read_text` meets its contract. The loop's invariant: the lines before the place can be read, and what they say is stored. The measure is what is left of the text.
+-- Assumes nothing.
+use mathlib.Core.Path.{_≡_, refl, sym, ap, _∙_}
+use mathlib.Core.List.{List, [], _∷_, _++_}
+use Prim.Native.Nat.{ℕ, _-_}
+use native.Mathlib.Omega.{arith}
+use borrow.Author.Tests.{ne-eqb}
+use lib.ListN.{length}
+use Rattle.recording_text.specs.Pieces.{between}
+use Rattle.recording_text.specs.Line.{Says, says}
+use Rattle.recording_text.proofs.Stores.{Held, held-none, held-more}
+use Rattle.recording_text.proofs.Texts.{Before, before-none, before-more, stops, ends, list-held, answered}
+use borrow.Author.Needs.{needs}
+use Rattle.recording_text.proofs.read_text.Statement.{statement}
+use Rattle.recording_text.proofs.read_text.Tie as tie
+
+abbrev Inv-loop : tie.InvT-loop
+Inv-loop text defaults₀ links₀ events₀ task₀ link₀ event₀ line₀ at₀ defaults links events task link event line at =
+    (done : List (List ℕ))
+    × (Before text line at done × (Held 1 17 done defaults₀ defaults task × (Held 2 33 done links₀ links link × Held 3 10001 done events₀ events event)))
+
+abbrev μ-loop : tie.MeasureT-loop
+μ-loop text defaults₀ links₀ events₀ task₀ link₀ event₀ line₀ at₀ defaults links events task link event line at =
+    length text - at
+
+none-kept-requires : tie.Need-none-kept-requires Inv-loop μ-loop
+none-kept-requires c κs = search needs
+
+none-kept-requires-2 : tie.Need-none-kept-requires-2 Inv-loop μ-loop
+none-kept-requires-2 c κs = search needs
+
+none-kept-requires-3 : tie.Need-none-kept-requires-3 Inv-loop μ-loop
+none-kept-requires-3 c κs = search needs
+
+loop-holds : tie.Need-loop-holds Inv-loop μ-loop
+loop-holds c =
+    let a = c .before .before .before .before .args in (
+      [],
+      (
+        before-none (a .text .now),
+        (held-none 1 17 (a .defaults .now) (c .before .before .none-kept .ensures), (held-none 2 33 (a .links .now) (c .before .none-kept2 .ensures), held-none 3 10001 (a .events .now) (c .none-kept3 .ensures))),
+      ),
+    )
+
+piece-end-requires : tie.Need-piece-end-requires Inv-loop μ-loop
+piece-end-requires c κs = search needs
+
+sub-line-says : tie.Need-sub-line-says Inv-loop μ-loop
+sub-line-says c = search needs
+
+part-line-says-start : tie.Need-part-line-says-start Inv-loop μ-loop
+part-line-says-start c = search needs
+
+part-line-says-end : tie.Need-part-line-says-end Inv-loop μ-loop
+part-line-says-end c = search needs
+
+line-says-requires : tie.Need-line-says-requires Inv-loop μ-loop
+line-says-requires c κs = search needs
+
+add-line : tie.Need-add-line Inv-loop μ-loop
+add-line c =
+    let test = c .before .before .before in
+    omega (arith, test .loop-test .taken, test .before .loop .inv .1 .0 .near)
+
+answer-requires : tie.Need-answer-requires Inv-loop μ-loop
+answer-requires c κs = search needs
+
+returns : tie.Need-returns Inv-loop μ-loop
+returns c =
+    let said = c .before .before .before in
+    let piece = said .before .before in
+    let l = piece .before .before .loop in
+    let a = piece .before .before .before .before .before .before .before .args in
+    let text = a .text .now in
+    let done = l .inv .0 in
+    let b = l .inv .1 .0 in
+    let held = l .inv .1 .1 in
+    let f = ap (λ (y : Says). y .fault) (said .line-says .ensures .0) in
+    let s = stops text b (piece .piece-end .ensures) (λ z. c .before .if1 .taken (f ∙ z)) in
+    let n = ne-eqb (said .line-says .result .fault) 0 (c .before .if1 .taken) in (
+      answered text (s .0) (s .1 ∙ sym f) (rw n (omega (arith, b .many))) (held .0 .numbers) (held .1 .0 .numbers) (held .1 .1 .numbers) (c .answer .ensures),
+      (list-held text (s .0) 1 17 (held .0), (list-held text (s .0) 2 33 (held .1 .0), list-held text (s .0) 3 10001 (held .1 .1))),
+    )
+
+keep-requires : tie.Need-keep-requires Inv-loop μ-loop
+keep-requires c κs =
+    let said = c .before .before .before in
+    let l = said .before .before .before .before .loop in
+    record { size = said .line-says .ensures .1 .0; stored = l .inv .1 .1 .0 .few; whole = search needs; small = omega arith }
+
+keep-requires-2 : tie.Need-keep-requires-2 Inv-loop μ-loop
+keep-requires-2 c κs =
+    let said = c .before .before .before .before .before in
+    let l = said .before .before .before .before .loop in
+    record { size = said .line-says .ensures .1 .0; stored = l .inv .1 .1 .1 .0 .few; whole = search needs; small = omega arith }
+
+keep-requires-3 : tie.Need-keep-requires-3 Inv-loop μ-loop
+keep-requires-3 c κs =
+    let said = c .before .before .before .before .before .before .before in
+    let l = said .before .before .before .before .loop in
+    record { size = said .line-says .ensures .1 .0; stored = l .inv .1 .1 .1 .1 .few; whole = search needs; small = omega arith }
+
+add-at : tie.Need-add-at Inv-loop μ-loop
+add-at c =
+    let piece = c .before .before .before .before .before .before .before .before .before .before in
+    omega (arith, piece .piece-end .ensures .within, piece .before .before .before .before .before .before)
+
+loop-less : tie.Need-loop-less Inv-loop μ-loop
+loop-less c = omega (arith, c .before .before .before .before .before .before .before .before .before .before .piece-end .ensures .after, c .before .before .before .before .before .before .before .before .before .before .before .loop-test .taken)
+
+loop-again : tie.Need-loop-again Inv-loop μ-loop
+loop-again c =
+    let no = c .before .before .before .before .before .before in
+    let said = no .before .before in
+    let piece = said .before .before in
+    let l = piece .before .before .loop in
+    let a = piece .before .before .before .before .before .before .before .args in
+    let text = a .text .now in
+    let done = l .inv .0 in
+    let held = l .inv .1 .1 in
+    let line = between (l .at) (piece .piece-end .result) text in
+    let x = said .line-says .result in
+    let q = said .line-says .ensures .0 in
+    let small = said .line-says .ensures .1 .0 in
+    let three = said .line-says .ensures .1 .1 in
+    let z : says line .fault ≡ 0 = sym (ap (λ (y : Says). y .fault) q) ∙ no .if1 .left in (
+      done ++ (line ∷ []),
+      (
+        before-more text (l .inv .1 .0) (piece .piece-end .ensures) z,
+        (
+          held-more 1 17 done (a .defaults .now) (held .0) line x q small three (c .before .before .before .before .keep .ensures .0) (c .before .before .before .before .keep .ensures .1),
+          (
+            held-more 2 33 done (a .links .now) (held .1 .0) line x q small three (c .before .before .keep2 .ensures .0) (c .before .before .keep2 .ensures .1),
+            held-more 3 10001 done (a .events .now) (held .1 .1) line x q small three (c .keep3 .ensures .0) (c .keep3 .ensures .1),
+          ),
+        ),
+      ),
+    )
+
+answer-requires-2 : tie.Need-answer-requires-2 Inv-loop μ-loop
+answer-requires-2 c κs = search needs
+
+returns-2 : tie.Need-returns-2 Inv-loop μ-loop
+returns-2 c =
+    let at-loop = c .before .before in
+    let l = at-loop .loop in
+    let a = at-loop .before .before .before .before .before .args in
+    let text = a .text .now in
+    let held = l .inv .1 .1 in
+    let s = ends text (l .inv .1 .0) (c .before .loop-test .left) in (
+      answered text (s .0) (s .1) refl (held .0 .numbers) (held .1 .0 .numbers) (held .1 .1 .numbers) (c .answer2 .ensures),
+      (list-held text (s .0) 1 17 (held .0), (list-held text (s .0) 2 33 (held .1 .0), list-held text (s .0) 3 10001 (held .1 .1))),
+    )
+
+pub read-text-spec : {M : Type 1} → statement M
+read-text-spec =
+    tie.close
+    (tie.spec
+    Inv-loop
+    μ-loop
+    none-kept-requires
+    none-kept-requires-2
+    none-kept-requires-3
+    loop-holds
+    piece-end-requires
+    sub-line-says
+    part-line-says-start
+    part-line-says-end
+    line-says-requires
+    add-line
+    answer-requires
+    returns
+    keep-requires
+    keep-requires-2
+    keep-requires-3
+    add-at
+    loop-less
+    loop-again
+    answer-requires-2
+    returns-2)
