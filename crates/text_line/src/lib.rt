@@ -5,6 +5,7 @@ ghost use lib.ListN.{length};
 ghost use lib.Seq.{paste};
 ghost use Rattle.text_line.specs.Numeral.{space, digits, number};
 ghost use Rattle.text_line.specs.Shown.{shown, joined, feed, fit, emptyLine, withText, Put};
+use libc::STDERR_FILENO;
 use libc::STDOUT_FILENO;
 use lists::few;
 
@@ -86,9 +87,19 @@ impl Line {
     }
 }
 
-// Writes the first n bytes of a made line to standard output, of which there are never more than its room.
-pub fn show(n: usize, line: &[u8]) {
+// Writes the first n bytes of a made line to an open file, of which there are never more than its room.
+fn write_line(file: i32, n: usize, line: &[u8]) {
     if n <= line.len() {
-        io::write_all(STDOUT_FILENO, &line[..n]);
+        io::write_all(file, &line[..n]);
     }
+}
+
+// Writes the first n bytes of a made line to standard output.
+pub fn show(n: usize, line: &[u8]) {
+    write_line(STDOUT_FILENO, n, line);
+}
+
+// The same to standard error.
+pub fn show_error(n: usize, line: &[u8]) {
+    write_line(STDERR_FILENO, n, line);
 }

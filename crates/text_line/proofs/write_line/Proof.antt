@@ -1,11 +1,11 @@
--- `text_line::show` is safe and ends: the part has n bytes, since the line has so many.
+-- `text_line::write_line` is safe and ends: the part has n bytes, since the line has so many.
 -- Assumes nothing.
 use borrow.Author.Needs.{needs}
 use lib.Seq.{length-take-le}
 use mathlib.Core.Path.{sym}
 use native.Mathlib.Omega.{arith}
-use Rattle.text_line.proofs.show.Statement.{statement}
-use Rattle.text_line.proofs.show.Tie as tie
+use Rattle.text_line.proofs.write_line.Statement.{statement}
+use Rattle.text_line.proofs.write_line.Tie as tie
 
 slice-aggregate-write-all : tie.Need-slice-aggregate-write-all
 slice-aggregate-write-all c = sym (length-take-le _ _ (omega arith))
@@ -19,5 +19,5 @@ returns c = search needs
 returns-2 : tie.Need-returns-2
 returns-2 c = search needs
 
-pub show-spec : {M : Type 1} → statement M
-show-spec = tie.close (tie.spec slice-aggregate-write-all write-all-requires returns returns-2)
+pub write-line-spec : {M : Type 1} → statement M
+write-line-spec = tie.close (tie.spec slice-aggregate-write-all write-all-requires returns returns-2)
