@@ -82,3 +82,22 @@ module _ (text : List ℕ) {done : List (List ℕ)} (r : readable (lines text) �
       e ≡ length (stored 3 10001 done) → x ≡ answerOf f n t l e → x ≡ readOf text
   unfolding readOf
   answered f n t l e x = x ∙ rw (f, r, n, t, l, e)
+
+-- numbers at the start of a list are no more than the list has
+over-within : (ns old : List ℕ) {n : ℕ} {out : List ℕ} → n ≡ length ns → out ≡ over ns old → n ≤ length out
+unfolding over
+over-within ns old e f = omega (arith, ap length f, length-append ns (drop (length ns) old))
+
+-- so are those that are stored of a text, as the answer counts them
+module _ (text : List ℕ) (r : Read) (e : r ≡ readOf text) (old : List ℕ) {out : List ℕ} where
+  pub tasks-within : out ≡ over (defaultsOf text) old → r .tasks ≤ length out
+  unfolding readOf
+  tasks-within = over-within (defaultsOf text) old (ap (λ (x : Read). x .tasks) e)
+
+  pub links-within : out ≡ over (linksOf text) old → r .links ≤ length out
+  unfolding readOf
+  links-within = over-within (linksOf text) old (ap (λ (x : Read). x .links) e)
+
+  pub events-within : out ≡ over (eventsOf text) old → r .events ≤ length out
+  unfolding readOf
+  events-within = over-within (eventsOf text) old (ap (λ (x : Read). x .events) e)

@@ -1,0 +1,127 @@
+// The recording of a text, written to standard output; or why there is none, a line on standard error.
+//
+// What a program writes no contract can say, so of the functions that write it is proved that they are safe and that they end. What the lines
+// hold is said by the contracts of the functions that put them; the text is read by `recording_text` and the recording is made by
+// `recording_write`.
+ghost use mathlib.Core.Path.{_≡_};
+ghost use Rattle.text_line.specs.Shown.{shown, joined, Put};
+ghost use Rattle.record_printout.specs.Lines.{reason, faultLine, refusedLine, tooLongLine};
+use recording_text::EVENTS;
+use recording_text::LINKS;
+use recording_text::TASKS;
+use recording_text::line_of;
+use recording_text::read_text;
+use recording_write::write;
+use text_line::Line;
+use text_line::ROOM;
+use text_line::show;
+use text_line::show_error;
+
+// The bytes of the longest text.
+pub const TEXT: usize = 1048576;
+
+// The bytes of the longest recording: T and the defaults, L and the links, E and the events.
+const RECORDING: usize = 1 + 4 * 16 + 1 + 3 * 32 + 2 + 6 * 10000;
+
+// A line with the reason for a fault more. What is no fault has words of its own.
+fn with_reason(line: Line, fault: u8) -> Line
+    ensures { λ r. ⌜ shown r ≡ joined (shown line) (reason fault) ⌝ }
+{
+    match fault {
+        1 => line.text(b": the first word is none of T, L, A, S, R and F"),
+        2 => line.text(b": not a number"),
+        3 => line.text(b": a number above 4294967295"),
+        4 => line.text(b": too few numbers"),
+        5 => line.text(b": too many numbers"),
+        _ => line.text(b": cannot be read"),
+    }
+}
+
+// A line of a text that cannot be read, and why.
+pub fn put_fault(line: usize, fault: u8, out: &mut [u8]) -> usize
+    ensures { λ r. ⌜ Put (faultLine line fault) (now (out .entry)) r (now (out .exit)) ⌝ }
+{
+    let named = Line::empty().text(b"line").number(line as u64);
+    let whole = with_reason(named, fault);
+    whole.put(out)
+}
+
+// A line of a text whose record is refused: the refusal and its place in the recording.
+pub fn put_refused(line: usize, refusal: u8, place: usize, out: &mut [u8]) -> usize
+    ensures { λ r. ⌜ Put (refusedLine line refusal place) (now (out .entry)) r (now (out .exit)) ⌝ }
+{
+    let whole = Line::empty()
+        .text(b"line")
+        .number(line as u64)
+        .text(b": refused")
+        .number(refusal as u64)
+        .text(b" at")
+        .number(place as u64);
+    whole.put(out)
+}
+
+// A text that is too long.
+pub fn put_too_long(out: &mut [u8]) -> usize
+    ensures { λ r. ⌜ Put tooLongLine (now (out .entry)) r (now (out .exit)) ⌝ }
+{
+    let whole = Line::empty().text(b"the text is longer than 1048576 bytes");
+    whole.put(out)
+}
+
+// Tells on standard error that a line cannot be read.
+fn tell_fault(line: usize, fault: u8) {
+    let mut room = [0u8; ROOM];
+    show_error(put_fault(line, fault, &mut room), &room);
+}
+
+// Tells on standard error which line is refused.
+fn tell_refused(line: usize, refusal: u8, place: usize) {
+    let mut room = [0u8; ROOM];
+    show_error(put_refused(line, refusal, place, &mut room), &room);
+}
+
+// Tells on standard error that the text is too long.
+fn tell_too_long() {
+    let mut room = [0u8; ROOM];
+    show_error(put_too_long(&mut room), &room);
+}
+
+// Writes the recording of these numbers to standard output, or tells which line of the text is refused.
+fn print_written(text: &[u8], defaults: &[u32], links: &[u32], events: &[u32]) {
+    let mut out = [0u8; RECORDING];
+    let written = write(defaults, links, events, &mut out);
+    if written.refusal != 0 {
+        tell_refused(
+            line_of(text, written.refusal, written.place),
+            written.refusal,
+            written.place,
+        );
+        return;
+    }
+    show(written.place, &out);
+}
+
+// Writes the recording of a text to standard output, or tells on standard error why there is none.
+pub fn print_recording(text: &[u8]) {
+    if TEXT < text.len() {
+        tell_too_long();
+        return;
+    }
+    let mut defaults = [0u32; TASKS];
+    let mut links = [0u32; LINKS];
+    let mut events = [0u32; EVENTS];
+    let read = read_text(text, &mut defaults, &mut links, &mut events);
+    if read.fault != 0 {
+        tell_fault(read.line, read.fault);
+        return;
+    }
+    let tasks_end = read.tasks;
+    let links_end = read.links;
+    let events_end = read.events;
+    print_written(
+        text,
+        &defaults[..tasks_end],
+        &links[..links_end],
+        &events[..events_end],
+    );
+}
