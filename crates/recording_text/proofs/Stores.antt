@@ -13,7 +13,7 @@ use lib.ListN.{length, take, drop, set, getD, length-append}
 use lib.Seq.{paste, paste-suc, take-nil, take-all, take-append-le, take-append-seam, drop-append-add, drop-drop, length-take-le}
 use Rattle.lists.proofs.Bools.{and-left, and-right}
 use Rattle.recording_text.specs.declared.line.Said.{Said}
-use Rattle.recording_text.specs.declared.store.Kept.{Kept}
+use Rattle.recording_text.specs.declared.Kept.{Kept}
 use Rattle.recording_text.specs.Line.{Says, says, saidOf, sort, widest}
 use Rattle.recording_text.specs.Text.{recordsOf, joined, stored, over, noneKept, takes, RoomFor, andRecord}
 use Rattle.recording_text.proofs.Letters.{widest-small}

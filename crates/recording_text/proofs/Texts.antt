@@ -10,7 +10,7 @@ use lib.Dec.{eqb}
 use lib.ListN.{length, drop, length-append}
 use Rattle.recording_text.specs.declared.Read.{Read}
 use Rattle.recording_text.specs.declared.line.Said.{Said}
-use Rattle.recording_text.specs.declared.store.Kept.{Kept}
+use Rattle.recording_text.specs.declared.Kept.{Kept}
 use Rattle.recording_text.specs.Pieces.{separator, lines, between, Ends}
 use Rattle.recording_text.specs.Line.{Says, says, saidOf}
 use Rattle.recording_text.specs.Text.{readable, textFault, stored, over, defaultsOf, linksOf, eventsOf, answerOf, readOf, noneKept}

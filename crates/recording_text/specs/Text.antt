@@ -7,7 +7,7 @@ use lib.Dec.{eqb, ltb}
 use lib.ListN.{length, take, drop}
 use Rattle.recording_text.specs.declared.Read.{Read}
 use Rattle.recording_text.specs.declared.line.Said.{Said}
-use Rattle.recording_text.specs.declared.store.Kept.{Kept}
+use Rattle.recording_text.specs.declared.Kept.{Kept}
 use Rattle.recording_text.specs.Pieces.{lines}
 use Rattle.recording_text.specs.Line.{says, sort, widest}
 

@@ -1,24 +1,28 @@
 // The text form of a recording, read line by line into the numbers that the writer of a recording takes; and the line of what it refuses.
 ghost use mathlib.Core.Path.{_≡_};
-ghost use Rattle.recording_text.specs.Text.{readOf, answerOf, noneKept, defaultsOf, linksOf, eventsOf, over};
+ghost use mathlib.Core.Bool.{cond};
+ghost use Prim.Native.Nat.{_+_, _≤_};
+ghost use lib.ListN.{length};
+ghost use lib.Seq.{paste};
+ghost use Rattle.recording_text.specs.Text.{readOf, answerOf, noneKept, takes, andRecord, RoomFor, defaultsOf, linksOf, eventsOf, over};
 ghost use Rattle.recording_text.specs.Place.{lineOf};
+use crate::line::Said;
 use crate::line::line_says;
+use crate::line::sort_of;
 use crate::piece::piece_end;
-use crate::store::Kept;
-use crate::store::keep;
 
 mod line;
 mod number;
 mod piece;
 mod place;
-mod store;
 
-// The room for the defaults of tasks, for the three numbers of each link, and for the two or three of each event: one record more than a
-// recording may have.
+// The room for the defaults of tasks: for one task more than a recording may have.
 pub const TASKS: usize = 17;
 
+// That for links, three numbers each: for one more.
 pub const LINKS: usize = 99;
 
+// That for events, of two or three numbers: for one more.
 pub const EVENTS: usize = 30003;
 
 // What a text is read as: why it cannot be read, 0 where it can, and in which line, from 1; how many numbers were stored.
@@ -28,6 +32,48 @@ pub struct Read {
     pub tasks: usize,
     pub links: usize,
     pub events: usize,
+}
+
+// What is stored of one sort: so many records, and so many numbers.
+pub struct Kept {
+    pub records: usize,
+    pub numbers: usize,
+}
+
+// The first n of some numbers, copied into a list from a place on.
+fn copy(numbers: &[u32], n: usize, out: &mut [u32], at: usize)
+    requires { ⌜ (n ≤ length (now numbers)) × (at + n ≤ length (now out)) ⌝ }
+    ensures { λ _. ⌜ now (out .exit) ≡ paste (now (out .entry)) at (now (numbers .entry)) n ⌝ }
+{
+    let mut i = 0;
+    while i < n {
+        out[at + i] = numbers[i];
+        i += 1;
+    }
+}
+
+// Whether a line has a record of a sort, of which fewer are stored than may be.
+fn is_taken(said: Said, sort: u8, most: usize, kept: Kept) -> bool
+    ensures { λ r. ⌜ r ≡ takes said sort most kept ⌝ }
+{
+    (sort_of(said.letter) == sort) & (kept.records < most)
+}
+
+// Stores what a line says where it is a record of a sort, of which fewer are stored than may be.
+fn keep(said: Said, sort: u8, most: usize, out: &mut [u32], kept: Kept) -> Kept
+    requires { ⌜ RoomFor said sort most (length (now out)) kept ⌝ }
+    ensures answer { λ r. ⌜ r ≡ cond (takes said sort most kept) (andRecord said kept) kept ⌝ }
+    ensures list { λ r. ⌜ now (out .exit) ≡ cond (takes said sort most kept) (paste (now (out .entry)) (kept .numbers) (said .numbers) (said .size)) (now (out .entry)) ⌝ }
+{
+    if !is_taken(said, sort, most, kept) {
+        return kept;
+    }
+    let numbers = said.numbers;
+    copy(&numbers, said.size, out, kept.numbers);
+    Kept {
+        records: kept.records + 1,
+        numbers: kept.numbers + said.size,
+    }
 }
 
 // Nothing is stored yet.

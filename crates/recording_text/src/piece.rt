@@ -1,6 +1,6 @@
 // Where a piece of bytes ends: a line of a text, or a field of a line.
 ghost use mathlib.Core.Path.{_≡_};
-ghost use Prim.Native.Nat.{_<_};
+ghost use Prim.Native.Nat.{_≤_, _<_};
 ghost use lib.ListN.{length};
 ghost use Rattle.recording_text.specs.Pieces.{separator, Ends};
 
@@ -14,10 +14,10 @@ pub fn separates(inner: bool, b: u8) -> bool
     b == 10
 }
 
-// Where the piece from a place on ends: at the next separator, or with the bytes.
+// Where the piece from a place on ends: at the next separator, or with the bytes; past their end at the place itself.
 pub fn piece_end(s: &[u8], at: usize, inner: bool) -> usize
-    requires { ⌜ at < length (now s) ⌝ }
-    ensures { λ r. ⌜ Ends (separator inner) (now (s .entry)) at r ⌝ }
+    ensures within { λ r. ⌜ (at < length (now (s .entry)) → Ends (separator inner) (now (s .entry)) at r) ⌝ }
+    ensures past { λ r. ⌜ (length (now (s .entry)) ≤ at → r ≡ at) ⌝ }
 {
     let mut i = at;
     while i < s.len() {

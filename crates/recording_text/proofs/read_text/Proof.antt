@@ -46,13 +46,13 @@ piece-end-requires : tie.Need-piece-end-requires Inv-loop μ-loop
 piece-end-requires c κs = search needs
 
 sub-line-says : tie.Need-sub-line-says Inv-loop μ-loop
-sub-line-says c = search needs
+sub-line-says c = omega (arith, c .piece-end .ensures .0 (c .before .loop-test .taken) .after)
 
 part-line-says-start : tie.Need-part-line-says-start Inv-loop μ-loop
-part-line-says-start c = search needs
+part-line-says-start c = c .piece-end .ensures .0 (c .before .loop-test .taken) .after
 
 part-line-says-end : tie.Need-part-line-says-end Inv-loop μ-loop
-part-line-says-end c = search needs
+part-line-says-end c = c .piece-end .ensures .0 (c .before .loop-test .taken) .within
 
 line-says-requires : tie.Need-line-says-requires Inv-loop μ-loop
 line-says-requires c κs = search needs
@@ -76,7 +76,7 @@ returns c =
     let b = l .inv .1 .0 in
     let held = l .inv .1 .1 in
     let f = ap (λ (y : Says). y .fault) (said .line-says .ensures .0) in
-    let s = stops text b (piece .piece-end .ensures) (λ z. c .before .if1 .taken (f ∙ z)) in
+    let s = stops text b (piece .piece-end .ensures .0 (piece .before .loop-test .taken)) (λ z. c .before .if1 .taken (f ∙ z)) in
     let n = ne-eqb (said .line-says .result .fault) 0 (c .before .if1 .taken) in (
       answered text (s .0) (s .1 ∙ sym f) (rw n (omega (arith, b .many))) (held .0 .numbers) (held .1 .0 .numbers) (held .1 .1 .numbers) (c .answer .ensures),
       (list-held text (s .0) 1 17 (held .0), (list-held text (s .0) 2 33 (held .1 .0), list-held text (s .0) 3 10001 (held .1 .1))),
@@ -103,10 +103,10 @@ keep-requires-3 c κs =
 add-at : tie.Need-add-at Inv-loop μ-loop
 add-at c =
     let piece = c .before .before .before .before .before .before .before .before .before .before in
-    omega (arith, piece .piece-end .ensures .within, piece .before .before .before .before .before .before)
+    omega (arith, piece .piece-end .ensures .0 (piece .before .loop-test .taken) .within, piece .before .before .before .before .before .before)
 
 loop-less : tie.Need-loop-less Inv-loop μ-loop
-loop-less c = omega (arith, c .before .before .before .before .before .before .before .before .before .before .piece-end .ensures .after, c .before .before .before .before .before .before .before .before .before .before .before .loop-test .taken)
+loop-less c = omega (arith, c .before .before .before .before .before .before .before .before .before .before .piece-end .ensures .0 (c .before .before .before .before .before .before .before .before .before .before .before .loop-test .taken) .after, c .before .before .before .before .before .before .before .before .before .before .before .loop-test .taken)
 
 loop-again : tie.Need-loop-again Inv-loop μ-loop
 loop-again c =
@@ -126,7 +126,7 @@ loop-again c =
     let z : says line .fault ≡ 0 = sym (ap (λ (y : Says). y .fault) q) ∙ no .if1 .left in (
       done ++ (line ∷ []),
       (
-        before-more text (l .inv .1 .0) (piece .piece-end .ensures) z,
+        before-more text (l .inv .1 .0) (piece .piece-end .ensures .0 (piece .before .loop-test .taken)) z,
         (
           held-more 1 17 done (a .defaults .now) (held .0) line x q small three (c .before .before .before .before .keep .ensures .0) (c .before .before .before .before .keep .ensures .1),
           (

@@ -26,8 +26,8 @@ returns c =
     let a = piece .before .before .args in
     let s = a .line .now in
     let e = piece .piece-end .result in
-    let w = piece .piece-end .ensures in
     let p = piece .before .before .pre in
+    let w = piece .piece-end .ensures .0 (p .0) in
     let h = has-byte (separator true) s (a .at) e w (p .0) (p .1) in
     (c .no-record .ensures .0 ∙ sym (letters.remark s (a .at) e w h (c .before .if1 .taken)), c .no-record .ensures .1)
 
@@ -43,8 +43,8 @@ returns-2 c =
     let a = piece .before .before .args in
     let s = a .line .now in
     let e = piece .piece-end .result in
-    let w = piece .piece-end .ensures in
     let p = piece .before .before .pre in
+    let w = piece .piece-end .ensures .0 (p .0) in
     let h = has-byte (separator true) s (a .at) e w (p .0) (p .1) in
     (c .no-record2 .ensures .0 ∙ sym (letters.word s (a .at) e w h (c .before .before .if1 .left) (c .before .if2 .taken)), c .no-record2 .ensures .1)
 
@@ -60,8 +60,8 @@ returns-3 c =
     let a = piece .before .before .args in
     let s = a .line .now in
     let e = piece .piece-end .result in
-    let w = piece .piece-end .ensures in
     let p = piece .before .before .pre in
+    let w = piece .piece-end .ensures .0 (p .0) in
     let h = has-byte (separator true) s (a .at) e w (p .0) (p .1) in
     let sort = c .before .before in (
       c .no-record3 .ensures .0 ∙ sym (letters.unknown s (a .at) e w h (sort .before .before .if1 .left) (sort .before .if2 .left) (sym (sort .sort-of .ensures) ∙ c .before .if3 .taken)),
@@ -83,8 +83,8 @@ returns-4 c =
     let a = piece .before .before .args in
     let s = a .line .now in
     let e = piece .piece-end .result in
-    let w = piece .piece-end .ensures in
     let p = piece .before .before .pre in
+    let w = piece .piece-end .ensures .0 (p .0) in
     let h = has-byte (separator true) s (a .at) e w (p .0) (p .1) in
     let numbers = c .before .before .before in
     let sort = numbers .before .before in (
@@ -113,8 +113,8 @@ returns-5 c =
     let a = piece .before .before .args in
     let s = a .line .now in
     let e = piece .piece-end .result in
-    let w = piece .piece-end .ensures in
     let p = piece .before .before .pre in
+    let w = piece .piece-end .ensures .0 (p .0) in
     let h = has-byte (separator true) s (a .at) e w (p .0) (p .1) in
     let numbers = c .before .before .before in
     let sort = numbers .before .before in (

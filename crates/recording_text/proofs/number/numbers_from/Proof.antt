@@ -38,7 +38,7 @@ part-number-of-start : tie.Need-part-number-of-start Inv-loop μ-loop
 part-number-of-start c = search needs
 
 part-number-of-end : tie.Need-part-number-of-end Inv-loop μ-loop
-part-number-of-end c = search needs
+part-number-of-end c = c .before .piece-end .ensures .0 (c .before .before .loop-test .taken) .within
 
 number-of-requires : tie.Need-number-of-requires Inv-loop μ-loop
 number-of-requires c κs = search needs
@@ -54,7 +54,7 @@ returns c =
     let s = piece .before .before .before .before .before .args .line .now in
     sym (
     l .inv .1 .1 .1
-    ∙ field-stop s (l .at) (piece .piece-end .result) (l .inv .0) (piece .piece-end .ensures) (number .before .before .if1 .taken) (number .number-of .ensures) (c .before .if2 .taken)
+    ∙ field-stop s (l .at) (piece .piece-end .result) (l .inv .0) (piece .piece-end .ensures .0 (piece .before .loop-test .taken)) (number .before .before .if1 .taken) (number .number-of .ensures) (c .before .if2 .taken)
     ∙ sym (c .refused .ensures)
     )
 
@@ -66,10 +66,10 @@ and-number-requires c κs =
     omega (arith, e, l .inv .1 .1 .0, piece .before .loop-test .taken)
 
 add-at : tie.Need-add-at Inv-loop μ-loop
-add-at c = omega (arith, c .before .piece-end .ensures .within)
+add-at c = omega (arith, c .before .piece-end .ensures .0 (c .before .before .loop-test .taken) .within)
 
 loop-less : tie.Need-loop-less Inv-loop μ-loop
-loop-less c = omega (arith, c .before .piece-end .ensures .after)
+loop-less c = omega (arith, c .before .piece-end .ensures .0 (c .before .before .loop-test .taken) .after)
 
 loop-again : tie.Need-loop-again Inv-loop μ-loop
 loop-again c =
@@ -87,8 +87,8 @@ loop-again c =
       (
         w .6 ∙ w .5 .ensures ns (k .0),
         (
-          omega (arith, length-append ns (x ∷ []), k .1 .0, piece .piece-end .ensures .after),
-          k .1 .1 ∙ field-more s (l .at) e ns (piece .piece-end .ensures) (w .0 .taken) (v .ensures) (w .4 .left),
+          omega (arith, length-append ns (x ∷ []), k .1 .0, piece .piece-end .ensures .0 (piece .before .loop-test .taken) .after),
+          k .1 .1 ∙ field-more s (l .at) e ns (piece .piece-end .ensures .0 (piece .before .loop-test .taken)) (w .0 .taken) (v .ensures) (w .4 .left),
         ),
       ),
     ))
@@ -96,7 +96,7 @@ loop-again c =
       ns,
       (
         w .1 ∙ k .0,
-        (omega (arith, k .1 .0, piece .piece-end .ensures .after), k .1 .1 ∙ ap (numbersWith ns) (fields-none s (l .at) e (piece .piece-end .ensures) (w .0 .left))),
+        (omega (arith, k .1 .0, piece .piece-end .ensures .0 (piece .before .loop-test .taken) .after), k .1 .1 ∙ ap (numbersWith ns) (fields-none s (l .at) e (piece .piece-end .ensures .0 (piece .before .loop-test .taken)) (w .0 .left))),
       ),
     ))
     (c .if1 .came)

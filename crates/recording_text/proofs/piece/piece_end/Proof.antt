@@ -1,7 +1,7 @@
--- `recording_text::piece::piece_end` meets its contract. The loop's invariant: no separator stands before i. The measure is what is left of the bytes.
+-- `recording_text::piece::piece_end` meets its contract. The loop's invariant: no separator stands between the place and i; past the end i is the place. The measure is what is left of the bytes.
 -- Assumes nothing.
-use mathlib.Core.Path.{sym, _∙_}
-use Prim.Native.Nat.{_-_}
+use mathlib.Core.Path.{_≡_, refl, sym, _∙_}
+use Prim.Native.Nat.{_-_, _≤_, _<_}
 use native.Mathlib.Omega.{arith}
 use lib.ListN.{length}
 use Rattle.recording_text.specs.Pieces.{separator}
@@ -11,13 +11,15 @@ use Rattle.recording_text.proofs.piece.piece_end.Statement.{statement}
 use Rattle.recording_text.proofs.piece.piece_end.Tie as tie
 
 abbrev Inv-loop : tie.InvT-loop
-Inv-loop s at inner i₀ i = Walked (separator inner) s at i
+Inv-loop s at inner i₀ i = (at < length s → Walked (separator inner) s at i) × (length s ≤ at → i ≡ at)
 
 abbrev μ-loop : tie.MeasureT-loop
 μ-loop s at inner i₀ i = length s - i
 
 loop-holds : tie.Need-loop-holds Inv-loop μ-loop
-loop-holds c = walked-none (separator (c .before .args .inner)) (c .before .args .s .now) (c .before .args .at) (omega arith)
+loop-holds c =
+    let a = c .before .args in
+    (λ h. walked-none (separator (a .inner)) (a .s .now) (a .at) (omega arith), λ h. refl)
 
 shared-slice-read-separates : tie.Need-shared-slice-read-separates Inv-loop μ-loop
 shared-slice-read-separates c = search needs
@@ -30,7 +32,7 @@ returns c =
     let at-loop = c .before .before .before .before in
     let l = at-loop .loop in
     let a = at-loop .before .before .args in
-    ends-at (separator (a .inner)) (a .s .now) (a .at) (l .i) (l .inv) (omega arith) (sym (c .before .separates .ensures) ∙ c .if1 .taken)
+    (λ h. ends-at (separator (a .inner)) (a .s .now) (a .at) (l .i) (l .inv .0 h) (omega arith) (sym (c .before .separates .ensures) ∙ c .if1 .taken), l .inv .1)
 
 add-i : tie.Need-add-i Inv-loop μ-loop
 add-i c = search needs
@@ -42,14 +44,16 @@ loop-again : tie.Need-loop-again Inv-loop μ-loop
 loop-again c =
     let at-loop = c .before .before .before .before in
     let l = at-loop .loop in
-    let a = at-loop .before .before .args in
-    walked-on (separator (a .inner)) (a .s .now) (a .at) (l .i) (l .inv) (omega arith) (sym (c .before .separates .ensures) ∙ c .if1 .left)
+    let a = at-loop .before .before .args in (
+      λ h. walked-on (separator (a .inner)) (a .s .now) (a .at) (l .i) (l .inv .0 h) (omega arith) (sym (c .before .separates .ensures) ∙ c .if1 .left),
+      λ h. absurd (omega (arith, l .inv .1 h)),
+    )
 
 returns-2 : tie.Need-returns-2 Inv-loop μ-loop
 returns-2 c =
     let l = c .before .loop in
     let a = c .before .before .before .args in
-    ends-end (separator (a .inner)) (a .s .now) (a .at) (l .i) (l .inv) (omega arith) (omega arith)
+    (λ h. ends-end (separator (a .inner)) (a .s .now) (a .at) (l .i) (l .inv .0 h) h (omega arith), l .inv .1)
 
 pub piece-end-spec : {M : Type 1} → statement M
 piece-end-spec =

@@ -24,13 +24,13 @@ piece-end-requires : tie.Need-piece-end-requires Inv-loop μ-loop
 piece-end-requires c κs = search needs
 
 sub-line-says : tie.Need-sub-line-says Inv-loop μ-loop
-sub-line-says c = search needs
+sub-line-says c = omega (arith, c .piece-end .ensures .0 (c .before .loop-test .taken) .after)
 
 part-line-says-start : tie.Need-part-line-says-start Inv-loop μ-loop
-part-line-says-start c = search needs
+part-line-says-start c = c .piece-end .ensures .0 (c .before .loop-test .taken) .after
 
 part-line-says-end : tie.Need-part-line-says-end Inv-loop μ-loop
-part-line-says-end c = search needs
+part-line-says-end c = c .piece-end .ensures .0 (c .before .loop-test .taken) .within
 
 line-says-requires : tie.Need-line-says-requires Inv-loop μ-loop
 line-says-requires c κs = search needs
@@ -42,10 +42,10 @@ left-requires : tie.Need-left-requires Inv-loop μ-loop
 left-requires c κs = search needs
 
 add-at : tie.Need-add-at Inv-loop μ-loop
-add-at c = omega (arith, c .before .before .before .before .piece-end .ensures .within)
+add-at c = omega (arith, c .before .before .before .before .piece-end .ensures .0 (c .before .before .before .before .before .loop-test .taken) .within)
 
 loop-less : tie.Need-loop-less Inv-loop μ-loop
-loop-less c = omega (arith, c .before .before .before .before .piece-end .ensures .after, c .before .before .before .before .before .loop-test .taken)
+loop-less c = omega (arith, c .before .before .before .before .piece-end .ensures .0 (c .before .before .before .before .before .loop-test .taken) .after, c .before .before .before .before .before .loop-test .taken)
 
 loop-again : tie.Need-loop-again Inv-loop μ-loop
 loop-again c =
@@ -58,7 +58,7 @@ loop-again c =
     (a .text .now)
     (l .at)
     (piece .piece-end .result)
-    (piece .piece-end .ensures)
+    (piece .piece-end .ensures .0 (piece .before .loop-test .taken))
     (said .line-says .result)
     (said .line-says .ensures .0)
     (a .sort)

@@ -25,13 +25,13 @@ piece-end-requires : tie.Need-piece-end-requires Inv-loop μ-loop
 piece-end-requires c κs = search needs
 
 sub-line-says : tie.Need-sub-line-says Inv-loop μ-loop
-sub-line-says c = search needs
+sub-line-says c = omega (arith, c .piece-end .ensures .0 (c .before .loop-test .taken) .after)
 
 part-line-says-start : tie.Need-part-line-says-start Inv-loop μ-loop
-part-line-says-start c = search needs
+part-line-says-start c = c .piece-end .ensures .0 (c .before .loop-test .taken) .after
 
 part-line-says-end : tie.Need-part-line-says-end Inv-loop μ-loop
-part-line-says-end c = search needs
+part-line-says-end c = c .piece-end .ensures .0 (c .before .loop-test .taken) .within
 
 line-says-requires : tie.Need-line-says-requires Inv-loop μ-loop
 line-says-requires c κs = search needs
@@ -52,7 +52,7 @@ returns c =
     (a .text .now)
     (l .at)
     (piece .piece-end .result)
-    (piece .piece-end .ensures)
+    (piece .piece-end .ensures .0 (piece .before .loop-test .taken))
     (said .line-says .result)
     (said .line-says .ensures .0)
     (a .sort)
@@ -72,10 +72,10 @@ add-line : tie.Need-add-line Inv-loop μ-loop
 add-line c = omega (arith, c .before .before .before .before .before .before .before .loop-test .taken, c .before .before .before .before .before .before .before .before .loop .inv .0)
 
 add-at : tie.Need-add-at Inv-loop μ-loop
-add-at c = omega (arith, c .before .before .before .before .before .before .piece-end .ensures .within)
+add-at c = omega (arith, c .before .before .before .before .before .before .piece-end .ensures .0 (c .before .before .before .before .before .before .before .loop-test .taken) .within)
 
 loop-less : tie.Need-loop-less Inv-loop μ-loop
-loop-less c = omega (arith, c .before .before .before .before .before .before .piece-end .ensures .after, c .before .before .before .before .before .before .before .loop-test .taken)
+loop-less c = omega (arith, c .before .before .before .before .before .before .piece-end .ensures .0 (c .before .before .before .before .before .before .before .loop-test .taken) .after, c .before .before .before .before .before .before .before .loop-test .taken)
 
 loop-again : tie.Need-loop-again Inv-loop μ-loop
 loop-again c =
@@ -84,13 +84,13 @@ loop-again c =
     let piece = said .before .before in
     let l = piece .before .before .loop in
     let a = piece .before .before .before .before .args in (
-      omega (arith, l .inv .0, piece .piece-end .ensures .after),
+      omega (arith, l .inv .0, piece .piece-end .ensures .0 (piece .before .loop-test .taken) .after),
       l .inv .1
           ∙ line-on
           (a .text .now)
           (l .at)
           (piece .piece-end .result)
-          (piece .piece-end .ensures)
+          (piece .piece-end .ensures .0 (piece .before .loop-test .taken))
           (said .line-says .result)
           (said .line-says .ensures .0)
           (a .sort)

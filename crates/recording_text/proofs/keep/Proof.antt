@@ -1,4 +1,4 @@
--- `recording_text::store::keep` meets its contract: each way out is one answer of the test.
+-- `recording_text::keep` meets its contract: each way out is one answer of the test.
 -- Assumes nothing.
 use mathlib.Core.Path.{_≡_, sym, _∙_}
 use native.Mathlib.Omega.{arith}
@@ -6,8 +6,8 @@ use borrow.Author.Tests.{not-true, not-false}
 use lib.ListN.{length}
 use Rattle.recording_text.proofs.Stores.{room-for}
 use borrow.Author.Needs.{needs}
-use Rattle.recording_text.proofs.store.keep.Statement.{statement}
-use Rattle.recording_text.proofs.store.keep.Tie as tie
+use Rattle.recording_text.proofs.keep.Statement.{statement}
+use Rattle.recording_text.proofs.keep.Tie as tie
 
 is-taken-requires : tie.Need-is-taken-requires
 is-taken-requires c κs = search needs

@@ -1,8 +1,8 @@
--- `recording_text::store::is_taken` meets its contract.
+-- `recording_text::is_taken` meets its contract.
 -- Assumes nothing.
 use borrow.Author.Needs.{needs}
-use Rattle.recording_text.proofs.store.is_taken.Statement.{statement}
-use Rattle.recording_text.proofs.store.is_taken.Tie as tie
+use Rattle.recording_text.proofs.is_taken.Statement.{statement}
+use Rattle.recording_text.proofs.is_taken.Tie as tie
 
 sort-of-requires : tie.Need-sort-of-requires
 sort-of-requires c κs = search needs

@@ -1,4 +1,4 @@
--- `recording_text::store::copy` meets its contract. The loop's invariant: the buffer is the old one with the first i of the numbers pasted in. The measure is what is left of n.
+-- `recording_text::copy` meets its contract. The loop's invariant: the buffer is the old one with the first i of the numbers pasted in. The measure is what is left of n.
 -- Assumes nothing.
 use mathlib.Core.Path.{_≡_, refl, ap, _∙_}
 use Prim.Native.Nat.{_≤_, _-_}
@@ -7,8 +7,8 @@ use borrow.Author.Needs.{needs}
 use lib.ListN.{length, length-set}
 use lib.Seq.{paste, paste-zero}
 use Rattle.recording_text.proofs.Stores.{copy-turn}
-use Rattle.recording_text.proofs.store.copy.Statement.{statement}
-use Rattle.recording_text.proofs.store.copy.Tie as tie
+use Rattle.recording_text.proofs.copy.Statement.{statement}
+use Rattle.recording_text.proofs.copy.Tie as tie
 
 abbrev Inv-loop : tie.InvT-loop
 Inv-loop numbers n out₀ at i₀ out i = (i ≤ n) × ((length out ≡ length out₀) × (out ≡ paste out₀ at numbers i))
