@@ -39,16 +39,19 @@ stored k most ls = joined (take most (recordsOf k ls))
 unfoldable pub over : List ℕ → List ℕ → List ℕ
 over ns old = ns ++ drop (length ns) old
 
--- what is stored of a text: 17 tasks, 33 links, 10001 events, of the lines before the first that cannot be read
+-- the first so many records of one sort in a text, of the lines before the first that cannot be read
 abbrev pub storedOf : ℕ → ℕ → List ℕ → List ℕ
 storedOf k most text = stored k most (readable (lines text))
 
+-- what is stored of tasks: the defaults of the first 17
 abbrev pub defaultsOf : List ℕ → List ℕ
 defaultsOf text = storedOf 1 17 text
 
+-- of links: writer, reader and kind of the first 33
 abbrev pub linksOf : List ℕ → List ℕ
 linksOf text = storedOf 2 33 text
 
+-- of events: kind and numbers of the first 10001
 abbrev pub eventsOf : List ℕ → List ℕ
 eventsOf text = storedOf 3 10001 text
 
