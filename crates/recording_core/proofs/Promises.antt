@@ -28,7 +28,7 @@ use Rattle.byte_format.proofs.Sections.{section-records, faulty-records}
 use Rattle.recording_format.proofs.Recordings.{accepted-recorded, recorded-accepted}
 use Rattle.recording_format.proofs.Cuts.{recorded-cut}
 use Rattle.recording_format.proofs.WholeRecords.{cut-as-whole}
-use Rattle.recording_format.proofs.Weighed.{any-allowed}
+use Rattle.recording_format.proofs.Onward.{any-allowed}
 use Rattle.recording_core.specs.Playing.{Playing, coreOf, judgedIn, steppedIn}
 use Rattle.recording_core.specs.Promise.{past, freshTable, refusedBy, tableOf, Genuine}
 use Rattle.recording_core.specs.Right.{Right, WithTable}
