@@ -1,11 +1,14 @@
 -- Bytes put into others where they have room, and bytes put behind bytes.
 -- Assumes nothing.
 use mathlib.Core.Path.{_≡_, sym, ap, _∙_}
-use mathlib.Core.List.{List, _++_, append-assoc}
-use Prim.Native.Nat.{ℕ, _+_, _-_, _≤_, min}
+use mathlib.Core.List.{List, [], _∷_, _++_, append-assoc}
+use Prim.Native.Nat.{ℕ, _+_, _-_, _≤_, _<_, min}
+use native.Mathlib.Nat.{mod-eq-of-lt}
 use native.Mathlib.Omega.{arith}
 use lib.ListN.{length, take, drop, length-append, length-drop}
 use lib.Seq.{take-append-seam, take-length, take-at, drop-append-add, drop-drop, length-take-le}
+use Rattle.byte_format.specs.Number.{bytesOf}
+use Rattle.byte_format.proofs.Numbers.{length-bytes}
 use Rattle.lent_bytes.specs.Put.{putAt}
 
 -- bytes that have room are put whole
@@ -47,3 +50,13 @@ put-behind old x y h =
     let a : take (length x) d ≡ x = take-append-seam x (drop (length x) old) in
     let b : drop (length x + length y) d ≡ drop (length x + length y) old = drop-append-add x (drop (length x) old) (length y) ∙ drop-drop (length y) (length x) old in
     put-whole d (length x) y (omega arith) ∙ rw (a, b, length-append x y)
+
+-- one byte
+one-byte : (n : ℕ) → n < 256 → bytesOf 1 n ≡ n ∷ []
+unfolding bytesOf
+one-byte n h = rw (mod-eq-of-lt h)
+
+-- a byte put, and then a number of w bytes behind it
+pub put-byte-number :
+    (d : List ℕ) (at k w n : ℕ) {e f : List ℕ} → at + (1 + w) ≤ length d → k < 256 → e ≡ putAt d at (bytesOf 1 k) → f ≡ putAt e (at + 1) (bytesOf w n) → f ≡ putAt d at (k ∷ bytesOf w n)
+put-byte-number d at k w n h l u v = v ∙ rw (u, one-byte k l) (put-put d at (k ∷ []) (bytesOf w n) (omega (arith, length-bytes w n)))

@@ -2,10 +2,10 @@
 -- Assumes nothing.
 use mathlib.Core.Path.{_≡_, refl}
 use mathlib.Core.List.{[], _∷_}
-use Rattle.recording_text.specs.Pieces.{pieces, filled, lines, fields}
+use Rattle.recording_text.specs.Pieces.{pieces, filled}
 use Rattle.recording_text.specs.Numeral.{allDigits, valueFrom, numberFault, firstFault, values, setWith}
 use Rattle.recording_text.specs.Line.{nothing, faulty, saying, sort, recordOf, fieldsSay, says}
-use Rattle.recording_text.specs.Text.{readable, textFault, recordsOf, joined, stored, answerOf, readOf, defaultsOf, linksOf, eventsOf}
+use Rattle.recording_text.specs.Text.{readable, textFault, recordsOf, joined, stored, answerOf, readOf, eventsOf}
 use Rattle.recording_text.specs.Place.{bytesOf, allBytes, lineAfter, refusalLine, lineOf}
 
 -- `F 1 101`, blanks around it and a carriage return at its end

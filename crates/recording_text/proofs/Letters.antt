@@ -2,18 +2,17 @@
 -- Assumes nothing.
 use mathlib.Core.Path.{_≡_, refl, sym, ap, _∙_}
 use mathlib.Core.Bool.{Bool, true, false, cond}
-use mathlib.Core.List.{List, [], _∷_, _++_}
-use Prim.Native.Nat.{ℕ, zero, suc, _+_, _-_, _≤_, _<_}
+use mathlib.Core.List.{List, [], _∷_}
+use Prim.Native.Nat.{ℕ, _+_, _-_, _≤_, _<_}
 use native.Mathlib.Omega.{arith}
-use borrow.Author.Tests.{lt-ltb, le-ltb, eq-eqb, ne-eqb, ltb-false, eqb-false}
+use borrow.Author.Tests.{le-ltb, eq-eqb, ne-eqb, ltb-false, eqb-false}
 use lib.Dec.{eqb, ltb}
-use lib.ListN.{length, take, drop, getD}
+use lib.ListN.{length, drop, getD}
 use lib.Seq.{getD-take, getD-drop}
-use Rattle.recording_text.specs.declared.line.Said.{Said}
 use Rattle.recording_text.specs.declared.number.Numbers.{Numbers}
 use Rattle.recording_text.specs.Pieces.{separator, fields, between, Ends}
-use Rattle.recording_text.specs.Numeral.{firstFault, values, gathered, noNumbers, numbersWith}
-use Rattle.recording_text.specs.Line.{Says, nothing, faulty, saying, sort, recordOf, fieldsSay, saidOf, widest}
+use Rattle.recording_text.specs.Numeral.{firstFault, values, gathered, numbersWith}
+use Rattle.recording_text.specs.Line.{Says, nothing, faulty, saying, sort, recordOf, fieldsSay, widest}
 use Rattle.recording_text.proofs.Splits.{fields-some, length-between}
 
 -- lists of a known length

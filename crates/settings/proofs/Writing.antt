@@ -4,7 +4,7 @@ use mathlib.Core.Path.{_≡_, refl, sym, ap, _∙_, subst}
 use mathlib.Core.Bool.{Bool, true, false}
 use mathlib.Core.List.{List, [], _∷_, _++_, append-assoc, append-nil}
 use Prim.Native.Nat.{ℕ, zero, suc, _+_, _*_, _≤_, _<_}
-use native.Mathlib.Nat.{le-of-suc-le-suc, mod-eq-of-lt}
+use native.Mathlib.Nat.{le-of-suc-le-suc}
 use native.Mathlib.Numerals.{add-one}
 use native.Mathlib.Omega.{arith}
 use borrow.Author.Tests.{ltb-true, ltb-false}
@@ -16,7 +16,7 @@ use Rattle.byte_format.specs.Format.{encodes}
 use Rattle.byte_format.proofs.Numbers.{length-bytes}
 use Rattle.byte_format.proofs.Lengths.{length-fixed, encodes-join}
 use Rattle.lent_bytes.specs.Put.{putAt}
-use Rattle.lent_bytes.proofs.Puts.{put-whole, put-put, put-behind}
+use Rattle.lent_bytes.proofs.Puts.{put-whole, put-behind}
 use Rattle.settings.specs.declared.Setting.{Setting}
 use Rattle.settings.specs.declared.Setting.the-variants.{Count}
 use Rattle.settings.specs.declared.Slot.{Slot}
@@ -55,16 +55,6 @@ held-more ss i h e k l = go (ltb k i) refl
         let g : i ≤ k = ltb-false k i t in
         let z : i ≡ k = omega arith in
         subst (λ (j : ℕ). Held (settingAt ss j)) z e
-
--- a code byte put, and then its 8 bytes
-one-byte : (n : ℕ) → n < 256 → bytesOf 1 n ≡ n ∷ []
-unfolding bytesOf
-one-byte n h = rw (mod-eq-of-lt h)
-
-pub put-coded-bytes :
-    (d : List ℕ) (at k n : ℕ) {e f : List ℕ} → at + 9 ≤ length d → k < 256 → e ≡ putAt d at (bytesOf 1 k) → f ≡ putAt e (at + 1) (bytesOf 8 n) → f ≡ putAt d at (k ∷ bytesOf 8 n)
-put-coded-bytes d at k n h l u v =
-    v ∙ rw (u, one-byte k l) (put-put d at (k ∷ []) (bytesOf 8 n) (omega (arith, length-bytes 8 n)))
 
 -- the count and the first i entries
 pub begun : List Slot → ℕ → ℕ → List ℕ

@@ -1,8 +1,7 @@
 -- `recording_text::line::fields_say` meets its contract: each way out is one reading of the first field and the numbers behind it.
 -- Assumes nothing.
-use mathlib.Core.Path.{sym, ap, _∙_}
+use mathlib.Core.Path.{sym, _∙_}
 use mathlib.Core.Bool.{true}
-use native.Mathlib.Omega.{arith}
 use Rattle.recording_text.specs.Pieces.{separator}
 use Rattle.recording_text.specs.Line.{saidOf}
 use Rattle.recording_text.proofs.Splits.{has-byte}

@@ -2,7 +2,7 @@
 -- Assumes nothing.
 use mathlib.Core.Path.{_∙_}
 use native.Mathlib.Omega.{arith}
-use Rattle.recording_text.specs.Line.{sort, widest}
+use Rattle.recording_text.specs.Line.{sort}
 use Rattle.recording_text.proofs.Letters as letters
 use Rattle.recording_text.proofs.line.record_of.Statement.{statement}
 use Rattle.recording_text.proofs.line.record_of.Tie as tie

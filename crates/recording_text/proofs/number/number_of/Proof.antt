@@ -9,7 +9,6 @@ use borrow.Author.Tests.{leb-true, not-true, not-false}
 use lib.Dec.{leb}
 use lib.ListN.{length, drop, getD}
 use Rattle.lists.proofs.Bools.{and-left, and-right}
-use Rattle.recording_text.specs.declared.number.Number.{Number}
 use Rattle.recording_text.specs.Numeral.{isDigit, allDigits, value, valueFrom}
 use Rattle.recording_text.proofs.Numerals.{digits-on, digits-not, value-on, done, number-bad, number-large, number-good}
 use borrow.Author.Needs.{needs}

@@ -1,6 +1,6 @@
 -- `settings::write::put_coded` meets its contract: a code byte, and the 8 bytes behind it.
 -- Assumes nothing.
-use Rattle.settings.proofs.Writing.{put-coded-bytes}
+use Rattle.lent_bytes.proofs.Puts.{put-byte-number}
 use borrow.Author.Needs.{needs}
 use Rattle.settings.proofs.write.put_coded.Statement.{statement}
 use Rattle.settings.proofs.write.put_coded.Tie as tie
@@ -22,7 +22,7 @@ returns c =
     let second = c .before .before in
     let first = second .before .before .before .before in
     let a = first .before .before .before .args in
-    put-coded-bytes (a .out .now) (a .at) (a .code) (a .bits) (search needs) (search needs) (first .put-number .ensures) (second .put-number2 .ensures)
+    put-byte-number (a .out .now) (a .at) (a .code) 8 (a .bits) (search needs) (search needs) (first .put-number .ensures) (second .put-number2 .ensures)
 
 pub put-coded-spec : {M : Type 1} → statement M
 put-coded-spec =
