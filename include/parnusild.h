@@ -4,7 +4,7 @@
  * core, which works on them in place: no state is copied and nothing is kept between calls. Nothing is asked of a state, a table, a
  * recording or what is to be written: whatever they hold, an answer comes back, and a refused event leaves the state as it was lent.
  *
- * What the core takes for granted, and no proof can see: each pointer points to what its type says, and no two of one call overlap.
+ * What the core takes for granted, and no proof can see: each pointer points to what its type says, and what a call writes to overlaps nothing else that it is given.
  * So the table is not a part of the state, and `number`, the answer and the lists lie outside of it. A call writes to what it is lent
  * and to nothing else, so different threads may have calls under way on different states.
  *

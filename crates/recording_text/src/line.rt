@@ -22,7 +22,7 @@ pub struct Said {
 }
 
 // The sort of a record by its letter: a task, a link, an event, or 0.
-pub fn sort_of(letter: u8) -> u8
+pub(crate) fn sort_of(letter: u8) -> u8
     ensures { λ r. ⌜ r ≡ sort letter ⌝ }
 {
     match letter {
@@ -125,7 +125,7 @@ fn fields_say(line: &[u8], at: usize) -> Said
 }
 
 // What a line says.
-pub fn line_says(line: &[u8]) -> Said
+pub(crate) fn line_says(line: &[u8]) -> Said
     ensures answer { λ r. ⌜ saidOf r ≡ says (now (line .entry)) ⌝ }
     ensures small { λ r. ⌜ r .size ≤ widest (sort (r .letter)) ⌝ }
     ensures three { λ r. ⌜ length (r .numbers) ≡ 3 ⌝ }

@@ -131,7 +131,7 @@ fn and_number(numbers: Numbers, n: u32) -> Numbers
 }
 
 // The numbers of the fields from a place on.
-pub fn numbers_from(line: &[u8], from: usize) -> Numbers
+pub(crate) fn numbers_from(line: &[u8], from: usize) -> Numbers
     ensures { λ r. ⌜ r ≡ numbersWith [] (fields (drop from (now (line .entry)))) ⌝ }
 {
     let mut numbers = none();

@@ -5,7 +5,7 @@ ghost use lib.ListN.{length};
 ghost use Rattle.recording_text.specs.Pieces.{separator, Ends};
 
 // Whether a byte separates the fields inside a line, or lines.
-pub fn separates(inner: bool, b: u8) -> bool
+pub(crate) fn separates(inner: bool, b: u8) -> bool
     ensures { λ r. ⌜ r ≡ separator inner b ⌝ }
 {
     if inner {
@@ -15,7 +15,7 @@ pub fn separates(inner: bool, b: u8) -> bool
 }
 
 // Where the piece from a place on ends: at the next separator, or with the bytes; past their end at the place itself.
-pub fn piece_end(s: &[u8], at: usize, inner: bool) -> usize
+pub(crate) fn piece_end(s: &[u8], at: usize, inner: bool) -> usize
     ensures within { λ r. ⌜ (at < length (now (s .entry)) → Ends (separator inner) (now (s .entry)) at r) ⌝ }
     ensures past { λ r. ⌜ (length (now (s .entry)) ≤ at → r ≡ at) ⌝ }
 {

@@ -74,7 +74,7 @@ fn one_of(low: u8, high: u8, n: u8) -> bool
 }
 
 // The line of a refusal.
-pub fn refusal_line(text: &[u8], refusal: u8, place: usize) -> usize
+pub(crate) fn refusal_line(text: &[u8], refusal: u8, place: usize) -> usize
     ensures { λ r. ⌜ r ≡ lineOf (now (text .entry)) refusal place ⌝ }
 {
     if one_of(4, 9, refusal) {
