@@ -1,17 +1,11 @@
 // The recording of a text, written to standard output; or why there is none, a line on standard error.
 //
 // What a program writes no contract can say, so of the functions that write it is proved that they are safe and that they end. What the lines
-// hold is said by the contracts of the functions that put them; the text is read by `recording_text` and the recording is made by
-// `recording_write`.
+// hold is said by the contracts of the functions that put them, and which recording a text has by that of `make_recording`.
 ghost use mathlib.Core.Path.{_≡_};
 ghost use Rattle.text_line.specs.Shown.{shown, joined, Put};
 ghost use Rattle.record_printout.specs.Lines.{reason, faultLine, refusedLine, tooLongLine};
-use recording_text::EVENTS;
-use recording_text::LINKS;
-use recording_text::TASKS;
-use recording_text::line_of;
-use recording_text::read_text;
-use recording_write::write;
+use recording_make::make_recording;
 use text_line::Line;
 use text_line::ROOM;
 use text_line::show;
@@ -86,42 +80,21 @@ fn tell_too_long() {
     show_error(put_too_long(&mut room), &room);
 }
 
-// Writes the recording of these numbers to standard output, or tells which line of the text is refused.
-fn print_written(text: &[u8], defaults: &[u32], links: &[u32], events: &[u32]) {
-    let mut out = [0u8; RECORDING];
-    let written = write(defaults, links, events, &mut out);
-    if written.refusal != 0 {
-        tell_refused(
-            line_of(text, written.refusal, written.place),
-            written.refusal,
-            written.place,
-        );
-        return;
-    }
-    show(written.place, &out);
-}
-
 // Writes the recording of a text to standard output, or tells on standard error why there is none.
 pub fn print_recording(text: &[u8]) {
     if TEXT < text.len() {
         tell_too_long();
         return;
     }
-    let mut defaults = [0u32; TASKS];
-    let mut links = [0u32; LINKS];
-    let mut events = [0u32; EVENTS];
-    let read = read_text(text, &mut defaults, &mut links, &mut events);
-    if read.fault != 0 {
-        tell_fault(read.line, read.fault);
+    let mut out = [0u8; RECORDING];
+    let made = make_recording(text, &mut out);
+    if made.fault != 0 {
+        tell_fault(made.line, made.fault);
         return;
     }
-    let tasks_end = read.tasks;
-    let links_end = read.links;
-    let events_end = read.events;
-    print_written(
-        text,
-        &defaults[..tasks_end],
-        &links[..links_end],
-        &events[..events_end],
-    );
+    if made.refusal != 0 {
+        tell_refused(made.line, made.refusal, made.place);
+        return;
+    }
+    show(made.place, &out);
 }

@@ -1,0 +1,2 @@
+-- Laws that the proofs cite, and worked examples.
+pub mod Makes

@@ -1,0 +1,84 @@
+// The recording of a text, made in a lent buffer: the text is read by `recording_text`, and its numbers are lent to `recording_write`.
+ghost use mathlib.Core.Path.{_≡_};
+ghost use lib.Dec.{ltb};
+ghost use lib.ListN.{length};
+ghost use Rattle.protocol_state.specs.Saved.{base};
+ghost use Rattle.recording_format.specs.Limits.{baseLimits};
+ghost use Rattle.recording_format.specs.Words.{linksSaid, eventsSaid};
+ghost use Rattle.recording_format.specs.Writing.{writing, bufferAfter};
+ghost use Rattle.recording_core.specs.Playing.{stateCore};
+ghost use Rattle.recording_make.specs.Made.{lineTold, replied, madeOf, bufferOf};
+use recording_text::EVENTS;
+use recording_text::LINKS;
+use recording_text::TASKS;
+use recording_text::line_of;
+use recording_text::read_text;
+use recording_write::write;
+
+// What making came to: why the text cannot be read, 0 where it can; the line at fault, from 1, 0 where there is none; the writer's refusal, 0
+// for none, and its place in the recording; for no fault and no refusal, how many bytes were written.
+pub struct Made {
+    pub fault: u8,
+    pub line: usize,
+    pub refusal: u8,
+    pub place: usize,
+}
+
+// The line of a refusal of the writer, 0 for none.
+fn line_told(text: &[u8], refusal: u8, place: usize) -> usize
+    ensures { λ r. ⌜ r ≡ lineTold (now (text .entry)) refusal place ⌝ }
+{
+    if refusal == 0 {
+        return 0;
+    }
+    line_of(text, refusal, place)
+}
+
+// The recording of the numbers of a text, written at the start of a lent buffer.
+fn make_written(
+    text: &[u8],
+    defaults: &[u32],
+    links: &[u32],
+    events: &[u32],
+    out: &mut [u8],
+) -> Made
+    ensures answer { λ r. ⌜ r ≡ replied (now (text .entry)) (writing ltb baseLimits (stateCore ltb base) (now (defaults .entry)) (linksSaid (now (links .entry))) (eventsSaid (now (events .entry))) (length (now (out .entry)))) ⌝ }
+    ensures buffer { λ r. ⌜ now (out .exit) ≡ bufferAfter ltb baseLimits (stateCore ltb base) (now (defaults .entry)) (linksSaid (now (links .entry))) (eventsSaid (now (events .entry))) (now (out .entry)) ⌝ }
+{
+    let written = write(defaults, links, events, out);
+    Made {
+        fault: 0,
+        line: line_told(text, written.refusal, written.place),
+        refusal: written.refusal,
+        place: written.place,
+    }
+}
+
+// The recording of a text, made at the start of a lent buffer, which is untouched where there is none.
+pub fn make_recording(text: &[u8], out: &mut [u8]) -> Made
+    ensures answer { λ r. ⌜ r ≡ madeOf (now (text .entry)) (length (now (out .entry))) ⌝ }
+    ensures buffer { λ r. ⌜ now (out .exit) ≡ bufferOf (now (text .entry)) (now (out .entry)) ⌝ }
+{
+    let mut defaults = [0u32; TASKS];
+    let mut links = [0u32; LINKS];
+    let mut events = [0u32; EVENTS];
+    let read = read_text(text, &mut defaults, &mut links, &mut events);
+    if read.fault != 0 {
+        return Made {
+            fault: read.fault,
+            line: read.line,
+            refusal: 0,
+            place: 0,
+        };
+    }
+    let tasks_end = read.tasks;
+    let links_end = read.links;
+    let events_end = read.events;
+    make_written(
+        text,
+        &defaults[..tasks_end],
+        &links[..links_end],
+        &events[..events_end],
+        out,
+    )
+}
