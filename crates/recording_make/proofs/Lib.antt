@@ -1,2 +1,3 @@
 -- Laws that the proofs cite, and worked examples.
 pub mod Makes
+pub mod Examples

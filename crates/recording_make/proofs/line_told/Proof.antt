@@ -1,6 +1,5 @@
 -- `recording_make::line_told` meets its contract: accepted, or refused.
 -- Assumes nothing.
-use mathlib.Core.Path.{_∙_}
 use borrow.Author.Tests.{eq-eqb, ne-eqb}
 use Rattle.recording_make.specs.Made.{lineTold}
 use borrow.Author.Needs.{needs}
