@@ -3,13 +3,10 @@
 use mathlib.Core.Bool.{cond}
 use mathlib.Core.List.{List}
 use Prim.Native.Nat.{ℕ}
-use lib.Dec.{eqb, ltb}
-use Rattle.protocol_state.specs.Saved.{base, Saved}
+use lib.Dec.{eqb}
+use Rattle.protocol_state.specs.Saved.{Saved}
 use Rattle.byte_format.specs.Play.{Reply}
-use Rattle.recording_format.specs.Limits.{baseLimits}
-use Rattle.recording_format.specs.Words.{linksSaid, eventsSaid}
-use Rattle.recording_format.specs.Writing.{writing, bufferAfter}
-use Rattle.recording_core.specs.Playing.{stateCore}
+use Rattle.recording_write.specs.Answers.{replyTo, bufferTo}
 use Rattle.recording_text.specs.Text.{readOf, defaultsOf, linksOf, eventsOf}
 use Rattle.recording_text.specs.Place.{lineOf}
 use Rattle.recording_make.specs.declared.Made.{Made}
@@ -28,7 +25,7 @@ replied text x = record { fault = 0; line = lineTold text (x .refusal) (x .place
 
 -- the reply of the writer to the numbers of a text, with room for so many bytes
 abbrev pub writingOf : List ℕ → ℕ → Reply Saved
-writingOf text room = writing ltb baseLimits (stateCore ltb base) (defaultsOf text) (linksSaid (linksOf text)) (eventsSaid (eventsOf text)) room
+writingOf text room = replyTo (defaultsOf text) (linksOf text) (eventsOf text) room
 
 -- what is made of a text, with room for so many bytes: a fault of the text comes before a refusal
 unfoldable pub madeOf : List ℕ → ℕ → Made
@@ -36,7 +33,7 @@ madeOf text room = cond (eqb (readOf text .fault) 0) (replied text (writingOf te
 
 -- the buffer as the writer leaves it
 abbrev pub writtenIn : List ℕ → List ℕ → List ℕ
-writtenIn text old = bufferAfter ltb baseLimits (stateCore ltb base) (defaultsOf text) (linksSaid (linksOf text)) (eventsSaid (eventsOf text)) old
+writtenIn text old = bufferTo (defaultsOf text) (linksOf text) (eventsOf text) old
 
 -- the buffer after making: untouched where the text cannot be read
 unfoldable pub bufferOf : List ℕ → List ℕ → List ℕ

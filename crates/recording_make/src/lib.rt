@@ -1,12 +1,7 @@
 // The recording of a text, made in a lent buffer: the text is read by `recording_text`, and its numbers are lent to `recording_write`.
 ghost use mathlib.Core.Path.{_≡_};
-ghost use lib.Dec.{ltb};
 ghost use lib.ListN.{length};
-ghost use Rattle.protocol_state.specs.Saved.{base};
-ghost use Rattle.recording_format.specs.Limits.{baseLimits};
-ghost use Rattle.recording_format.specs.Words.{linksSaid, eventsSaid};
-ghost use Rattle.recording_format.specs.Writing.{writing, bufferAfter};
-ghost use Rattle.recording_core.specs.Playing.{stateCore};
+ghost use Rattle.recording_write.specs.Answers.{replyTo, bufferTo};
 ghost use Rattle.recording_make.specs.Made.{lineTold, replied, madeOf, bufferOf};
 use recording_text::EVENTS;
 use recording_text::LINKS;
@@ -42,8 +37,8 @@ fn make_written(
     events: &[u32],
     out: &mut [u8],
 ) -> Made
-    ensures answer { λ r. ⌜ r ≡ replied (now (text .entry)) (writing ltb baseLimits (stateCore ltb base) (now (defaults .entry)) (linksSaid (now (links .entry))) (eventsSaid (now (events .entry))) (length (now (out .entry)))) ⌝ }
-    ensures buffer { λ r. ⌜ now (out .exit) ≡ bufferAfter ltb baseLimits (stateCore ltb base) (now (defaults .entry)) (linksSaid (now (links .entry))) (eventsSaid (now (events .entry))) (now (out .entry)) ⌝ }
+    ensures answer { λ r. ⌜ r ≡ replied (now (text .entry)) (replyTo (now (defaults .entry)) (now (links .entry)) (now (events .entry)) (length (now (out .entry)))) ⌝ }
+    ensures buffer { λ r. ⌜ now (out .exit) ≡ bufferTo (now (defaults .entry)) (now (links .entry)) (now (events .entry)) (now (out .entry)) ⌝ }
 {
     let written = write(defaults, links, events, out);
     Made {

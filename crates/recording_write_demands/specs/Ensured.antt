@@ -6,20 +6,17 @@ use Prim.Native.Nat.{ℕ, _≤_}
 use lib.Dec.{ltb}
 use lib.ListN.{length}
 use Rattle.protocol.specs.History.{reads}
-use Rattle.protocol_state.specs.Saved.{base}
 use Rattle.recording_format.specs.Limits.{baseLimits}
 use Rattle.recording_format.specs.Words.{Words, linksSaid, eventsSaid}
-use Rattle.recording_format.specs.Writing.{writing, bufferAfter}
-use Rattle.recording_core.specs.Playing.{stateCore}
 use Rattle.recording_core.specs.Promise.{past, Genuine}
-use Rattle.recording_write.specs.Answers.{writtenOf}
+use Rattle.recording_write.specs.Answers.{replyTo, bufferTo, writtenOf}
 use Rattle.recording_write.specs.declared.Written.{Written}
 
 -- the three clauses of `recording_write::write`, for the defaults ds, the numbers lw that say links and ew that say events, and a buffer that held `old`:
 -- it answers a and leaves `new`
 pub record Ensured (ds lw ew old : List ℕ) (a : Written) (new : List ℕ) : Type 0 where
-  pub answer : a ≡ writtenOf (writing ltb baseLimits (stateCore ltb base) ds (linksSaid lw) (eventsSaid ew) (length old))
-  pub buffer : new ≡ bufferAfter ltb baseLimits (stateCore ltb base) ds (linksSaid lw) (eventsSaid ew) old
+  pub answer : a ≡ writtenOf (replyTo ds lw ew (length old))
+  pub buffer : new ≡ bufferTo ds lw ew old
   pub numbers : Words ds × Words ew
 
 -- s is the recording of these: nothing comes after the whole links and events that the numbers say, and for every lent list with room for the numbers
