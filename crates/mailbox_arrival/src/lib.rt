@@ -1,28 +1,37 @@
 // What an arrival does: the writers' part, with the phases, then the readers' part.
 ghost use mathlib.Core.Path.{_≡_};
 ghost use mathlib.Core.Bool.{_&&_};
-ghost use Prim.Native.Nat.{_≤_, _<_, min};
+ghost use Prim.Native.Nat.{ℕ, _≤_, _<_, min};
 ghost use lib.Dec.{eqb, ltb};
 ghost use Rattle.lists.specs.Lists.{upto, some};
 ghost use Rattle.protocol_state.specs.Saved.{at, base};
-ghost use Rattle.protocol.specs.Free.{holds, taken, lowestFree};
+ghost use Rattle.protocol.specs.Event.{has};
+ghost use Rattle.protocol.specs.Free.{holds, lowestFree};
 ghost use Rattle.protocol_state.specs.Next.{aimed, pointerAt};
 ghost use Rattle.mailbox_arrival.specs.Arrives.{Moves, Moved, Arrives};
 use lists::few;
 use mailbox_base::decision::ARRIVAL;
 use mailbox_base::decision::decide;
 use mailbox_base::numbers::LINKS;
-use mailbox_base::numbers::POSITIONS;
 use mailbox_base::numbers::TASKS;
 use mailbox_base::numbers::at;
 use mailbox_base::numbers::has;
 use mailbox_base::numbers::pick;
+use mailbox_free::marks::lowest_unmarked;
+use mailbox_free::marks::mark;
 
-// Whether a link with this writer, reader and pointer is one of task `t`'s to readers behind, and its pointer is `p`.
+// Whether a link with this writer and reader is one of task `t`'s to readers behind.
+fn is_behind(w: u8, r: u8, t: u8) -> bool
+    ensures { λ res. ⌜ res ≡ (eqb w t && ltb t r) ⌝ }
+{
+    (w == t) & (t < r)
+}
+
+// Whether such a link, with pointer `x`, holds position `p`.
 fn holds_at(w: u8, r: u8, x: u8, t: u8, p: u8) -> bool
     ensures { λ res. ⌜ res ≡ ((eqb w t && ltb t r) && eqb x p) ⌝ }
 {
-    (w == t) & (t < r) & (x == p)
+    is_behind(w, r, t) & (x == p)
 }
 
 // Whether one of the links holds position `p` of task `t`.
@@ -46,24 +55,28 @@ fn held(
     found
 }
 
-// Whether `p` is not free for task `t`: it is `x`, which becomes the previous, or a link holds it.
-fn is_taken(
+// The marks of the positions of task `t` that the links hold.
+fn held_marks(
     writer: &[u8; LINKS],
     reader: &[u8; LINKS],
     pointer: &[u8; LINKS],
     links: usize,
     t: u8,
-    x: u8,
-    p: u8,
-) -> bool
+) -> u16
     requires { ⌜ links ≤ base .links ⌝ }
-    ensures { λ r. ⌜ r ≡ taken ltb (at (now (writer .entry))) (at (now (reader .entry))) (at (now (pointer .entry))) links t x p ⌝ }
+    ensures { λ r. ⌜ ((p : ℕ) → p < 15 → has r p ≡ some (holds ltb (at (now (writer .entry))) (at (now (reader .entry))) (at (now (pointer .entry))) t p) links) ⌝ }
 {
-    (x == p) | held(writer, reader, pointer, links, t, p)
+    let mut marks = 0;
+    let mut l = 0;
+    while l < links {
+        marks = mark(is_behind(writer[l], reader[l], t), pointer[l]) | marks;
+        l += 1;
+    }
+    marks
 }
 
-// The lowest free position of task `t`, whose newest is `x`. In a table that keeps the rules at most nine of ten positions are taken,
-// so the last needs no test.
+// The lowest free position of task `t`, whose newest is `x`. Mostly no link holds the lowest position beside `x`, and one look at the links
+// shows it; else the table has the answer.
 fn lowest_free(
     writer: &[u8; LINKS],
     reader: &[u8; LINKS],
@@ -75,15 +88,11 @@ fn lowest_free(
     requires { ⌜ links ≤ base .links ⌝ }
     ensures { λ r. ⌜ r ≡ lowestFree ltb (at (now (writer .entry))) (at (now (reader .entry))) (at (now (pointer .entry))) links t x ⌝ }
 {
-    let mut p: u8 = 1;
-    while (p as usize) < POSITIONS {
-        if is_taken(writer, reader, pointer, links, t, x, p) {
-            p += 1;
-        } else {
-            return p;
-        }
+    let next = pick(x == 1, 2, 1);
+    if !held(writer, reader, pointer, links, t, next) {
+        return next;
     }
-    p
+    lowest_unmarked(mark(true, x) | held_marks(writer, reader, pointer, links, t))
 }
 
 // The writers' part for task `t`, where it is in the set: its newest position becomes its previous, its lowest free one its newest,

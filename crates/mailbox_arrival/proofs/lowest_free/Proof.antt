@@ -1,63 +1,50 @@
--- `mailbox_arrival::lowest_free` meets its contract: the search from p on is what is left of the search from 1.
+-- `mailbox_arrival::lowest_free` meets its contract: a position is taken where its mark is set.
 -- Assumes nothing.
-use mathlib.Core.Path.{_≡_, refl, sym, _∙_}
-use Prim.Native.Nat.{_≤_, _-_}
+use mathlib.Core.Path.{sym, ap, ap₂, _∙_}
+use mathlib.Core.Bool.{Bool, true, _||_}
+use Prim.Native.Nat.{ℕ}
 use native.Mathlib.Omega.{arith}
 use borrow.Author.Needs.{needs}
+use borrow.Author.Tests.{not-true}
 use lib.Dec.{ltb}
-use Rattle.lists.specs.Lists.{first}
-use Rattle.lists.proofs.Search.{first-on, first-here, first-end}
-use Rattle.protocol.specs.Free.{taken, lowestFree}
-use Rattle.protocol_state.specs.Saved.{at, positions}
+use Rattle.lists.specs.Lists.{some}
+use Rattle.lists.proofs.Search.{first-same}
+use Rattle.protocol.specs.Event.{has}
+use Rattle.protocol.specs.Free.{holds}
+use Rattle.protocol_state.specs.Saved.{at}
+use Rattle.mailbox_free.proofs.Marked.{has-or, has-mark}
+use Rattle.mailbox_arrival.proofs.Beside.{beside}
 use Rattle.mailbox_arrival.proofs.lowest_free.Statement.{statement}
 use Rattle.mailbox_arrival.proofs.lowest_free.Tie as tie
 
-abbrev Inv-loop : tie.InvT-loop
-Inv-loop writer reader pointer links t x p₀ p =
-    (p ≤ positions)
-    × (lowestFree ltb (at writer) (at reader) (at pointer) links t x
-    ≡ first (taken ltb (at writer) (at reader) (at pointer) links t x) (positions - p) p)
+pick-requires : tie.Need-pick-requires
+pick-requires c κs = search needs
 
-abbrev μ-loop : tie.MeasureT-loop
-μ-loop writer reader pointer links t x p₀ p = positions - p
+held-requires : tie.Need-held-requires
+held-requires c κs = search needs
 
-loop-holds : tie.Need-loop-holds Inv-loop μ-loop
-loop-holds c = (omega arith, refl)
-
-cast-loop : tie.Need-cast-loop Inv-loop μ-loop
-cast-loop c = omega arith
-
-is-taken-requires : tie.Need-is-taken-requires Inv-loop μ-loop
-is-taken-requires c κs = search needs
-
-add-p : tie.Need-add-p Inv-loop μ-loop
-add-p c = omega arith
-
-loop-less : tie.Need-loop-less Inv-loop μ-loop
-loop-less c = omega arith
-
-loop-again : tie.Need-loop-again Inv-loop μ-loop
-loop-again c =
-    (omega arith, c .before .before .before .loop .inv .1 ∙ first-on _ _ positions (omega arith) (sym (c .before .is-taken .ensures) ∙ c .if1 .taken))
-
-returns : tie.Need-returns Inv-loop μ-loop
+returns : tie.Need-returns
 returns c =
-    sym (c .before .before .before .loop .inv .1 ∙ first-here _ _ positions (omega arith) (sym (c .before .is-taken .ensures) ∙ c .if1 .left))
+    let a = c .before .before .before .args in
+    let taken : ℕ → Bool = λ (p : ℕ). some (holds ltb (at (a .writer .now)) (at (a .reader .now)) (at (a .pointer .now)) (a .t) p) (a .links) in
+    c .before .before .pick .ensures
+    ∙ beside taken (a .x) (ap taken (sym (c .before .before .pick .ensures)) ∙ sym (c .before .held .ensures) ∙ not-true _ (c .if1 .taken))
 
-returns-2 : tie.Need-returns-2 Inv-loop μ-loop
-returns-2 c = sym (c .before .loop .inv .1 ∙ first-end _ _ positions (omega arith))
+mark-requires : tie.Need-mark-requires
+mark-requires c κs = search needs
+
+held-marks-requires : tie.Need-held-marks-requires
+held-marks-requires c κs = search needs
+
+lowest-unmarked-requires : tie.Need-lowest-unmarked-requires
+lowest-unmarked-requires c κs = search needs
+
+returns-2 : tie.Need-returns-2
+returns-2 c =
+    c .lowest-unmarked .ensures
+    ∙ first-same _ _ 9 1
+    (λ p l h. has-or _ _ p
+    ∙ ap₂ _||_ (ap (λ (n : ℕ). has n p) (c .before .before .mark .ensures) ∙ has-mark true (c .before .before .before .before .before .before .args .x) p (omega arith)) (c .before .held-marks .ensures p (omega arith)))
 
 pub lowest-free-spec : {M : Type 1} → statement M
-lowest-free-spec =
-    tie.close
-    (tie.spec
-    Inv-loop
-    μ-loop
-    loop-holds
-    cast-loop
-    is-taken-requires
-    add-p
-    loop-less
-    loop-again
-    returns
-    returns-2)
+lowest-free-spec = tie.close (tie.spec pick-requires held-requires returns mark-requires held-marks-requires lowest-unmarked-requires returns-2)

@@ -1,0 +1,115 @@
+-- Words of marks: bit p of the word is the mark of position p. What a word says that is put together from others, and what the table
+-- says of its pattern.
+-- Assumes nothing.
+use mathlib.Core.Path.{_≡_, refl, sym, ap, ap₂, _∙_}
+use mathlib.Core.Bool.{Bool, true, false, cond, _&&_, _||_}
+use Prim.Native.Nat.{ℕ, zero, suc, _+_, _-_, _*_, _/_, _%_, _^_, _≤_, _<_, min}
+use native.Mathlib.Nat.{mod-lt, zero-div, one-mul, zero-mul}
+use native.Mathlib.Omega.{arith}
+use borrow.Author.Tests.{eqb-true, eqb-false, ne-eqb, leb-true, leb-false, lt-ltb}
+use lib.Bits.{bitOr, or-shr, or-mod}
+use lib.Dec.{eqb, leb, ltb}
+use lib.Pow.{field, mod-mod-pow, shl-exact, shr-shr}
+use mir.Val.{boolByte}
+use Rattle.lists.specs.Lists.{every, first}
+use Rattle.lists.proofs.Lists.{every-at}
+use Rattle.lists.proofs.Search.{first-from, first-same, first-less}
+use Rattle.protocol.specs.Event.{has}
+use Rattle.protocol_state.specs.Saved.{positions}
+use Rattle.mailbox_free.specs.Pattern.{patterns, takenIn, lowestIn}
+
+-- ---- two words in one
+or-digit : (x y : ℕ) → x < 2 → y < 2 → eqb (bitOr x y) 1 ≡ (eqb x 1 || eqb y 1)
+or-digit zero zero l h = refl
+or-digit zero (suc zero) l h = refl
+or-digit (suc zero) zero l h = refl
+or-digit (suc zero) (suc zero) l h = refl
+or-digit (suc (suc x)) y l h = absurd (omega arith)
+or-digit zero (suc (suc y)) l h = absurd (omega arith)
+or-digit (suc zero) (suc (suc y)) l h = absurd (omega arith)
+
+-- has each mark of both
+pub has-or : (a b p : ℕ) → has (bitOr a b) p ≡ (has a p || has b p)
+unfolding has
+has-or a b p =
+    ap (λ (n : ℕ). eqb n 1) (ap (λ (n : ℕ). n % 2) (or-shr a b p) ∙ or-mod (a / 2 ^ p) (b / 2 ^ p) 1)
+    ∙ or-digit (a / 2 ^ p % 2) (b / 2 ^ p % 2) (mod-lt _ (omega arith)) (mod-lt _ (omega arith))
+
+pub has-none : (p : ℕ) → has 0 p ≡ false
+unfolding has
+has-none p = ap (λ (n : ℕ). eqb (n % 2) 1) (zero-div (2 ^ p))
+
+-- ---- one mark
+alike : Bool → Bool → Bool
+alike true b = b
+alike false true = false
+alike false false = true
+
+alike-equal : (a b : Bool) → alike a b ≡ true → a ≡ b
+unfolding alike
+alike-equal true b e = sym e
+alike-equal false true e = e
+alike-equal false false e = refl
+
+-- a word with one bit has that bit: computed, for the bits of a word
+pub has-bit : (n p : ℕ) → n < 16 → p < 16 → has (2 ^ n) p ≡ eqb n p
+unfolding has every alike
+has-bit n p l h =
+    alike-equal _ _
+    (every-at (λ j. alike (has (2 ^ n) j) (eqb n j)) 16 p
+    (every-at (λ k. every (λ j. alike (has (2 ^ k) j) (eqb k j)) 16) 16 n refl l) h)
+
+-- the mark of position x, where b says so, is at x and nowhere else; what lies past the positions shares the last bit
+pub has-mark : (b : Bool) (x p : ℕ) → p < 15 → has (cond b (2 ^ min x 15) 0) p ≡ (b && eqb x p)
+has-mark false x p l = has-none p
+has-mark true x p l = go (leb x 15) refl where
+  go : (b : Bool) → leb x 15 ≡ b → has (2 ^ min x 15) p ≡ eqb x p
+  go true e =
+      let h : x ≤ 15 = leb-true _ _ e in
+      let s : min x 15 ≡ x = omega arith in
+      rw s (has-bit x p (omega arith) (omega arith))
+  go false e =
+      let h : 15 < x = leb-false _ _ e in
+      let s : min x 15 ≡ 15 = omega arith in
+      rw s (has-bit 15 p (omega arith) (omega arith) ∙ ne-eqb _ _ (λ (q : 15 ≡ p). omega arith) ∙ sym (ne-eqb _ _ (λ (q : x ≡ p). omega arith)))
+
+-- ---- from marks to the pattern: bit p is bit p - 1
+has-pattern : (a p : ℕ) → 1 ≤ p → p ≤ positions → takenIn (a / 2 % patterns) p ≡ has a p
+unfolding has
+has-pattern a p l h =
+    let ten : positions ≡ ((positions - p) + 1) + (p - 1) = omega arith in
+    let one : 1 + (p - 1) ≡ p = omega arith in
+    ap (λ (n : ℕ). eqb n 1)
+    (ap (λ (n : ℕ). a / 2 % 2 ^ n / 2 ^ (p - 1) % 2) ten
+    ∙ ap (λ (n : ℕ). n % 2) (field (a / 2) ((positions - p) + 1) (p - 1))
+    ∙ mod-mod-pow (a / 2 / 2 ^ (p - 1)) (positions - p) 1
+    ∙ ap (λ (n : ℕ). n % 2) (shr-shr a 1 (p - 1))
+    ∙ ap (λ (n : ℕ). a / 2 ^ n % 2) one)
+
+-- ---- the search
+-- the table's answer to the pattern, the tenth in place of none, is the lowest without a mark, the tenth untested
+unmarked : (a : ℕ) → cond (eqb (lowestIn (a / 2 % patterns)) 0) positions (lowestIn (a / 2 % patterns)) ≡ first (has a) 9 1
+unmarked a =
+    go (leb all positions) refl ∙ sym (first-less (takenIn (a / 2 % patterns)) 9 1)
+    ∙ first-same (takenIn (a / 2 % patterns)) (has a) 9 1 (λ p l h. has-pattern a p l (omega arith)) where
+      all : ℕ
+      all = first (takenIn (a / 2 % patterns)) positions 1
+
+      go : (b : Bool) → leb all positions ≡ b → cond (eqb (cond b all 0) 0) positions (cond b all 0) ≡ min all 10
+      go true e =
+          let h : all ≤ positions = leb-true _ _ e in
+          let s : eqb all 0 ≡ false = ne-eqb _ _ (λ (z : all ≡ 0). omega (arith, first-from (takenIn (a / 2 % patterns)) positions 1)) in
+          rw s (omega arith)
+      go false e =
+          let h : positions < all = leb-false _ _ e in
+          omega arith
+
+pub answered : (a r : ℕ) → r ≡ cond (ltb (a / 2 % patterns) patterns) (lowestIn (a / 2 % patterns)) 0 → cond (eqb r 0) positions r ≡ first (has a) 9 1
+answered a r e =
+    let s : r ≡ lowestIn (a / 2 % patterns) = e ∙ rw (lt-ltb (a / 2 % patterns) patterns (mod-lt (a / 2) (omega arith))) in
+    rw s (unmarked a)
+
+-- ---- a mark as the code makes it: 1 or 0, shifted
+pub shifted : (b : Bool) (n : ℕ) → n ≤ 15 → boolByte b * 2 ^ n % 2 ^ 16 ≡ cond b (2 ^ n) 0
+shifted true n l = shl-exact 1 n 16 (omega arith) (omega arith) ∙ one-mul (2 ^ n)
+shifted false n l = ap (λ (k : ℕ). k % 2 ^ 16) (zero-mul (2 ^ n))

@@ -1,0 +1,2 @@
+-- Patterns of taken positions.
+pub mod Pattern

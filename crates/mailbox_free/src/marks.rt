@@ -1,0 +1,38 @@
+// Marks on positions, as the bits of a word: bit `p` is the mark of position `p`.
+ghost use mathlib.Core.Path.{_≡_};
+ghost use mathlib.Core.Bool.{cond};
+ghost use Prim.Native.Nat.{_^_, min};
+ghost use Rattle.lists.specs.Lists.{first};
+ghost use Rattle.protocol.specs.Event.{has};
+use crate::table::PATTERNS;
+use crate::table::lowest_in;
+use mailbox_base::numbers::pick;
+
+// The last bit. Whatever is larger shares it, and it is no position's.
+const LAST: u8 = 15;
+
+// The last position.
+const TENTH: u8 = 10;
+
+// The bit of `p`.
+fn bit_of(p: u8) -> u8
+    ensures { λ r. ⌜ r ≡ min p 15 ⌝ }
+{
+    if p < LAST { p } else { LAST }
+}
+
+// The mark of `p`, or no mark.
+pub fn mark(b: bool, p: u8) -> u16
+    ensures { λ r. ⌜ r ≡ cond b (2 ^ min p 15) 0 ⌝ }
+{
+    (b as u16) << bit_of(p)
+}
+
+// The lowest position without a mark; the tenth where the nine before it have one, whether it has or not. Bit `p` of the marks is bit
+// `p` - 1 of the pattern.
+pub fn lowest_unmarked(marks: u16) -> u8
+    ensures { λ r. ⌜ r ≡ first (has marks) 9 1 ⌝ }
+{
+    let p = lowest_in(marks / 2 % PATTERNS);
+    pick(p == 0, TENTH, p)
+}
