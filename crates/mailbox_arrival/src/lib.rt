@@ -8,6 +8,7 @@ ghost use Rattle.protocol_state.specs.Saved.{at, base};
 ghost use Rattle.protocol.specs.Event.{has};
 ghost use Rattle.protocol.specs.Free.{holds, lowestFree};
 ghost use Rattle.protocol_state.specs.Next.{aimed, pointerAt};
+ghost use Rattle.mailbox_free.specs.Marks.{lastBit};
 ghost use Rattle.mailbox_arrival.specs.Arrives.{Moves, Moved, Arrives};
 use lists::few;
 use mailbox_base::decision::ARRIVAL;
@@ -64,7 +65,7 @@ fn held_marks(
     t: u8,
 ) -> u16
     requires { ⌜ links ≤ base .links ⌝ }
-    ensures { λ r. ⌜ ((p : ℕ) → p < 15 → has r p ≡ some (holds ltb (at (now (writer .entry))) (at (now (reader .entry))) (at (now (pointer .entry))) t p) links) ⌝ }
+    ensures { λ r. ⌜ ((p : ℕ) → p < lastBit → has r p ≡ some (holds ltb (at (now (writer .entry))) (at (now (reader .entry))) (at (now (pointer .entry))) t p) links) ⌝ }
 {
     let mut marks = 0;
     let mut l = 0;

@@ -11,7 +11,6 @@ use lib.Dec.{T, eqb, leb, ltb}
 use mir.Val.{hasKey}
 use types.Run.{OneOf, hit, miss}
 use Rattle.lists.specs.Lists.{first}
-use Rattle.protocol.specs.Event.{has}
 use Rattle.protocol_state.specs.Saved.{positions}
 use Rattle.mailbox_free.specs.Pattern.{patterns, takenIn, lowestIn}
 
@@ -44,10 +43,10 @@ listed f (suc n) i x h = go (f i) refl h (listed f n (suc i) x) where
     here false s k = later ih k
 
 -- and each that does is listed
-lists : (f : ℕ → Bool) (n i x : ℕ) → i ≤ x → x < i + n → f x ≡ true → hasKey (passing f n i) x ≡ true
+all-listed : (f : ℕ → Bool) (n i x : ℕ) → i ≤ x → x < i + n → f x ≡ true → hasKey (passing f n i) x ≡ true
 unfolding passing
-lists f zero i x l h e = absurd (omega arith)
-lists f (suc n) i x l h e = go (eqb i x) refl (λ m. lists f n (suc i) x m (omega arith) e) where
+all-listed f zero i x l h e = absurd (omega arith)
+all-listed f (suc n) i x l h e = go (eqb i x) refl (λ m. all-listed f n (suc i) x m (omega arith) e) where
   later : (b : Bool) → hasKey (passing f n (suc i)) x ≡ true → hasKey (cond b (i ∷ passing f n (suc i)) (passing f n (suc i))) x ≡ true
   later true k = rw (k, or-true (eqb i x))
   later false k = k
@@ -90,7 +89,7 @@ not-among : (v x : ℕ) → Missing v x → x < patterns → lowestIn x ≤ v �
 not-among zero x m l h = omega arith
 not-among (suc v) x m l h = go (eqb (lowestIn x) (suc v)) refl (not-among v x (m .0) l) where
   go : (b : Bool) → eqb (lowestIn x) (suc v) ≡ b → (lowestIn x ≤ v → lowestIn x ≡ 0) → lowestIn x ≡ 0
-  go true e ih = absurd (m .1 (key-is (patternsOf (suc v)) x (lists (λ k. eqb (lowestIn k) (suc v)) patterns 0 x (omega arith) l e)))
+  go true e ih = absurd (m .1 (key-is (patternsOf (suc v)) x (all-listed (λ k. eqb (lowestIn k) (suc v)) patterns 0 x (omega arith) l e)))
   go false e ih =
       let ne : lowestIn x ≡ suc v → ⊥ = eqb-false _ _ e in
       ih (omega arith)

@@ -1,12 +1,12 @@
 -- Words of marks: bit p of the word is the mark of position p. What a word says that is put together from others, and what the table
 -- says of its pattern.
 -- Assumes nothing.
-use mathlib.Core.Path.{_≡_, refl, sym, ap, ap₂, _∙_}
+use mathlib.Core.Path.{_≡_, refl, sym, ap, _∙_}
 use mathlib.Core.Bool.{Bool, true, false, cond, _&&_, _||_}
 use Prim.Native.Nat.{ℕ, zero, suc, _+_, _-_, _*_, _/_, _%_, _^_, _≤_, _<_, min}
 use native.Mathlib.Nat.{mod-lt, zero-div, one-mul, zero-mul}
 use native.Mathlib.Omega.{arith}
-use borrow.Author.Tests.{eqb-true, eqb-false, ne-eqb, leb-true, leb-false, lt-ltb}
+use borrow.Author.Tests.{ne-eqb, leb-true, leb-false, lt-ltb}
 use lib.Bits.{bitOr, or-shr, or-mod}
 use lib.Dec.{eqb, leb, ltb}
 use lib.Pow.{field, mod-mod-pow, shl-exact, shr-shr}
@@ -16,6 +16,7 @@ use Rattle.lists.proofs.Lists.{every-at}
 use Rattle.lists.proofs.Search.{first-from, first-same, first-less}
 use Rattle.protocol.specs.Event.{has}
 use Rattle.protocol_state.specs.Saved.{positions}
+use Rattle.mailbox_free.specs.Marks.{lastBit, markOf}
 use Rattle.mailbox_free.specs.Pattern.{patterns, takenIn, lowestIn}
 
 -- ---- two words in one
@@ -60,18 +61,18 @@ has-bit n p l h =
     (every-at (λ k. every (λ j. alike (has (2 ^ k) j) (eqb k j)) 16) 16 n refl l) h)
 
 -- the mark of position x, where b says so, is at x and nowhere else; what lies past the positions shares the last bit
-pub has-mark : (b : Bool) (x p : ℕ) → p < 15 → has (cond b (2 ^ min x 15) 0) p ≡ (b && eqb x p)
+pub has-mark : (b : Bool) (x p : ℕ) → p < lastBit → has (cond b (markOf x) 0) p ≡ (b && eqb x p)
 has-mark false x p l = has-none p
-has-mark true x p l = go (leb x 15) refl where
-  go : (b : Bool) → leb x 15 ≡ b → has (2 ^ min x 15) p ≡ eqb x p
+has-mark true x p l = go (leb x lastBit) refl where
+  go : (b : Bool) → leb x lastBit ≡ b → has (markOf x) p ≡ eqb x p
   go true e =
-      let h : x ≤ 15 = leb-true _ _ e in
-      let s : min x 15 ≡ x = omega arith in
+      let h : x ≤ lastBit = leb-true _ _ e in
+      let s : min x lastBit ≡ x = omega arith in
       rw s (has-bit x p (omega arith) (omega arith))
   go false e =
-      let h : 15 < x = leb-false _ _ e in
-      let s : min x 15 ≡ 15 = omega arith in
-      rw s (has-bit 15 p (omega arith) (omega arith) ∙ ne-eqb _ _ (λ (q : 15 ≡ p). omega arith) ∙ sym (ne-eqb _ _ (λ (q : x ≡ p). omega arith)))
+      let h : lastBit < x = leb-false _ _ e in
+      let s : min x lastBit ≡ lastBit = omega arith in
+      rw s (has-bit lastBit p (omega arith) (omega arith) ∙ ne-eqb _ _ (λ (q : lastBit ≡ p). omega arith) ∙ sym (ne-eqb _ _ (λ (q : x ≡ p). omega arith)))
 
 -- ---- from marks to the pattern: bit p is bit p - 1
 has-pattern : (a p : ℕ) → 1 ≤ p → p ≤ positions → takenIn (a / 2 % patterns) p ≡ has a p
@@ -104,12 +105,13 @@ unmarked a =
           let h : positions < all = leb-false _ _ e in
           omega arith
 
+-- what the code answers with, of what the table answered
 pub answered : (a r : ℕ) → r ≡ cond (ltb (a / 2 % patterns) patterns) (lowestIn (a / 2 % patterns)) 0 → cond (eqb r 0) positions r ≡ first (has a) 9 1
 answered a r e =
     let s : r ≡ lowestIn (a / 2 % patterns) = e ∙ rw (lt-ltb (a / 2 % patterns) patterns (mod-lt (a / 2) (omega arith))) in
     rw s (unmarked a)
 
 -- ---- a mark as the code makes it: 1 or 0, shifted
-pub shifted : (b : Bool) (n : ℕ) → n ≤ 15 → boolByte b * 2 ^ n % 2 ^ 16 ≡ cond b (2 ^ n) 0
+pub shifted : (b : Bool) (n : ℕ) → n ≤ lastBit → boolByte b * 2 ^ n % 2 ^ 16 ≡ cond b (2 ^ n) 0
 shifted true n l = shl-exact 1 n 16 (omega arith) (omega arith) ∙ one-mul (2 ^ n)
 shifted false n l = ap (λ (k : ℕ). k % 2 ^ 16) (zero-mul (2 ^ n))

@@ -1,2 +1,3 @@
--- Patterns of taken positions.
+-- Patterns of taken positions, and marks on positions.
+pub mod Marks
 pub mod Pattern

@@ -1,7 +1,8 @@
 -- Patterns of taken positions, as a number: bit p - 1 says whether position p is taken.
 -- Assumes nothing.
-use mathlib.Core.Bool.{Bool, cond}
-use Prim.Native.Nat.{ℕ, _-_, _^_}
+use mathlib.Core.Path.{_≡_}
+use mathlib.Core.Bool.{Bool, true, false, cond}
+use Prim.Native.Nat.{ℕ, _-_, _^_, _≤_, _<_}
 use lib.Dec.{leb}
 use Rattle.lists.specs.Lists.{first}
 use Rattle.protocol.specs.Event.{has}
@@ -22,3 +23,14 @@ orNone p = cond (leb p positions) p 0
 -- the lowest position that is not taken, 0 where all ten are
 abbrev pub lowestIn : ℕ → ℕ
 lowestIn k = orNone (first (takenIn k) positions 1)
+
+-- every position before p is taken
+abbrev pub TakenBefore : ℕ → ℕ → Type 0
+TakenBefore k p = (q : ℕ) → 1 ≤ q → q < p → takenIn k q ≡ true
+
+-- p is the lowest position of the ten that pattern k leaves free: what an entry other than 0 says (`lowest-says`)
+pub record LeftFree (k p : ℕ) : Type 0 where
+  pub from : 1 ≤ p
+  pub upto : p ≤ positions
+  pub free : takenIn k p ≡ false
+  pub before : TakenBefore k p

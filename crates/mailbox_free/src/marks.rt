@@ -1,9 +1,10 @@
 // Marks on positions, as the bits of a word: bit `p` is the mark of position `p`.
 ghost use mathlib.Core.Path.{_≡_};
 ghost use mathlib.Core.Bool.{cond};
-ghost use Prim.Native.Nat.{_^_, min};
+ghost use Prim.Native.Nat.{min};
 ghost use Rattle.lists.specs.Lists.{first};
 ghost use Rattle.protocol.specs.Event.{has};
+ghost use Rattle.mailbox_free.specs.Marks.{lastBit, markOf};
 use crate::table::PATTERNS;
 use crate::table::lowest_in;
 use mailbox_base::numbers::pick;
@@ -16,14 +17,14 @@ const TENTH: u8 = 10;
 
 // The bit of `p`.
 fn bit_of(p: u8) -> u8
-    ensures { λ r. ⌜ r ≡ min p 15 ⌝ }
+    ensures { λ r. ⌜ r ≡ min p lastBit ⌝ }
 {
     if p < LAST { p } else { LAST }
 }
 
 // The mark of `p`, or no mark.
 pub fn mark(b: bool, p: u8) -> u16
-    ensures { λ r. ⌜ r ≡ cond b (2 ^ min p 15) 0 ⌝ }
+    ensures { λ r. ⌜ r ≡ cond b (markOf p) 0 ⌝ }
 {
     (b as u16) << bit_of(p)
 }

@@ -11,13 +11,14 @@ use Rattle.lists.proofs.Lists.{some-none, some-more, some-end}
 use Rattle.protocol.specs.Event.{has}
 use Rattle.protocol.specs.Free.{holds}
 use Rattle.protocol_state.specs.Saved.{at}
+use Rattle.mailbox_free.specs.Marks.{lastBit}
 use Rattle.mailbox_free.proofs.Marked.{has-none, has-or, has-mark}
 use Rattle.mailbox_arrival.proofs.held_marks.Statement.{statement}
 use Rattle.mailbox_arrival.proofs.held_marks.Tie as tie
 
 abbrev Inv-loop : tie.InvT-loop
 Inv-loop writer reader pointer links t marks₀ l₀ marks l =
-    (l ≤ links) × ((p : ℕ) → p < 15 → has marks p ≡ some (holds ltb (at writer) (at reader) (at pointer) t p) l)
+    (l ≤ links) × ((p : ℕ) → p < lastBit → has marks p ≡ some (holds ltb (at writer) (at reader) (at pointer) t p) l)
 
 abbrev μ-loop : tie.MeasureT-loop
 μ-loop writer reader pointer links t marks₀ l₀ marks l = links - l

@@ -3,6 +3,7 @@
 use Prim.Native.Nat.{min}
 use native.Mathlib.Omega.{arith}
 use borrow.Author.Needs.{needs}
+use Rattle.mailbox_free.specs.Marks.{lastBit}
 use Rattle.mailbox_free.proofs.Marked.{shifted}
 use Rattle.mailbox_free.proofs.marks.mark.Statement.{statement}
 use Rattle.mailbox_free.proofs.marks.mark.Tie as tie
@@ -22,7 +23,7 @@ shl-result c = search needs
 returns : tie.Need-returns
 returns c =
     let e = c .bit-of .ensures in
-    rw e (shifted (c .before .args .b) (min (c .before .args .p) 15) (omega arith))
+    rw e (shifted (c .before .args .b) (min (c .before .args .p) lastBit) (omega arith))
 
 pub mark-spec : {M : Type 1} → statement M
 mark-spec = tie.close (tie.spec cast-result bit-of-requires cast-result-2 shl-result returns)

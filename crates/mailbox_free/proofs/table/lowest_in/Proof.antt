@@ -1,6 +1,5 @@
 -- `mailbox_free::table::lowest_in` meets its contract: beside each position the test is computed; what is left stands nowhere.
 -- Assumes nothing.
-use lib.Dec.{T}
 use Rattle.lists.specs.Lists.{first}
 use Rattle.protocol.specs.Event.{has}
 use Rattle.mailbox_free.proofs.Entries.{passing, entry, nowhere}
