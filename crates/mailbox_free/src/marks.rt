@@ -7,13 +7,14 @@ ghost use Rattle.protocol.specs.Event.{has};
 ghost use Rattle.mailbox_free.specs.Marks.{lastBit, markOf};
 use crate::table::PATTERNS;
 use crate::table::lowest_in;
+use mailbox_base::numbers::POSITIONS;
 use mailbox_base::numbers::pick;
 
 // The last bit. Whatever is larger shares it, and it is no position's.
 const LAST: u8 = 15;
 
 // The last position.
-const TENTH: u8 = 10;
+const TENTH: u8 = POSITIONS as u8;
 
 // The bit of `p`.
 fn bit_of(p: u8) -> u8
