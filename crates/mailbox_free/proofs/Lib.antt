@@ -1,4 +1,4 @@
--- Laws that several proofs cite, and what an entry says.
+-- Laws that the proofs cite, and what an entry says.
 pub mod Entries
 pub mod Marked
 pub mod Rule
