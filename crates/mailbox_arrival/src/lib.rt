@@ -76,8 +76,8 @@ fn held_marks(
     marks
 }
 
-// The lowest free position of task `t`, whose newest is `x`. Mostly no link holds the lowest position beside `x`, and one look at the links
-// shows it; else the table has the answer. In a table that keeps the rules at most nine of ten positions are taken, so the tenth needs no test.
+// The lowest free position of task `t`, whose newest is `x`. Mostly no link holds the lowest position other than `x`, and one look at the
+// links shows it; else it is looked up. Where the links keep the rules at most nine of ten positions are taken, so the tenth needs no test.
 fn lowest_free(
     writer: &[u8; LINKS],
     reader: &[u8; LINKS],

@@ -1,5 +1,5 @@
--- The table's rule, at all its entries: beside each position stand exactly the patterns whose lowest free position it is. One test that is
--- computed for each position, and one law for what it says of a pattern that stands there, and of one that stands nowhere.
+-- The table's rule, at all its entries: beside each position stand exactly the patterns whose lowest free position it is. That is one test,
+-- computed for each position; `entry` turns it into the rule at each pattern, and `nowhere` has what is no pattern.
 -- Assumes nothing.
 use mathlib.Core.Path.{_≡_, refl, sym, ap, _∙_, subst}
 use mathlib.Core.Bool.{Bool, true, false, cond, not, _||_, or-true, true≢false}
@@ -101,7 +101,7 @@ lowest-most x = go (leb (first (takenIn x) positions 1) positions) refl where
   go true e = leb-true _ _ e
   go false e = omega arith
 
--- what stands nowhere: the full pattern, and what is no pattern
+-- what stands beside none of the ten positions has 0
 pub nowhere : (x : ℕ) → Missing positions x → 0 ≡ cond (ltb x patterns) (lowestIn x) 0
 nowhere x m = go (ltb x patterns) refl where
   go : (b : Bool) → ltb x patterns ≡ b → 0 ≡ cond b (lowestIn x) 0

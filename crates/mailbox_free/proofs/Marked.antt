@@ -53,7 +53,7 @@ alike-equal false true e = e
 alike-equal false false e = refl
 
 -- a word with one bit has that bit: computed, for the bits of a word
-pub has-bit : (n p : ℕ) → n < 16 → p < 16 → has (2 ^ n) p ≡ eqb n p
+has-bit : (n p : ℕ) → n < 16 → p < 16 → has (2 ^ n) p ≡ eqb n p
 unfolding has every alike
 has-bit n p l h =
     alike-equal _ _

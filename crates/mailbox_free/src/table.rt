@@ -4,12 +4,12 @@ ghost use mathlib.Core.Bool.{cond};
 ghost use lib.Dec.{ltb};
 ghost use Rattle.mailbox_free.specs.Pattern.{patterns, lowestIn};
 
-// So many patterns are there of ten positions.
-pub const PATTERNS: u16 = 1024;
+// The number of patterns of ten positions.
+pub(crate) const PATTERNS: u16 = 1024;
 
-// The lowest position that a pattern leaves free, 0 for the full one; what is no pattern has 0 too. All 1,024 patterns stand here, each beside
-// its position: of a `match` the compiler makes an array of constants that is read at once, where an array it would fill anew at each use.
-pub fn lowest_in(pattern: u16) -> u8
+// The lowest position that a pattern leaves free, 0 for the full one; what is no pattern has 0 too. All 1,024 patterns stand here, each in
+// the line of its position: the compiler turns a `match` into constants that are read with one load; an array it would fill at each use.
+pub(crate) fn lowest_in(pattern: u16) -> u8
     ensures { λ r. ⌜ r ≡ cond (ltb pattern patterns) (lowestIn pattern) 0 ⌝ }
 {
     match pattern {

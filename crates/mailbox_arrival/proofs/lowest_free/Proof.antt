@@ -1,4 +1,5 @@
--- `mailbox_arrival::lowest_free` meets its contract: a position is taken where its mark is set.
+-- `mailbox_arrival::lowest_free` meets its contract: no link holds the lowest position other than the newest, or a position is taken where
+-- its mark is set.
 -- Assumes nothing.
 use mathlib.Core.Path.{sym, ap, ap₂, _∙_}
 use mathlib.Core.Bool.{Bool, true, _||_}
@@ -13,7 +14,7 @@ use Rattle.protocol.specs.Event.{has}
 use Rattle.protocol.specs.Free.{holds}
 use Rattle.protocol_state.specs.Saved.{at}
 use Rattle.mailbox_free.proofs.Marked.{has-or, has-mark}
-use Rattle.mailbox_arrival.proofs.Beside.{beside}
+use Rattle.mailbox_arrival.proofs.Other.{other-than}
 use Rattle.mailbox_arrival.proofs.lowest_free.Statement.{statement}
 use Rattle.mailbox_arrival.proofs.lowest_free.Tie as tie
 
@@ -28,7 +29,7 @@ returns c =
     let a = c .before .before .before .args in
     let taken : ℕ → Bool = λ (p : ℕ). some (holds ltb (at (a .writer .now)) (at (a .reader .now)) (at (a .pointer .now)) (a .t) p) (a .links) in
     c .before .before .pick .ensures
-    ∙ beside taken (a .x) (ap taken (sym (c .before .before .pick .ensures)) ∙ sym (c .before .held .ensures) ∙ not-true _ (c .if1 .taken))
+    ∙ other-than taken (a .x) (ap taken (sym (c .before .before .pick .ensures)) ∙ sym (c .before .held .ensures) ∙ not-true _ (c .if1 .taken))
 
 mark-requires : tie.Need-mark-requires
 mark-requires c κs = search needs
@@ -41,10 +42,13 @@ lowest-unmarked-requires c κs = search needs
 
 returns-2 : tie.Need-returns-2
 returns-2 c =
+    let x = c .before .before .before .before .before .before .args .x in
     c .lowest-unmarked .ensures
     ∙ first-same _ _ 9 1
     (λ p l h. has-or _ _ p
-    ∙ ap₂ _||_ (ap (λ (n : ℕ). has n p) (c .before .before .mark .ensures) ∙ has-mark true (c .before .before .before .before .before .before .args .x) p (omega arith)) (c .before .held-marks .ensures p (omega arith)))
+    ∙ ap₂ _||_
+    (ap (λ (n : ℕ). has n p) (c .before .before .mark .ensures) ∙ has-mark true x p (omega arith))
+    (c .before .held-marks .ensures p (omega arith)))
 
 pub lowest-free-spec : {M : Type 1} → statement M
 lowest-free-spec = tie.close (tie.spec pick-requires held-requires returns mark-requires held-marks-requires lowest-unmarked-requires returns-2)

@@ -1,4 +1,4 @@
--- `mailbox_free::table::lowest_in` meets its contract: beside each position the test is computed; what is left stands nowhere.
+-- `mailbox_free::table::lowest_in` meets its contract: in each arm the test is computed, and the last arm has what stands in none.
 -- Assumes nothing.
 use Rattle.lists.specs.Lists.{first}
 use Rattle.protocol.specs.Event.{has}
