@@ -4,9 +4,9 @@
 use mathlib.Core.Path.{_≡_, refl, sym, ap, _∙_}
 use mathlib.Core.Bool.{Bool, true, false, cond, _&&_, _||_}
 use Prim.Native.Nat.{ℕ, zero, suc, _+_, _-_, _*_, _/_, _%_, _^_, _≤_, _<_, min}
-use native.Mathlib.Nat.{mod-lt, zero-div, one-mul, zero-mul}
+use native.Mathlib.Nat.{mod-lt, one-mul, zero-mul}
 use native.Mathlib.Omega.{arith}
-use borrow.Author.Tests.{ne-eqb, leb-true, leb-false, lt-ltb}
+use borrow.Author.Tests.{eqb-true, ne-eqb, leb-true, leb-false, lt-ltb}
 use lib.Bits.{bitOr, or-shr, or-mod}
 use lib.Dec.{eqb, leb, ltb}
 use lib.Pow.{field, mod-mod-pow, shl-exact, shr-shr}
@@ -15,6 +15,7 @@ use Rattle.lists.specs.Lists.{every, first}
 use Rattle.lists.proofs.Lists.{every-at}
 use Rattle.lists.proofs.Search.{first-from, first-same, first-less}
 use Rattle.protocol.specs.Event.{has}
+use Rattle.protocol.proofs.Schedule.{has-not}
 use Rattle.protocol_state.specs.Saved.{positions}
 use Rattle.mailbox_free.specs.Marks.{lastBit, markOf}
 use Rattle.mailbox_free.specs.Pattern.{patterns, takenIn, lowestIn}
@@ -37,28 +38,22 @@ has-or a b p =
     ∙ or-digit (a / 2 ^ p % 2) (b / 2 ^ p % 2) (mod-lt _ (omega arith)) (mod-lt _ (omega arith))
 
 pub has-none : (p : ℕ) → has 0 p ≡ false
-unfolding has
-has-none p = ap (λ (n : ℕ). eqb (n % 2) 1) (zero-div (2 ^ p))
+has-none p = has-not 0 0 p (omega arith) (omega arith)
 
 -- ---- one mark
-alike : Bool → Bool → Bool
-alike true b = b
-alike false true = false
-alike false false = true
-
-alike-equal : (a b : Bool) → alike a b ≡ true → a ≡ b
-unfolding alike
-alike-equal true b e = sym e
-alike-equal false true e = e
-alike-equal false false e = refl
+digit : (b : Bool) → eqb (cond b 1 0) 1 ≡ b
+digit true = refl
+digit false = refl
 
 -- a word with one bit has that bit: computed, for the bits of a word
 has-bit : (n p : ℕ) → n < 16 → p < 16 → has (2 ^ n) p ≡ eqb n p
-unfolding has every alike
+unfolding has every
 has-bit n p l h =
-    alike-equal _ _
-    (every-at (λ j. alike (has (2 ^ n) j) (eqb n j)) 16 p
-    (every-at (λ k. every (λ j. alike (has (2 ^ k) j) (eqb k j)) 16) 16 n refl l) h)
+    ap (λ (d : ℕ). eqb d 1)
+    (eqb-true (2 ^ n / 2 ^ p % 2) (cond (eqb n p) 1 0)
+    (every-at (λ j. eqb (2 ^ n / 2 ^ j % 2) (cond (eqb n j) 1 0)) 16 p
+    (every-at (λ k. every (λ j. eqb (2 ^ k / 2 ^ j % 2) (cond (eqb k j) 1 0)) 16) 16 n refl l) h))
+    ∙ digit (eqb n p)
 
 -- the mark of position x, where b says so, is at x and nowhere else; what lies past the positions shares the last bit
 pub has-mark : (b : Bool) (x p : ℕ) → p < lastBit → has (cond b (markOf x) 0) p ≡ (b && eqb x p)

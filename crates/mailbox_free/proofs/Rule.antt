@@ -12,6 +12,7 @@ use Rattle.lists.proofs.Search.{first-least, first-stops, first-from}
 use Rattle.protocol_state.specs.Saved.{positions}
 use Rattle.mailbox_free.specs.Pattern.{takenIn, TakenBefore, LeftFree, lowestIn}
 
+-- an entry is the lowest position that its pattern leaves free, or it is 0 and all ten are taken
 pub lowest-says : (k : ℕ) → LeftFree k (lowestIn k) ⊎ ((lowestIn k ≡ 0) × TakenBefore k (positions + 1))
 lowest-says k = go (leb stop positions) refl where
   stop : ℕ
