@@ -7,7 +7,7 @@ use Rattle.protocol_state.specs.Saved.{Saved}
 use Rattle.protocol_state.specs.Fresh as fresh
 use Rattle.mailbox.specs.States.{saved, madeOf}
 use Rattle.mailbox.specs.declared.Made.{Made}
-use Rattle.byte_format.specs.Play.{Reply}
+use Rattle.byte_format.specs.Play.{Verdict}
 use Rattle.recording_core.specs.Playing.{Playing}
 use Rattle.recording.specs.Answers.{replied}
 use Rattle.recording.specs.declared.Answer.{Answer}
@@ -20,9 +20,9 @@ made-filled {m} i f = ap (madeAs (m .refusal)) f ∙ ap (λ (x : Made). madeAs (
 module _ (s out : List ℕ) (a : Answer) {out′ : List ℕ} (i : replied a out′ ≡ replyTo s out) where
   pub replay-filled : {q : Saved} → q ≡ saved (a .state) → Replayed s out (a .refusal) (a .place) (countsIn (replied a out′ .state .counts)) q out′
   replay-filled f = record {
-    refusal = ap (λ (x : Reply Playing). x .refusal) i;
-    place = ap (λ (x : Reply Playing). x .place) i;
-    counts = ap (λ (x : Reply Playing). countsIn (x .state .counts)) i;
-    state = f ∙ ap (λ (x : Reply Playing). x .state .state) i;
-    list = ap (λ (x : Reply Playing). x .state .list) i;
+    refusal = ap (λ (x : Verdict Playing). x .refusal) i;
+    place = ap (λ (x : Verdict Playing). x .place) i;
+    counts = ap (λ (x : Verdict Playing). countsIn (x .state .counts)) i;
+    state = f ∙ ap (λ (x : Verdict Playing). x .state .state) i;
+    list = ap (λ (x : Verdict Playing). x .state .list) i;
   }

@@ -17,9 +17,9 @@ use Rattle.protocol_state.specs.Give.{reply}
 use Rattle.protocol_state.proofs.Give.{unsound, refused, give-unsound}
 use Rattle.mailbox_parts.specs.Becomes.{savedOf}
 use Rattle.mailbox_parts.specs.declared.event.Event.{Event}
-use Rattle.mailbox_give.specs.Given.{Given}
+use Rattle.mailbox_give.specs.GivenParts.{GivenParts}
 use Rattle.exports.specs.Calls.{Call, known, unknown, called, answered}
-use Rattle.exports.specs.Replies.{heard, numberOf, Answered}
+use Rattle.exports.specs.Replies.{heard, askedNumber, CallAnswered}
 use Rattle.exports.specs.declared.call.Asked.{Asked}
 use Rattle.exports.specs.declared.call.Asked.the-variants as asked
 use Rattle.exports.proofs.call.Asked as A
@@ -30,7 +30,7 @@ never q (known e) s = give-unsound ltb base q e s
 never q unknown s = unsound 11 q q 0 s
 
 -- what is no event is answered by its number
-none : (q : Saved) (a : Asked) → isSound ltb base q ≡ true → OneOf (1 ∷ 2 ∷ []) (tagOf A.the-type a) → heard q a ≡ reply q (numberOf a) 0
+none : (q : Saved) (a : Asked) → isSound ltb base q ≡ true → OneOf (1 ∷ 2 ∷ []) (tagOf A.the-type a) → heard q a ≡ reply q (askedNumber a) 0
 none q (asked.Known e) s o = ⊎-elim (λ (u : _≡_ {A = ℕ} 0 1). absurd (omega arith)) (λ (u : _≡_ {A = ℕ} 0 2). absurd (omega arith)) o
 none q asked.Outside s o = refused 12 q q 0 s (λ z. omega arith)
 none q asked.Unknown s o = refused 11 q q 0 s (λ z. omega arith)
@@ -38,16 +38,16 @@ none q asked.Unknown s o = refused 11 q q 0 s (λ z. omega arith)
 -- the parts that are lent, whatever the defaults are
 module _ {T L : ℕ} {W R K ph n p C x : List ℕ} where
   module _ {kind which value : ℕ} where
-    pub answered-unsound : {b : Bool} → b ≡ isSound ltb base (savedOf T L [] ph n p C W R K x) → not b ≡ true → Answered kind which value T L W R K ph n p C x ph n p C x 19 0
+    pub answered-unsound : {b : Bool} → b ≡ isSound ltb base (savedOf T L [] ph n p C W R K x) → not b ≡ true → CallAnswered kind which value T L W R K ph n p C x ph n p C x 19 0
     answered-unsound {b} test h = record { call = λ D. sym (never (savedOf T L D ph n p C W R K x) (called kind which value) (sym test ∙ not-true b h)) }
 
     module _ (a : Asked) (says : (q : Saved) → heard q a ≡ answered q (called kind which value)) where
       pub answered-none :
-          {b : Bool} {r : ℕ} → b ≡ isSound ltb base (savedOf T L [] ph n p C W R K x) → not b ≡ false → OneOf (1 ∷ 2 ∷ []) (tagOf A.the-type a) → r ≡ numberOf a →
-          Answered kind which value T L W R K ph n p C x ph n p C x r 0
+          {b : Bool} {r : ℕ} → b ≡ isSound ltb base (savedOf T L [] ph n p C W R K x) → not b ≡ false → OneOf (1 ∷ 2 ∷ []) (tagOf A.the-type a) → r ≡ askedNumber a →
+          CallAnswered kind which value T L W R K ph n p C x ph n p C x r 0
       answered-none test h o i = record { call = λ D. rw i (sym (none (savedOf T L D ph n p C W R K x) a (passed test h) o) ∙ says (savedOf T L D ph n p C W R K x)) }
 
       pub answered-event :
-          {e : Event} {ph′ n′ p′ C′ x′ : List ℕ} {r v : ℕ} → a ≡ asked.Known e → Given e T L W R K ph n p C x ph′ n′ p′ C′ x′ r v →
-          Answered kind which value T L W R K ph n p C x ph′ n′ p′ C′ x′ r v
+          {e : Event} {ph′ n′ p′ C′ x′ : List ℕ} {r v : ℕ} → a ≡ asked.Known e → GivenParts e T L W R K ph n p C x ph′ n′ p′ C′ x′ r v →
+          CallAnswered kind which value T L W R K ph n p C x ph′ n′ p′ C′ x′ r v
       answered-event g d = record { call = λ D. d .event D ∙ ap (heard (savedOf T L D ph n p C W R K x)) (sym g) ∙ says (savedOf T L D ph n p C W R K x) }

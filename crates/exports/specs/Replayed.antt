@@ -7,12 +7,12 @@ use lib.Dec.{ltb}
 use Rattle.protocol.specs.History.{Counts}
 use Rattle.protocol_state.specs.Saved.{Saved, base}
 use Rattle.recording_format.specs.Limits.{baseLimits}
-use Rattle.byte_format.specs.Play.{Reply}
+use Rattle.byte_format.specs.Play.{Verdict}
 use Rattle.recording_format.specs.Recording.{recording}
 use Rattle.recording_core.specs.Playing.{Playing, coreOf}
 
 -- the recording's reply to the bytes s, with the lent list `out`
-abbrev pub replyTo : List ℕ → List ℕ → Reply Playing
+abbrev pub replyTo : List ℕ → List ℕ → Verdict Playing
 replyTo s out = recording ltb baseLimits (coreOf ltb base out) s
 
 -- the four counts in their order

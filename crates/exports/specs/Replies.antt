@@ -23,15 +23,15 @@ heard q Outside = settled (isSound ltb base q) 12 q q 0
 heard q Unknown = settled (isSound ltb base q) 11 q q 0
 
 -- the refusal of what is no event
-abbrev pub numberOf : Asked → ℕ
-numberOf (Known e) = 0
-numberOf Outside = 12
-numberOf Unknown = 11
+abbrev pub askedNumber : Asked → ℕ
+askedNumber (Known e) = 0
+askedNumber Outside = 12
+askedNumber Unknown = 11
 
 -- what a table makes, from its parts
 abbrev pub madeAs : ℕ → Saved → Made
 madeAs r q = record { refusal = r; state = q }
 
 -- the parts after, the refusal r and the number v are those of the reply to a call by kind, which and value, whatever the defaults are
-pub record Answered (kind which value T L : ℕ) (W R K ph n p C x ph′ n′ p′ C′ x′ : List ℕ) (r v : ℕ) : Type 0 where
+pub record CallAnswered (kind which value T L : ℕ) (W R K ph n p C x ph′ n′ p′ C′ x′ : List ℕ) (r v : ℕ) : Type 0 where
   pub call : (D : List ℕ) → reply (savedOf T L D ph′ n′ p′ C′ W R K x′) r v ≡ answered (savedOf T L D ph n p C W R K x) (called kind which value)

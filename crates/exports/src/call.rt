@@ -5,7 +5,7 @@ ghost use Rattle.protocol.specs.Event.{start, read, finish};
 ghost use Rattle.protocol_state.specs.Saved.{Saved, base};
 ghost use Rattle.protocol_state.specs.Give.{give};
 ghost use Rattle.exports.specs.Calls.{called, answered};
-ghost use Rattle.exports.specs.Replies.{heard, numberOf};
+ghost use Rattle.exports.specs.Replies.{heard, askedNumber};
 use mailbox_parts::event::Event;
 
 // What a host asks for: an event, one of a task or link whose number is in no table, or one of an unknown kind.
@@ -63,7 +63,7 @@ pub(crate) fn ask(kind: u8, which: u32, value: u32) -> Asked
 
 // The refusal of what is no event: 12 for a number in no table, 11 for an unknown kind.
 pub(crate) fn number_of(a: Asked) -> u8
-    ensures { λ r. ⌜ r ≡ numberOf a ⌝ }
+    ensures { λ r. ⌜ r ≡ askedNumber a ⌝ }
 {
     match a {
         Asked::Known(_) => 0,

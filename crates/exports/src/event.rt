@@ -1,5 +1,5 @@
 // One event given to the lent parts of a state.
-ghost use Rattle.exports.specs.Replies.{Answered};
+ghost use Rattle.exports.specs.Replies.{CallAnswered};
 use crate::call::Asked;
 use crate::call::ask;
 use crate::call::number_of;
@@ -27,7 +27,7 @@ pub extern "C" fn parnusild_event(
     cells: &mut [u32; CELLS],
     pointer: &mut [u8; LINKS],
 ) -> u8
-    ensures { λ r. ⌜ Answered kind which value tasks links (now (writer .entry)) (now (reader .entry)) (now (kinds .entry)) (now (phase .entry)) (now (newest .entry)) (now (previous .entry)) (now (cells .entry)) (now (pointer .entry)) (now (phase .exit)) (now (newest .exit)) (now (previous .exit)) (now (cells .exit)) (now (pointer .exit)) r (now (number .exit)) ⌝ }
+    ensures { λ r. ⌜ CallAnswered kind which value tasks links (now (writer .entry)) (now (reader .entry)) (now (kinds .entry)) (now (phase .entry)) (now (newest .entry)) (now (previous .entry)) (now (cells .entry)) (now (pointer .entry)) (now (phase .exit)) (now (newest .exit)) (now (previous .exit)) (now (cells .exit)) (now (pointer .exit)) r (now (number .exit)) ⌝ }
 {
     let call = ask(kind, which, value);
     let Asked::Known(e) = call else {

@@ -11,7 +11,7 @@ use Rattle.protocol_state.proofs.Give.{give-sound}
 use Rattle.mailbox_parts.specs.Plain.{plain}
 use Rattle.mailbox_parts.specs.Becomes.{savedOf}
 use Rattle.mailbox_parts.specs.declared.event.Event.{Event}
-use Rattle.mailbox_give.specs.Given.{Given}
+use Rattle.mailbox_give.specs.GivenParts.{GivenParts}
 use Rattle.mailbox.specs.States.{saved, stepOf, given, StaysSound}
 use Rattle.mailbox.specs.declared.State.{State}
 use Rattle.mailbox.specs.declared.Step.{Step}
@@ -19,7 +19,7 @@ use Rattle.mailbox.specs.declared.Step.{Step}
 -- the parts of q were lent, and the answer is made of what they then hold
 pub answered :
     (q : State) {e : Event} {ph n p C x : List ℕ} {k v : ℕ} {r : Step} →
-    Given e (q .tasks) (q .links) (q .writer) (q .reader) (q .kind) (q .phase) (q .newest) (q .previous) (q .cells) (q .pointer) ph n p C x k v →
+    GivenParts e (q .tasks) (q .links) (q .writer) (q .reader) (q .kind) (q .phase) (q .newest) (q .previous) (q .cells) (q .pointer) ph n p C x k v →
     r ≡ stepOf (reply (savedOf (q .tasks) (q .links) (q .defaults) ph n p C (q .writer) (q .reader) (q .kind) x) k v) → r ≡ given q (plain e)
 answered q d i = i ∙ ap stepOf (d .event (q .defaults))
 

@@ -12,16 +12,16 @@ use Rattle.protocol.specs.ZeroTime.{ideals, Settled}
 use Rattle.protocol.specs.Published.{Same, Lowest, Run}
 use Rattle.protocol.specs.Lowest.{boxesOf}
 use Rattle.protocol.specs.Instant.{Order, upward, zeroRun, looked, theres}
-use Rattle.protocol.specs.Demand.{Answers, numbersRead, Demand1, Demand2, Demand3}
+use Rattle.protocol.specs.Answering.{Answerer, numbersRead, RefusesRightly, FollowsProtocol, ReadsZeroTime}
 use Rattle.protocol.proofs.Schedule.{urgent-fair}
 use Rattle.protocol.proofs.Lowest.{lowest-run}
 use Rattle.protocol.proofs.Unique.{runs-same}
-use Rattle.protocol.proofs.Demands.{only-ideals}
+use Rattle.protocol.proofs.Answering.{only-ideals}
 use Rattle.protocol.proofs.Upward.{upward-order}
 use Rattle.protocol_state.specs.Saved.{Saved, base, at, table, boxes}
 use Rattle.protocol_state.specs.Rules.{judgedTable}
 use Rattle.protocol_state.specs.Fresh.{freshOf, made}
-use Rattle.protocol_state.specs.Give.{Outcome, note, give, after}
+use Rattle.protocol_state.specs.Give.{Progress, note, give, afterEvent}
 use Rattle.protocol_state.specs.Reached.{Reached}
 use Rattle.protocol_state.proofs.Rules.{ltb-ranks}
 use Rattle.protocol_state.proofs.Freshes.{made-fresh}
@@ -36,20 +36,20 @@ use Rattle.mailbox.specs.declared.Made.{Made}
 use Rattle.mailbox_demands.specs.Calls.{Answered, lastState, went, noted, history, numbers, Each, Judged, AnsweredBy}
 
 -- what stands after some calls: the state handed back, the accepted events, the numbers read
-abbrev stands : State → List (Event ℕ) → List ℕ → Outcome
+abbrev stands : State → List (Event ℕ) → List ℕ → Progress
 stands q h ns = record { state = saved q; history = h; numbers = ns }
 
 -- one call more is one event more of a replay: a refusal hands the state back as it was
 after-call : (q : State) (h : List (Event ℕ)) (ns : List ℕ) (e : Event ℕ) (r : Step) → r ≡ given q e
-    → after ltb base (stands q h ns) e ≡ stands (r .state) (went h e r) (noted ns e r)
-unfolding after
+    → afterEvent ltb base (stands q h ns) e ≡ stands (r .state) (went h e r) (noted ns e r)
+unfolding afterEvent
 after-call q h ns e r call = rw call (go (eqb (give ltb base (saved q) e .refusal) 0) refl)
   where
     v : ℕ
     v = give ltb base (saved q) e .value
 
     go : (b : Bool) → eqb (give ltb base (saved q) e .refusal) 0 ≡ b
-        → cond {A = Outcome} b (record { state = give ltb base (saved q) e .state; history = e ∷ h; numbers = note e v ns }) (stands q h ns)
+        → cond {A = Progress} b (record { state = give ltb base (saved q) e .state; history = e ∷ h; numbers = note e v ns }) (stands q h ns)
         ≡ record { state = give ltb base (saved q) e .state; history = cond b (e ∷ h) h; numbers = cond b (note e v ns) ns }
     go true i = refl
     go false i = rw (refused-same ltb base (saved q) e (eqb-false _ 0 i) .0)
@@ -65,7 +65,7 @@ module _ {q₀ : Saved} (Q : List (Event ℕ) → Event ℕ → Step → Type 0)
   reaches (e ∷ es) [] q h ns A R = absurd A
   reaches (e ∷ es) (r ∷ rs) q h ns A R =
       let i = reaches es rs (r .state) (went h e r) (noted ns e r) (A .1)
-      (subst (λ (o : Outcome). Reached ltb base q₀ o) (after-call q h ns e r (A .0)) (reached-after R e)) in
+      (subst (λ (o : Progress). Reached ltb base q₀ o) (after-call q h ns e r (A .0)) (reached-after R e)) in
       (i .0, (subst (λ (x : Step). Q h e x) (sym (A .0)) (law q h ns e R), i .1))
 
 -- what the calls come to, from the state that a table made without a refusal
@@ -109,11 +109,11 @@ module _ (T L : ℕ) (D W R K : List ℕ) {m : Made} (said : m ≡ madeOf (made 
   as-lowest = runs-same (table ltb q₀) protocol (lowest-run (table ltb q₀) (urgent (table ltb q₀)) accepted (reached-possible come))
 
   -- demands 1 and 2: whatever meets them gives each answer that the calls gave, so what they exclude is no answer of the calls
-  pub as-demanded : (B : Answers ℕ) → Demand1 B urgent 0 → Demand2 B urgent → Each (AnsweredBy B (table ltb q₀)) [] es rs
+  pub as-demanded : (B : Answerer ℕ) → RefusesRightly B urgent 0 → FollowsProtocol B urgent → Each (AnsweredBy B (table ltb q₀)) [] es rs
   as-demanded B D1 D2 = reaches (AnsweredBy B (table ltb q₀)) (λ q h ns e R. state.as-demanded ltb-ranks R B D1 D2 e) es rs (m .state) [] [] A begun .1
 
   -- demand 3: whatever meets demand 3 reads the numbers that the calls read
-  pub reads-demanded : (B : Answers ℕ) → Demand3 B urgent → read ≡ numbersRead B (table ltb q₀) accepted
+  pub reads-demanded : (B : Answerer ℕ) → ReadsZeroTime B urgent → read ≡ numbersRead B (table ltb q₀) accepted
   reads-demanded B D3 =
       reached-ideals ltb-ranks come
       ∙ sym (only-ideals urgent urgent-fair B D3 (table ltb q₀) (table-lawful ltb-ranks come) (upward 0 (q₀ .tasks)) order accepted (reached-possible come))

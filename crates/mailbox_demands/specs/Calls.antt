@@ -8,7 +8,7 @@ use lib.Dec.{eqb}
 use Rattle.protocol.specs.Event.{Event}
 use Rattle.protocol.specs.Table.{Table}
 use Rattle.protocol.specs.Schedule.{urgent, judged}
-use Rattle.protocol.specs.Demand.{Answers}
+use Rattle.protocol.specs.Answering.{Answerer}
 use Rattle.protocol_state.specs.Give.{reply, note}
 use Rattle.protocol_state.specs.Alike.{Alike}
 use Rattle.mailbox.specs.States.{saved, given}
@@ -58,5 +58,5 @@ abbrev pub Judged : Table ℕ → List (Event ℕ) → Event ℕ → Step → Ty
 Judged T h e r = r .answer .refusal ≡ judged T (urgent T) h e
 
 -- the answer is the one that the answer function B gives: the same refusal, value, positions, pointers and mailboxes
-abbrev pub AnsweredBy : Answers ℕ → Table ℕ → List (Event ℕ) → Event ℕ → Step → Type 0
+abbrev pub AnsweredBy : Answerer ℕ → Table ℕ → List (Event ℕ) → Event ℕ → Step → Type 0
 AnsweredBy B T h e r = Alike (reply (saved (r .state)) (r .answer .refusal) (r .answer .value)) (B .reply T h e)

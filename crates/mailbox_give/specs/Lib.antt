@@ -1,2 +1,2 @@
 -- What the contract cites.
-pub mod Given
+pub mod GivenParts

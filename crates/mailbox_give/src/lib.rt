@@ -1,5 +1,5 @@
 // One event given to the lent parts of a state: 19 where they aren't sound, then 12 to 16 in rising order, else it is done.
-ghost use Rattle.mailbox_give.specs.Given.{Given};
+ghost use Rattle.mailbox_give.specs.GivenParts.{GivenParts};
 use mailbox_base::numbers::CELLS;
 use mailbox_base::numbers::LINKS;
 use mailbox_base::numbers::TASKS;
@@ -24,7 +24,7 @@ pub fn give(
     cells: &mut [u32; CELLS],
     pointer: &mut [u8; LINKS],
 ) -> u8
-    ensures { λ r. ⌜ Given e tasks links (now (writer .entry)) (now (reader .entry)) (now (kind .entry)) (now (phase .entry)) (now (newest .entry)) (now (previous .entry)) (now (cells .entry)) (now (pointer .entry)) (now (phase .exit)) (now (newest .exit)) (now (previous .exit)) (now (cells .exit)) (now (pointer .exit)) r (now (number .exit)) ⌝ }
+    ensures { λ r. ⌜ GivenParts e tasks links (now (writer .entry)) (now (reader .entry)) (now (kind .entry)) (now (phase .entry)) (now (newest .entry)) (now (previous .entry)) (now (cells .entry)) (now (pointer .entry)) (now (phase .exit)) (now (newest .exit)) (now (previous .exit)) (now (cells .exit)) (now (pointer .exit)) r (now (number .exit)) ⌝ }
 {
     *number = 0;
     if !is_sound(

@@ -4,7 +4,7 @@ ghost use Prim.Native.Nat.{_≤_, min};
 ghost use lib.Dec.{ltb};
 ghost use Rattle.lists.specs.Lists.{upto};
 ghost use Rattle.protocol_state.specs.Saved.{at, base};
-ghost use Rattle.protocol_state.specs.Next.{phasesAfter, numberOf, freed, freedAt};
+ghost use Rattle.protocol_state.specs.Next.{phasesAfter, numberRead, freed, freedAt};
 ghost use Rattle.mailbox_parts.specs.Finishes.{Finishes};
 use lists::few;
 use mailbox_base::decision::FINISH;
@@ -29,7 +29,7 @@ pub fn advance(kind: usize, t: u8, phase: &mut [u8; TASKS])
 
 // The number that link `l` reads: the one at its pointer in its writer's positions.
 pub fn number_of(l: u8, writer: &[u8; LINKS], pointer: &[u8; LINKS], cells: &[u32; CELLS]) -> u32
-    ensures { λ r. ⌜ r ≡ numberOf l (at (now (writer .entry))) (at (now (pointer .entry))) (at (now (cells .entry))) ⌝ }
+    ensures { λ r. ⌜ r ≡ numberRead l (at (now (writer .entry))) (at (now (pointer .entry))) (at (now (cells .entry))) ⌝ }
 {
     let i = l as usize;
     cell_at(cells, at(writer, i), at(pointer, i))

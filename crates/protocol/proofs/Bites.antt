@@ -16,10 +16,10 @@ use Rattle.protocol.specs.Schedule.{urgent, Possible, AllPossible, judge
 use Rattle.protocol.specs.ZeroTime.{ideals}
 use Rattle.protocol.specs.Published.{Boxes, Step}
 use Rattle.protocol.specs.Instant.{upward}
-use Rattle.protocol.specs.Demand.{Answers, boxesAfter, numbersRead, Demand2, Demand3}
+use Rattle.protocol.specs.Answering.{Answerer, boxesAfter, numbersRead, FollowsProtocol, ReadsZeroTime}
 use Rattle.protocol.proofs.Schedule.{urgent-fair, judged-possible}
 use Rattle.protocol.proofs.Upward.{upward-order}
-use Rattle.protocol.proofs.Demands.{only-ideals}
+use Rattle.protocol.proofs.Answering.{only-ideals}
 
 module _ {Val : Type 0} where
   -- two tasks, one link from the more urgent to the other, the default d
@@ -73,12 +73,12 @@ module _ {Val : Type 0} where
     again-possible = all-judged (pair d late) (read 0 ∷ again x y) refl
 
   -- an answer function that meets demand 3 reads what the closed form says, on the pair
-  told : (A : Answers Val) → Demand3 A urgent → (d : Val) (late : Bool) (h : List (Event Val)) → AllPossible (pair d late) (urgent (pair d late)) h
+  told : (A : Answerer Val) → ReadsZeroTime A urgent → (d : Val) (late : Bool) (h : List (Event Val)) → AllPossible (pair d late) (urgent (pair d late)) h
       → numbersRead A (pair d late) h ≡ ideals (pair d late) h
   unfolding pair
   told A D d late h P = only-ideals urgent urgent-fair A D (pair d late) (pair-lawful d late) (upward 0 2) (upward-order (pair d late) (λ u t. refl)) h P
 
-  module _ (A : Answers Val) (D : Demand3 A urgent) (d x y : Val) where
+  module _ (A : Answerer Val) (D : ReadsZeroTime A urgent) (d x y : Val) where
     -- by a direct link it reads the output x, for every x
     reads-output : A .reply (pair d false) (start 1 ∷ finish 0 x ∷ start 0 ∷ arrival 3 ∷ []) (read 0) .value ≡ x
     unfolding pair both numbersRead ideals arrivals starts finishes upTo output has
@@ -102,7 +102,7 @@ module _ {Val : Type 0} where
         (cc (told A D d false (read 0 ∷ alone) (P .1 .1 .1 .1 .1 .1)), cc (told A D d false (read 0 ∷ again x y) P))
 
   -- ---- what demand 2 excludes
-  module _ (A : Answers Val) (D : Demand2 A urgent) (d : Val) where
+  module _ (A : Answerer Val) (D : FollowsProtocol A urgent) (d : Val) where
     -- one that refuses everything
     pub no-refuser : ((T : Table Val) (h : List (Event Val)) (e : Event Val) → A .reply T h e .refusal ≢ 0) → ⊥
     unfolding allJudged AllPossible pair judged some arrivals finishes has
@@ -121,7 +121,7 @@ module _ {Val : Type 0} where
         D .step (pair d false) (pair-lawful d false) [] tt (arrival 1) p .chosen 0 refl .free .apart (ap (λ (s : Boxes Val). s .newest 0) (R (pair d false) [] (arrival 1)))
 
   -- ---- what demand 3 excludes, for any kind of value that has two
-  module _ (a b : Val) (n : a ≢ b) (A : Answers Val) (D : Demand3 A urgent) where
+  module _ (a b : Val) (n : a ≢ b) (A : Answerer Val) (D : ReadsZeroTime A urgent) where
     -- one that reads a constant
     pub no-constant : (v : Val) → ((T : Table Val) (h : List (Event Val)) (l : ℕ) → A .reply T h (read l) .value ≡ v) → ⊥
     no-constant v R = n (sym (reads-output A D a a a) ∙ R _ _ 0 ∙ sym (R _ _ 0) ∙ reads-output A D a b b)

@@ -13,7 +13,7 @@ use Rattle.protocol.specs.Event.{has}
 use Rattle.protocol.specs.Table.{Table, Lawful}
 use Rattle.protocol.specs.History.{tick}
 use Rattle.protocol.specs.ZeroTime.{runOf}
-use Rattle.protocol.specs.Instant.{there, missing, Entry, Moment, ask, readLinks, whole, work, come, carried, mem, Sorted, Order, find, AllThere}
+use Rattle.protocol.specs.Instant.{there, missing, Entry, Moment, ask, readLinks, runWhole, work, come, carried, mem, Sorted, Order, find, AllThere}
 use Rattle.protocol.proofs.ClosedForm.{seen, Known, result, told, entry, closed-reads, closed-work, closed}
 
 -- the first of a list is in it
@@ -49,8 +49,8 @@ module _ {Val : Type 0} (s : Moment Val) (m t : ℕ) (ts : List ℕ) (M : Mid m 
   mid-next e = rw (e, mem-here t ts) at (M t)
 
   -- and once it has run, it is done
-  mid-whole : (T : Table Val) (out : ℕ → ℕ → Val) → has m t ≡ true → mem t ts ≡ false → Mid m ts (whole T out t s)
-  unfolding whole
+  mid-whole : (T : Table Val) (out : ℕ → ℕ → Val) → has m t ≡ true → mem t ts ≡ false → Mid m ts (runWhole T out t s)
+  unfolding runWhole
   mid-whole T out e f u = go (ℕ-discrete u t)
     where
       go : Dec (u ≡ t) → s .arrived u ≡ tick (has m u && mem u ts) (tick (eqb t u) (s .runs u))
@@ -78,8 +78,8 @@ module _ {Val : Type 0} (T : Table Val) (out : ℕ → ℕ → Val) where
   made-fresh w (suc k) = rw (ne-eqb (suc k) 0 (λ e. omega arith), lt-leb (suc k) 0 (omega arith))
 
   -- a task that runs adds its output
-  made-whole : (s : Moment Val) (t : ℕ) → Made s → Made (whole T out t s)
-  unfolding whole result
+  made-whole : (s : Moment Val) (t : ℕ) → Made s → Made (runWhole T out t s)
+  unfolding runWhole result
   made-whole s t D w k = go (ℕ-discrete t w)
     where
       own : Dec (k ≡ suc (s .runs w)) → Dec (k ≤ s .runs w)
@@ -137,16 +137,16 @@ module _ {Val : Type 0} (T : Table Val) (out : ℕ → ℕ → Val) where
     -- the tasks of a set, one after the other, read what the closed form says
     work-closed : (ms : List ℕ) (m : ℕ) (ts : List ℕ) (es : List (Entry Val)) (s : Moment Val) → Sorted (T .ahead) ts → Mid m ts s → Made s → s .log ≡ es
         → ((u : ℕ) → s .arrived u ≡ seen ms u) → Done ms (closed-work T out ms m ts es) (work T out m ts s)
-    unfolding work closed-work Sorted mem whole
+    unfolding work closed-work Sorted mem runWhole
     work-closed ms m [] es s S M D g a = record { log = g; arrived = a; runs = λ u. sym (rw (and-false (has m u)) at (M u)) ∙ a u; made = D }
     work-closed ms m (t ∷ ts) es s S M D g a = go (has m t) refl (λ es s. work-closed ms m ts es s (S .2))
       where
         go : (b : Bool) → has m t ≡ b
             → ((es : List (Entry Val)) (s : Moment Val) → Mid m ts s → Made s → s .log ≡ es → ((u : ℕ) → s .arrived u ≡ seen ms u)
             → Done ms (closed-work T out ms m ts es) (work T out m ts s))
-            → Done ms (closed-work T out ms m ts (cond b (closed-reads T out ms t (T .links) es) es)) (work T out m ts (cond b (whole T out t s) s))
+            → Done ms (closed-work T out ms m ts (cond b (closed-reads T out ms t (T .links) es) es)) (work T out m ts (cond b (runWhole T out t s) s))
         go true e i =
-            i (closed-reads T out ms t (T .links) es) (whole T out t s) (mid-whole s m t ts M T out e (S .1)) (made-whole s t D)
+            i (closed-reads T out ms t (T .links) es) (runWhole T out t s) (mid-whole s m t ts M T out e (S .1)) (made-whole s t D)
             (reads-closed ms es s t D g a (sym (mid-next s m t ts M e) ∙ a t) (produced s m t ts M (S .0)) (T .links) (omega arith)) a
         go false e i = i es s (mid-skip s m t ts M e) D g a
 

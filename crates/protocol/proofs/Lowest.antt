@@ -19,7 +19,7 @@ use Rattle.protocol.specs.Published.{Boxes, Fresh, Free, Lowest, Step, R
 use Rattle.protocol.specs.Published as published
 use Rattle.protocol.specs.Free.{holds, taken}
 use Rattle.protocol.specs.Lowest.{lowest, freshBoxes, nextBoxes, boxesOf, valueThen, lowestAnswers}
-use Rattle.protocol.specs.Demand.{Reply, ReadsNothing, boxesAfter, Demand1, Demand2}
+use Rattle.protocol.specs.Answering.{Response, ReadsNothing, boxesAfter, RefusesRightly, FollowsProtocol}
 use Rattle.protocol.proofs.Schedule.{judged-possible, possible-judged}
 
 module _ {Val : Type 0} (T : Table Val) (s : Boxes Val) (t : ℕ) where
@@ -88,7 +88,7 @@ module _ {Val : Type 0} (T : Table Val) where
 
 -- the two ways of an answer
 module _ {Val : Type 0} (policy : Table Val → Policy Val) (zero : Val) (T : Table Val) (h : List (Event Val)) (e : Event Val) where
-  abbrev answer : Reply Val
+  abbrev answer : Response Val
   answer = lowestAnswers policy zero .reply T h e
 
   answer-yes : Possible T (policy T) h e → answer ≡ record { refusal = 0; value = valueThen T zero (boxesOf T h) e; boxes = nextBoxes T e (boxesOf T h) }
@@ -104,7 +104,7 @@ module _ {Val : Type 0} (policy : Table Val → Policy Val) (zero : Val) (T : Ta
   answer-refusal = go (eqb (judged T (policy T) h e) 0) refl
     where
       go : (b : Bool) → eqb (judged T (policy T) h e) 0 ≡ b
-          → cond {A = Reply Val} b (record { refusal = 0; value = valueThen T zero (boxesOf T h) e; boxes = nextBoxes T e (boxesOf T h) }) (record { refusal = judged T (policy T) h e; value = zero; boxes = boxesOf T h }) .refusal ≡ judged T (policy T) h e
+          → cond {A = Response Val} b (record { refusal = 0; value = valueThen T zero (boxesOf T h) e; boxes = nextBoxes T e (boxesOf T h) }) (record { refusal = judged T (policy T) h e; value = zero; boxes = boxesOf T h }) .refusal ≡ judged T (policy T) h e
       go true i = sym (eqb-true _ 0 i)
       go false i = refl
 
@@ -112,7 +112,7 @@ module _ {Val : Type 0} (policy : Table Val → Policy Val) (zero : Val) (T : Ta
 boxes-after : {Val : Type 0} (policy : Table Val → Policy Val) (zero : Val) (T : Table Val) (h : List (Event Val)) → AllPossible T (policy T) h → boxesAfter (lowestAnswers policy zero) T h ≡ boxesOf T h
 unfolding boxesAfter boxesOf AllPossible lowestAnswers
 boxes-after policy zero T [] A = refl
-boxes-after policy zero T (e ∷ h) A = ap (λ (r : Reply _). r .boxes) (answer-yes policy zero T h e (A .0))
+boxes-after policy zero T (e ∷ h) A = ap (λ (r : Response _). r .boxes) (answer-yes policy zero T h e (A .0))
 
 -- the demands are met by one answer function at least
 module _ {Val : Type 0} (policy : Table Val → Policy Val) (zero : Val) where
@@ -123,8 +123,8 @@ module _ {Val : Type 0} (policy : Table Val → Policy Val) (zero : Val) where
   silent-value T s (read l) q = absurd q
   silent-value T s (finish t v) q = refl
 
-  pub lowest-meets-1 : Demand1 (lowestAnswers policy zero) policy zero
-  lowest-meets-1 = record {
+  pub lowest-refuses-rightly : RefusesRightly (lowestAnswers policy zero) policy zero
+  lowest-refuses-rightly = record {
     number = λ T L h A e. answer-refusal policy zero T h e;
     unchanged = λ T L h A e n. same T h A e (answer-no policy zero T h e (λ z. n (answer-refusal policy zero T h e ∙ z)));
     silent = λ T L h A e q. quiet T h e q (eqb (judged T (policy T) h e) 0) refl;
@@ -138,9 +138,9 @@ module _ {Val : Type 0} (policy : Table Val → Policy Val) (zero : Val) where
       quiet T h e q true i = rw (answer-yes policy zero T h e (judged-possible T (policy T) h e (eqb-true _ 0 i))) (silent-value T (boxesOf T h) e q)
       quiet T h e q false i = rw (answer-no policy zero T h e (eqb-false _ 0 i))
 
-  pub lowest-meets-2 : Demand2 (lowestAnswers policy zero) policy
+  pub lowest-follows-protocol : FollowsProtocol (lowestAnswers policy zero) policy
   unfolding lowestAnswers
-  lowest-meets-2 = record {
+  lowest-follows-protocol = record {
     fresh = λ T L. fresh-fresh T;
     only = λ T L h A e i. judged-possible T (policy T) h e (sym (answer-refusal policy zero T h e) ∙ i);
     all = λ T L h A e p. answer-refusal policy zero T h e ∙ possible-judged T (policy T) h e p;

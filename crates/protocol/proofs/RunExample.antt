@@ -7,7 +7,7 @@ use Prim.Native.Nat.{ℕ, zero, suc, _+_}
 use lib.Dec.{eqb, ltb}
 use Rattle.protocol.specs.Event.{has}
 use Rattle.protocol.specs.Table.{Table}
-use Rattle.protocol.specs.Instant.{Given, there, missing, Entry, ask, readLinks, whole, work, come, carried, upward}
+use Rattle.protocol.specs.Instant.{Given, there, missing, Entry, ask, readLinks, runWhole, work, come, carried, upward}
 
 -- the station of that example: task 1 writes; task 0, more urgent, reads it delayed; tasks 2 and 3 read it directly
 unfoldable pub four : Table ℕ
@@ -26,10 +26,10 @@ givens (e ∷ es) = e .given ∷ givens es
 -- run number k of any task gives 100 + k; the arrivals are 15, 3, 4, 3, 9: every read is given an output
 pub right-order : givens (carried four (λ t k. 100 + k) (upward 0 4) (9 ∷ 3 ∷ 4 ∷ 3 ∷ 15 ∷ []) .log)
     ≡ there 103 ∷ there 102 ∷ there 102 ∷ there 102 ∷ there 101 ∷ there 101 ∷ there 101 ∷ there 100 ∷ []
-unfolding givens four carried work come whole readLinks ask upward has
+unfolding givens four carried work come runWhole readLinks ask upward has
 right-order = refl
 
 -- the writer after its direct readers: its output is not there for them
 pub wrong-order : givens (carried four (λ t k. 100 + k) (3 ∷ 2 ∷ 1 ∷ 0 ∷ []) (15 ∷ []) .log) ≡ there 100 ∷ missing ∷ missing ∷ []
-unfolding givens four carried work come whole readLinks ask has
+unfolding givens four carried work come runWhole readLinks ask has
 wrong-order = refl

@@ -11,8 +11,8 @@ use Rattle.protocol.specs.Event.{Event, arrival, start, read, finish, ha
 use Rattle.protocol.specs.Table.{Table, Lawful}
 use Rattle.protocol.specs.Schedule.{Policy, Possible, AllPossible}
 use Rattle.protocol.specs.Published.{Boxes, Same, Fresh, Free, Lowest, Arrived, Finished, number, Step, Run, fresh, next}
-use Rattle.protocol.specs.Demand.{SameReply, Answers, ReadsNothing, boxesAfter, Demand1, Demand2}
-use Rattle.protocol.proofs.Demands.{answers-run}
+use Rattle.protocol.specs.Answering.{SameResponse, Answerer, ReadsNothing, boxesAfter, RefusesRightly, FollowsProtocol}
+use Rattle.protocol.proofs.Answering.{answers-run}
 
 module _ {Val : Type 0} (T : Table Val) where
   fresh-same : {s r : Boxes Val} → Fresh T s → Fresh T r → Same s r
@@ -78,13 +78,13 @@ module _ {Val : Type 0} (T : Table Val) where
   runs-same (fresh f) (fresh g) = fresh-same f g
   runs-same (next e a p x) (next _ b q y) = step-same (runs-same a b) e x y
 
-module _ {Val : Type 0} (policy : Table Val → Policy Val) (A B : Answers Val) (T : Table Val) (L : Lawful T) where
+module _ {Val : Type 0} (policy : Table Val → Policy Val) (A B : Answerer Val) (T : Table Val) (L : Lawful T) where
   -- the same refusal to every event
-  pub same-refusal : {zero : Val} → Demand1 A policy zero → Demand1 B policy zero → (h : List (Event Val)) → AllPossible T (policy T) h → (e : Event Val)
+  pub same-refusal : {zero : Val} → RefusesRightly A policy zero → RefusesRightly B policy zero → (h : List (Event Val)) → AllPossible T (policy T) h → (e : Event Val)
       → A .reply T h e .refusal ≡ B .reply T h e .refusal
   same-refusal EA EB h P e = EA .number T L h P e ∙ sym (EB .number T L h P e)
 
-  module _ (DA : Demand2 A policy) (DB : Demand2 B policy) where
+  module _ (DA : FollowsProtocol A policy) (DB : FollowsProtocol B policy) where
     -- the same boxes after every history
     pub same-boxes : (h : List (Event Val)) → AllPossible T (policy T) h → Same (boxesAfter A T h) (boxesAfter B T h)
     same-boxes h P = runs-same T (answers-run policy A DA T L h P) (answers-run policy B DB T L h P)
@@ -93,7 +93,7 @@ module _ {Val : Type 0} (policy : Table Val → Policy Val) (A B : Answers Val) 
     pub same-number : (h : List (Event Val)) → AllPossible T (policy T) h → (l : ℕ) → Possible T (policy T) h (read l) → A .reply T h (read l) .value ≡ B .reply T h (read l) .value
     same-number h P l p = DA .number T L h P l p ∙ number-same T (same-boxes h P) l ∙ sym (DB .number T L h P l p)
 
-    module _ {zero : Val} (EA : Demand1 A policy zero) (EB : Demand1 B policy zero) (h : List (Event Val)) (P : AllPossible T (policy T) h) where
+    module _ {zero : Val} (EA : RefusesRightly A policy zero) (EB : RefusesRightly B policy zero) (h : List (Event Val)) (P : AllPossible T (policy T) h) where
       -- the same value of every accepted event
       same-value : (e : Event Val) → Possible T (policy T) h e → A .reply T h e .value ≡ B .reply T h e .value
       unfolding ReadsNothing
@@ -103,14 +103,14 @@ module _ {Val : Type 0} (policy : Table Val → Policy Val) (A B : Answers Val) 
       same-value (finish t v) p = EA .silent T L h P (finish t v) tt ∙ sym (EB .silent T L h P (finish t v) tt)
 
       -- the same reply to every event, accepted or refused
-      pub same-reply : (e : Event Val) → SameReply (A .reply T h e) (B .reply T h e)
+      pub same-reply : (e : Event Val) → SameResponse (A .reply T h e) (B .reply T h e)
       unfolding AllPossible boxesAfter
       same-reply e = go (eqb (A .reply T h e .refusal) 0) refl
         where
           same : A .reply T h e .refusal ≡ B .reply T h e .refusal
           same = same-refusal EA EB h P e
 
-          go : (b : Bool) → eqb (A .reply T h e .refusal) 0 ≡ b → SameReply (A .reply T h e) (B .reply T h e)
+          go : (b : Bool) → eqb (A .reply T h e .refusal) 0 ≡ b → SameResponse (A .reply T h e) (B .reply T h e)
           go true i =
               let p = DA .only T L h P e (eqb-true _ 0 i) in
               record { refusal = same; value = same-value e p; boxes = same-boxes (e ∷ h) (p, P) }

@@ -46,8 +46,8 @@ module _ {Val : Type 0} (T : Table Val) where
 -- `out w k`: what run number k of task w gives
 module _ {Val : Type 0} (T : Table Val) (out : ℕ → ℕ → Val) where
   -- task t runs whole: it reads its links, then its output is there
-  unfoldable pub whole : ℕ → Moment Val → Moment Val
-  whole t s = record {
+  unfoldable pub runWhole : ℕ → Moment Val → Moment Val
+  runWhole t s = record {
     arrived = s .arrived;
     runs = λ u. tick (eqb t u) (s .runs u);
     made = λ u k. cond (eqb t u && eqb k (suc (s .runs u))) (there (out u k)) (s .made u k);
@@ -57,7 +57,7 @@ module _ {Val : Type 0} (T : Table Val) (out : ℕ → ℕ → Val) where
   -- of the tasks listed, those of the set m run, one after the other
   unfoldable pub work : ℕ → List ℕ → Moment Val → Moment Val
   work m [] s = s
-  work m (t ∷ ts) s = work m ts (cond (has m t) (whole t s) s)
+  work m (t ∷ ts) s = work m ts (cond (has m t) (runWhole t s) s)
 
   -- the arrival sets, the last one first; `order`: the tasks, most urgent first. At the beginning there are the defaults only
   unfoldable pub carried : List ℕ → List ℕ → Moment Val

@@ -9,4 +9,4 @@ pub mod Ranges
 pub mod Free
 pub mod Lowest
 pub mod Instant
-pub mod Demand
+pub mod Answering

@@ -9,7 +9,7 @@ use Rattle.protocol.specs.Table.{Table, N}
 use Rattle.protocol.specs.Schedule.{Policy, judged}
 use Rattle.protocol.specs.Published.{Boxes, comes, leaves, number}
 use Rattle.protocol.specs.Free.{lowestOf}
-use Rattle.protocol.specs.Demand.{Answers}
+use Rattle.protocol.specs.Answering.{Answerer}
 
 module _ {Val : Type 0} (T : Table Val) where
   -- the lowest free position of task t
@@ -58,7 +58,7 @@ module _ {Val : Type 0} (T : Table Val) where
   valueThen zero s (finish t v) = zero
 
 -- the whole answer function
-unfoldable pub lowestAnswers : {Val : Type 0} → (Table Val → Policy Val) → Val → Answers Val
+unfoldable pub lowestAnswers : {Val : Type 0} → (Table Val → Policy Val) → Val → Answerer Val
 lowestAnswers policy zero = record {
   fresh = freshBoxes;
   reply = λ T h e. cond (eqb (judged T (policy T) h e) 0)

@@ -8,27 +8,27 @@ use borrow.Author.Tests.{eqb-true}
 use lib.Dec.{eqb}
 use Rattle.protocol.specs.Event.{Event}
 use Rattle.protocol_state.specs.Saved.{Size}
-use Rattle.protocol_state.specs.Give.{Outcome, give, after, replay, accepted, AllAccepted}
+use Rattle.protocol_state.specs.Give.{Progress, give, afterEvent, replay, accepted, AllAccepted}
 
 module _ (ahead : ℕ → ℕ → Bool) (size : Size) where
   -- the state, the history and the numbers are those of the accepted ones
-  pub aside : (es : List (Event ℕ)) (o : Outcome) → replay ahead size o es ≡ replay ahead size o (accepted ahead size o es)
-  unfolding replay accepted after
+  pub aside : (es : List (Event ℕ)) (o : Progress) → replay ahead size o es ≡ replay ahead size o (accepted ahead size o es)
+  unfolding replay accepted afterEvent
   aside [] o = refl
   aside (e ∷ es) o = go (eqb (give ahead size (o .state) e .refusal) 0) refl (aside es)
     where
-      go : (b : Bool) → eqb (give ahead size (o .state) e .refusal) 0 ≡ b → ((o : Outcome) → replay ahead size o es ≡ replay ahead size o (accepted ahead size o es))
-          → replay ahead size (after ahead size o e) es ≡ replay ahead size o (cond b (e ∷ accepted ahead size (after ahead size o e) es) (accepted ahead size o es))
-      go true i f = f (after ahead size o e)
-      go false i f = rw (i, after) (f o)
+      go : (b : Bool) → eqb (give ahead size (o .state) e .refusal) 0 ≡ b → ((o : Progress) → replay ahead size o es ≡ replay ahead size o (accepted ahead size o es))
+          → replay ahead size (afterEvent ahead size o e) es ≡ replay ahead size o (cond b (e ∷ accepted ahead size (afterEvent ahead size o e) es) (accepted ahead size o es))
+      go true i f = f (afterEvent ahead size o e)
+      go false i f = rw (i, afterEvent) (f o)
 
   -- and each of those is accepted, none of them having been refused before
-  pub all-accepted : (es : List (Event ℕ)) (o : Outcome) → AllAccepted ahead size o (accepted ahead size o es)
+  pub all-accepted : (es : List (Event ℕ)) (o : Progress) → AllAccepted ahead size o (accepted ahead size o es)
   unfolding accepted AllAccepted
   all-accepted [] o = tt
   all-accepted (e ∷ es) o = go (eqb (give ahead size (o .state) e .refusal) 0) refl (all-accepted es)
     where
-      go : (b : Bool) → eqb (give ahead size (o .state) e .refusal) 0 ≡ b → ((o : Outcome) → AllAccepted ahead size o (accepted ahead size o es))
-          → AllAccepted ahead size o (cond b (e ∷ accepted ahead size (after ahead size o e) es) (accepted ahead size o es))
-      go true i f = (eqb-true _ 0 i, f (after ahead size o e))
+      go : (b : Bool) → eqb (give ahead size (o .state) e .refusal) 0 ≡ b → ((o : Progress) → AllAccepted ahead size o (accepted ahead size o es))
+          → AllAccepted ahead size o (cond b (e ∷ accepted ahead size (afterEvent ahead size o e) es) (accepted ahead size o es))
+      go true i f = (eqb-true _ 0 i, f (afterEvent ahead size o e))
       go false i f = f o

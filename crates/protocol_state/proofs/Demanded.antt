@@ -10,23 +10,23 @@ use Rattle.protocol.specs.Event.{Event, arrival, start, read, finish}
 use Rattle.protocol.specs.Table.{Table, Lawful}
 use Rattle.protocol.specs.Schedule.{urgent, Possible, AllPossible}
 use Rattle.protocol.specs.Published.{Same}
-use Rattle.protocol.specs.Demand.{Answers, ReadsNothing, boxesAfter, Demand1, Demand2}
+use Rattle.protocol.specs.Answering.{Answerer, ReadsNothing, boxesAfter, RefusesRightly, FollowsProtocol}
 use Rattle.protocol.proofs.Schedule.{judged-possible}
-use Rattle.protocol.proofs.Demands.{answers-run}
+use Rattle.protocol.proofs.Answering.{answers-run}
 use Rattle.protocol.proofs.Unique.{step-same, runs-same, number-same}
 use Rattle.protocol_state.specs.Saved.{Size, Saved, table, boxes}
 use Rattle.protocol_state.specs.Rules.{Ranks}
 use Rattle.protocol_state.specs.Judge.{judgedOn}
 use Rattle.protocol_state.specs.Next.{valueOf}
-use Rattle.protocol_state.specs.Give.{Reply, Outcome, give}
+use Rattle.protocol_state.specs.Give.{Reply, Progress, give}
 use Rattle.protocol_state.specs.Reached.{Reached}
 use Rattle.protocol_state.specs.Alike.{Alike}
 use Rattle.protocol_state.proofs.Give.{give-refusal, give-done, refused-same}
 use Rattle.protocol_state.proofs.History.{reached-sound, reached-refusal, reached-possible, reached-step, reached-number}
 use Rattle.protocol_state.proofs.Numbers.{table-lawful}
 
-module _ {ahead : ℕ → ℕ → Bool} (ranks : Ranks ahead) {size : Size} {q₀ : Saved} {o : Outcome} (r : Reached ahead size q₀ o)
-    (B : Answers ℕ) (D1 : Demand1 B urgent 0) (D2 : Demand2 B urgent) where
+module _ {ahead : ℕ → ℕ → Bool} (ranks : Ranks ahead) {size : Size} {q₀ : Saved} {o : Progress} (r : Reached ahead size q₀ o)
+    (B : Answerer ℕ) (D1 : RefusesRightly B urgent 0) (D2 : FollowsProtocol B urgent) where
   abbrev T : Table ℕ
   T = table ahead q₀
 

@@ -8,7 +8,7 @@ use Rattle.lists.specs.Lists.{upto, every, some, count, first, leading, sum}
 use Rattle.protocol.specs.Event.{Event, arrival, start, read, finish, has}
 use Rattle.protocol.specs.History.{arrivals, starts, finishes, reads, upTo, output, counts}
 use Rattle.protocol.specs.ZeroTime.{ideals}
-use Rattle.protocol.specs.Instant.{ask, readLinks, whole, work, come, carried, upward, sets, zeroRun, find, looked, theres}
+use Rattle.protocol.specs.Instant.{ask, readLinks, runWhole, work, come, carried, upward, sets, zeroRun, find, looked, theres}
 use Rattle.protocol_state.specs.Saved.{Saved, base, at, table}
 use Rattle.protocol_state.specs.Rules.{fault, judgedTable}
 use Rattle.protocol_state.specs.Decision.{decided}
@@ -16,7 +16,7 @@ use Rattle.protocol_state.specs.Judge.{judgedArrival, judgedTask, judged
 use Rattle.protocol_state.specs.Next.{newestAfter, previousAfter, pointerAfter, phaseAfter}
 use Rattle.protocol_state.specs.Sound.{soundParts}
 use Rattle.protocol_state.specs.Fresh.{freshOf}
-use Rattle.protocol_state.specs.Give.{Outcome, settled, begin, after, replay}
+use Rattle.protocol_state.specs.Give.{Progress, settled, begin, afterEvent, replay}
 
 -- four tasks with defaults 0, 100, 0, 0; links 1 to 0 delayed, 1 to 2 direct, 1 to 3 direct
 abbrev station : Saved
@@ -35,19 +35,19 @@ third-part = start 0 ∷ read 0 ∷ finish 0 0 ∷ start 1 ∷ finish 1 102 ∷ 
 abbrev last-part : List (Event ℕ)
 last-part = start 0 ∷ read 0 ∷ finish 0 0 ∷ start 1 ∷ finish 1 103 ∷ read 2 ∷ finish 3 0 ∷ arrival 9 ∷ start 0 ∷ read 0 ∷ finish 0 0 ∷ start 3 ∷ read 2 ∷ finish 3 0 ∷ []
 
-abbrev one : Outcome
+abbrev one : Progress
 one = replay ltb base (begin station) first-part
 
-abbrev two : Outcome
+abbrev two : Progress
 two = replay ltb base one second-part
 
-abbrev three : Outcome
+abbrev three : Progress
 three = replay ltb base two third-part
 
-abbrev all : Outcome
+abbrev all : Progress
 all = replay ltb base three last-part
 
-abbrev newest-of-1 : Outcome → ℕ
+abbrev newest-of-1 : Progress → ℕ
 newest-of-1 o = at (o .state .newest) 1
 
 -- the eight numbers, the last one first
@@ -61,5 +61,5 @@ pub long-example :
     × (ideals (table ltb station) (all .history) ≡ eight)
     × (looked (table ltb station) (zeroRun (table ltb station) (upward 0 4) (all .history)) (all .history) ≡ theres eight)
     × (counts (table ltb station) (all .history) ≡ record { arrivals = 11; starts = 11; reads = 8; finishes = 11 })
-unfolding upto every some count first leading sum has fault judgedTable decided judgedArrival judgedTask judgedRead newestAfter previousAfter pointerAfter phaseAfter soundParts freshOf settled after replay arrivals starts reads finishes upTo output ideals ask readLinks whole work come carried upward sets find looked theres
+unfolding upto every some count first leading sum has fault judgedTable decided judgedArrival judgedTask judgedRead newestAfter previousAfter pointerAfter phaseAfter soundParts freshOf settled afterEvent replay arrivals starts reads finishes upTo output ideals ask readLinks runWhole work come carried upward sets find looked theres
 long-example = (refl, refl, refl, refl, refl, refl, refl, refl)

@@ -20,7 +20,7 @@ use Rattle.protocol_state.specs.Judge.{judgedOn}
 use Rattle.protocol_state.specs.Next.{next, valueOf}
 use Rattle.protocol_state.specs.Sound.{isSound}
 use Rattle.protocol_state.specs.Fresh.{freshOf}
-use Rattle.protocol_state.specs.Give.{reply, note, Outcome, begin, give, after, replay}
+use Rattle.protocol_state.specs.Give.{reply, note, Progress, begin, give, afterEvent, replay}
 use Rattle.protocol_state.specs.Reached.{Reached}
 use Rattle.protocol_state.proofs.Sound.{says-sound}
 use Rattle.protocol_state.proofs.Keeps.{table-same, next-shape, next-sound}
@@ -29,7 +29,7 @@ use Rattle.protocol_state.proofs.Steps.{step, number-read}
 use Rattle.protocol_state.proofs.Phases.{agrees-next, judged-by-history}
 use Rattle.protocol_state.proofs.Freshes as freshes
 
-module _ {ahead : ℕ → ℕ → Bool} {size : Size} {q₀ : Saved} {o : Outcome} (r : Reached ahead size q₀ o) where
+module _ {ahead : ℕ → ℕ → Bool} {size : Size} {q₀ : Saved} {o : Progress} (r : Reached ahead size q₀ o) where
   -- the state passes the test, so 19 never comes up
   pub reached-sound : isSound ahead size (o .state) ≡ true
   reached-sound = says-sound ahead size (o .state) (r .sound)
@@ -66,22 +66,22 @@ module _ {ahead : ℕ → ℕ → Bool} {size : Size} {q₀ : Saved} {o : Outcom
   noted (finish u v) ok p t = r .read
 
 -- an event that is done: its state, and it joins the history
-pub after-done : (ahead : ℕ → ℕ → Bool) (size : Size) (o : Outcome) (e : Event ℕ) (q : Saved) (v : ℕ) → give ahead size (o .state) e ≡ reply q 0 v
-    → after ahead size o e ≡ record { state = q; history = e ∷ o .history; numbers = note e v (o .numbers) }
-unfolding after
+pub after-done : (ahead : ℕ → ℕ → Bool) (size : Size) (o : Progress) (e : Event ℕ) (q : Saved) (v : ℕ) → give ahead size (o .state) e ≡ reply q 0 v
+    → afterEvent ahead size o e ≡ record { state = q; history = e ∷ o .history; numbers = note e v (o .numbers) }
+unfolding afterEvent
 after-done ahead size o e q v i = rw i
 
-after-refused : (ahead : ℕ → ℕ → Bool) (size : Size) (o : Outcome) (e : Event ℕ) → give ahead size (o .state) e .refusal ≢ 0 → after ahead size o e ≡ o
-unfolding after
+after-refused : (ahead : ℕ → ℕ → Bool) (size : Size) (o : Progress) (e : Event ℕ) → give ahead size (o .state) e .refusal ≢ 0 → afterEvent ahead size o e ≡ o
+unfolding afterEvent
 after-refused ahead size o e n =
     let z : eqb (give ahead size (o .state) e .refusal) 0 ≡ false = ne-eqb _ 0 n in
     rw z
 
 -- one event more
-pub reached-after : {ahead : ℕ → ℕ → Bool} {size : Size} {q₀ : Saved} {o : Outcome} → Reached ahead size q₀ o → (e : Event ℕ) → Reached ahead size q₀ (after ahead size o e)
+pub reached-after : {ahead : ℕ → ℕ → Bool} {size : Size} {q₀ : Saved} {o : Progress} → Reached ahead size q₀ o → (e : Event ℕ) → Reached ahead size q₀ (afterEvent ahead size o e)
 reached-after {ahead} {size} {q₀} {o} r e = go (give-ways ahead size (o .state) e) where
   go : Ways (isSound ahead size (o .state)) (judgedOn ahead (o .state) e) (o .state) (next ahead (o .state) e) (valueOf (o .state) e) (give ahead size (o .state) e)
-      → Reached ahead size q₀ (after ahead size o e)
+      → Reached ahead size q₀ (afterEvent ahead size o e)
   go (inr w) = rw (after-refused ahead size o e (w .1)) r
   go (inl w) =
       let p : Possible (table ahead q₀) (urgent (table ahead q₀)) (o .history) e =
@@ -98,7 +98,7 @@ reached-after {ahead} {size} {q₀} {o} r e = go (give-ways ahead size (o .state
       })
 
 -- any number of events more
-reached-replay : {ahead : ℕ → ℕ → Bool} {size : Size} {q₀ : Saved} (es : List (Event ℕ)) {o : Outcome} → Reached ahead size q₀ o → Reached ahead size q₀ (replay ahead size o es)
+reached-replay : {ahead : ℕ → ℕ → Bool} {size : Size} {q₀ : Saved} (es : List (Event ℕ)) {o : Progress} → Reached ahead size q₀ o → Reached ahead size q₀ (replay ahead size o es)
 unfolding replay
 reached-replay [] r = r
 reached-replay (e ∷ es) r = reached-replay es (reached-after r e)

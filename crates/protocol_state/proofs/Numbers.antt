@@ -13,12 +13,12 @@ use Rattle.protocol.proofs.Theorem.{lowest-only, numbers-ideal, settled}
 use Rattle.protocol.proofs.ZeroRun.{ideals-read}
 use Rattle.protocol_state.specs.Saved.{Size, Saved, table}
 use Rattle.protocol_state.specs.Rules.{Ranks}
-use Rattle.protocol_state.specs.Give.{Outcome}
+use Rattle.protocol_state.specs.Give.{Progress}
 use Rattle.protocol_state.proofs.Rules.{lawful}
 use Rattle.protocol_state.proofs.History.{reached-possible}
 use Rattle.protocol_state.specs.Reached.{Reached}
 
-module _ {ahead : ℕ → ℕ → Bool} (ranks : Ranks ahead) {size : Size} {q₀ : Saved} {o : Outcome} (r : Reached ahead size q₀ o) where
+module _ {ahead : ℕ → ℕ → Bool} (ranks : Ranks ahead) {size : Size} {q₀ : Saved} {o : Progress} (r : Reached ahead size q₀ o) where
   -- the table keeps the rules that demand 3 rests on
   pub table-lawful : Lawful (table ahead q₀)
   table-lawful = subst (λ (T : Table ℕ). Lawful T) (r .same) (lawful ranks size (o .state) (r .sound .rules))

@@ -20,19 +20,19 @@ use Rattle.protocol_state.specs.Decision.{decided}
 use Rattle.protocol_state.specs.Judge.{allows, mayArrive, judgedArrival, preempted, judgedTask, judgedRead, judgedOn}
 use Rattle.protocol_state.specs.Next.{next}
 use Rattle.protocol_state.specs.Sound.{Sound}
-use Rattle.protocol_state.specs.Reached.{Stands, idle, waiting, running, Agrees}
+use Rattle.protocol_state.specs.Reached.{InPhase, idle, waiting, running, Agrees}
 use Rattle.protocol_state.proofs.Decision.{decided-rule}
 use Rattle.protocol_state.proofs.Places.{some-same, every-none-fails}
 use Rattle.protocol_state.proofs.Keeps.{obeys, were-idle, phase-kept, was-waiting, was-running}
 
 -- ---- a step of one task
-arrives : {a s f : ℕ} → Stands 0 a s f → Stands 1 (suc a) s f
+arrives : {a s f : ℕ} → InPhase 0 a s f → InPhase 1 (suc a) s f
 arrives idle = waiting
 
-begins : {a s f : ℕ} → Stands 1 a s f → Stands 2 a (suc s) f
+begins : {a s f : ℕ} → InPhase 1 a s f → InPhase 2 a (suc s) f
 begins waiting = running
 
-ends : {a s f : ℕ} → Stands 2 a s f → Stands 0 a s (suc f)
+ends : {a s f : ℕ} → InPhase 2 a s f → InPhase 0 a s (suc f)
 ends running = idle
 
 -- each allowed event keeps phases and history in agreement
@@ -40,20 +40,20 @@ pub agrees-next : {ahead : ℕ → ℕ → Bool} {size : Size} {q : Saved} → S
     → (e : Event ℕ) → judgedOn ahead q e ≡ 0 → Agrees (e ∷ h) (next ahead q e)
 unfolding arrivals starts finishes
 agrees-next {ahead} {size} {q} S G h A (arrival m) ok t = go (has m t) refl where
-  go : (b : Bool) → has m t ≡ b → Stands (at (next ahead q (arrival m) .phase) t) (arrivals (arrival m ∷ h) t) (starts h t) (finishes h t)
+  go : (b : Bool) → has m t ≡ b → InPhase (at (next ahead q (arrival m) .phase) t) (arrivals (arrival m ∷ h) t) (starts h t) (finishes h t)
   go true e =
       let i = were-idle q G S m ok t e in
       rw (i .1, arrivals-in h m t e) (arrives (rw (i .0) at (A t)))
   go false e = rw (phase-kept q G S m ok t e, arrivals-out h m t e) (A t)
 agrees-next {ahead} {size} {q} S G h A (start u) ok t = go (ℕ-discrete t u) where
-  go : Dec (t ≡ u) → Stands (at (next ahead q (start u) .phase) t) (arrivals h t) (starts (start u ∷ h) t) (finishes h t)
+  go : Dec (t ≡ u) → InPhase (at (next ahead q (start u) .phase) t) (arrivals h t) (starts (start u ∷ h) t) (finishes h t)
   go (yes e) =
       let i = was-waiting q G S u ok in
       rw (e, i .1, starts-same h u) (begins (rw (i .0) at (A u)))
   go (no e) = rw (getD-set-other (q .phase) u t _ 0 e, starts-other h u t (λ k. e (sym k))) (A t)
 agrees-next S G h A (read l) ok t = A t
 agrees-next {ahead} {size} {q} S G h A (finish u v) ok t = go (ℕ-discrete t u) where
-  go : Dec (t ≡ u) → Stands (at (next ahead q (finish u v) .phase) t) (arrivals h t) (starts h t) (finishes (finish u v ∷ h) t)
+  go : Dec (t ≡ u) → InPhase (at (next ahead q (finish u v) .phase) t) (arrivals h t) (starts h t) (finishes (finish u v ∷ h) t)
   go (yes e) =
       let i = was-running q G S u v ok in
       rw (e, i .1, finishes-same h u v) (ends (rw (i .0) at (A u)))
@@ -61,19 +61,19 @@ agrees-next {ahead} {size} {q} S G h A (finish u v) ok t = go (ℕ-discrete t u)
 
 -- ---- a phase, by the counts
 -- active exactly if not idle
-pub active-is : {p a s f : ℕ} → Stands p a s f → ltb f a ≡ not (eqb p 0)
+pub active-is : {p a s f : ℕ} → InPhase p a s f → ltb f a ≡ not (eqb p 0)
 active-is (idle {n}) = le-ltb n n (omega arith)
 active-is (waiting {n}) = lt-ltb n (suc n) (omega arith)
 active-is (running {n}) = lt-ltb n (suc n) (omega arith)
 
 -- waiting by the history exactly in phase 1
-waiting-is : {p a s f : ℕ} → Stands p a s f → ltb s a ≡ eqb p 1
+waiting-is : {p a s f : ℕ} → InPhase p a s f → ltb s a ≡ eqb p 1
 waiting-is (idle {n}) = le-ltb n n (omega arith)
 waiting-is (waiting {n}) = lt-ltb n (suc n) (omega arith)
 waiting-is (running {n}) = le-ltb (suc n) (suc n) (omega arith)
 
 -- running by the history exactly in phase 2
-running-is : {p a s f : ℕ} → Stands p a s f → ltb f s ≡ eqb p 2
+running-is : {p a s f : ℕ} → InPhase p a s f → ltb f s ≡ eqb p 2
 running-is (idle {n}) = le-ltb n n (omega arith)
 running-is (waiting {n}) = le-ltb n n (omega arith)
 running-is (running {n}) = lt-ltb n (suc n) (omega arith)

@@ -9,13 +9,13 @@ use Rattle.protocol.specs.Schedule.{urgent}
 use Rattle.protocol.proofs.Totals.{totals}
 use Rattle.protocol_state.specs.Saved.{busy}
 use Rattle.protocol_state.specs.Saved.{Size, Saved, table}
-use Rattle.protocol_state.specs.Give.{Outcome}
+use Rattle.protocol_state.specs.Give.{Progress}
 use Rattle.protocol_state.proofs.Places.{count-same}
 use Rattle.protocol_state.proofs.Phases.{active-is}
 use Rattle.protocol_state.proofs.History.{reached-possible}
 use Rattle.protocol_state.specs.Reached.{Reached}
 
-pub reached-totals : {ahead : ℕ → ℕ → Bool} {size : Size} {q₀ : Saved} {o : Outcome} → Reached ahead size q₀ o
+pub reached-totals : {ahead : ℕ → ℕ → Bool} {size : Size} {q₀ : Saved} {o : Progress} → Reached ahead size q₀ o
     → counts (table ahead q₀) (o .history) .arrivals ≡ counts (table ahead q₀) (o .history) .finishes + count (busy (o .state)) (q₀ .tasks)
 reached-totals {ahead} {size} {q₀} {o} r =
     totals (table ahead q₀) (urgent (table ahead q₀)) (o .history) (reached-possible r)

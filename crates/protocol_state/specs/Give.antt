@@ -33,13 +33,13 @@ note (read l) v out = v ∷ out
 note (finish t x) v out = out
 
 -- what stands after some events: the state, the accepted events and the numbers that their reads gave, both the last one first
-pub record Outcome : Type 0 where
+pub record Progress : Type 0 where
   pub state : Saved
   pub history : List (Event ℕ)
   pub numbers : List ℕ
 
 -- before any event
-abbrev pub begin : Saved → Outcome
+abbrev pub begin : Saved → Progress
 begin q = record { state = q; history = []; numbers = [] }
 
 module _ (ahead : ℕ → ℕ → Bool) (size : Size) where
@@ -48,23 +48,23 @@ module _ (ahead : ℕ → ℕ → Bool) (size : Size) where
   give q e = settled (isSound ahead size q) (judgedOn ahead q e) q (next ahead q e) (valueOf q e)
 
   -- one event more: where it is refused, all stays
-  unfoldable pub after : Outcome → Event ℕ → Outcome
-  after o e =
+  unfoldable pub afterEvent : Progress → Event ℕ → Progress
+  afterEvent o e =
       cond (eqb (give (o .state) e .refusal) 0)
       (record { state = give (o .state) e .state; history = e ∷ o .history; numbers = note e (give (o .state) e .value) (o .numbers) })
       o
 
   -- events one after the other
-  unfoldable pub replay : Outcome → List (Event ℕ) → Outcome
+  unfoldable pub replay : Progress → List (Event ℕ) → Progress
   replay o [] = o
-  replay o (e ∷ es) = replay (after o e) es
+  replay o (e ∷ es) = replay (afterEvent o e) es
 
   -- those of the events that are accepted, in their order
-  unfoldable pub accepted : Outcome → List (Event ℕ) → List (Event ℕ)
+  unfoldable pub accepted : Progress → List (Event ℕ) → List (Event ℕ)
   accepted o [] = []
-  accepted o (e ∷ es) = cond (eqb (give (o .state) e .refusal) 0) (e ∷ accepted (after o e) es) (accepted o es)
+  accepted o (e ∷ es) = cond (eqb (give (o .state) e .refusal) 0) (e ∷ accepted (afterEvent o e) es) (accepted o es)
 
   -- each of the events is accepted in its turn
-  unfoldable pub AllAccepted : Outcome → List (Event ℕ) → Type 0
+  unfoldable pub AllAccepted : Progress → List (Event ℕ) → Type 0
   AllAccepted o [] = Unit {0}
-  AllAccepted o (e ∷ es) = (give (o .state) e .refusal ≡ 0) × AllAccepted (after o e) es
+  AllAccepted o (e ∷ es) = (give (o .state) e .refusal ≡ 0) × AllAccepted (afterEvent o e) es

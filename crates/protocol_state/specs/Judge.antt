@@ -1,4 +1,12 @@
 -- Refusals 12 to 16 of a sound state, tried in rising order; 0 is none. T and L count tasks and links, ph are the phases, R the links' readers.
+-- Who judges what, from the mathematics down to the replay; that they agree is shown where the lower one stands:
+--   judged        (protocol)         an event, by the table and the history of accepted events: no state
+--   judgedTable   (here, Rules)      a table: 2 to 9
+--   judgedArrival, judgedTask, judgedRead   an event's parts, by phases; judgedEvent: an event, by which of the three it is
+--   judgedOn                         an event given to a saved state
+--   judgedIn      (recording_core)   an event of a recording: judgedOn, then 18 for want of room
+--   judgedBy      (recording_play)   the same on the lent parts of a state
+--   settingJudged (settings)         an entry of a settings list: 26
 -- Assumes nothing.
 use mathlib.Core.Bool.{Bool, cond, not, _&&_, _||_}
 use Prim.Native.Nat.{ℕ, _^_}

@@ -60,8 +60,8 @@ abbrev pub started : ℕ → Saved → Saved
 started t q = withParts q (phasesAfter 1 t (q .phase)) (q .newest) (q .previous) (q .cells) (q .pointer)
 
 -- the number that link l reads: the one at its pointer in its writer's positions
-abbrev pub numberOf : ℕ → (ℕ → ℕ) → (ℕ → ℕ) → (ℕ → ℕ) → ℕ
-numberOf l W P C = C (cellOf (W l) (P l))
+abbrev pub numberRead : ℕ → (ℕ → ℕ) → (ℕ → ℕ) → (ℕ → ℕ) → ℕ
+numberRead l W P C = C (cellOf (W l) (P l))
 
 module _ (ahead : ℕ → ℕ → Bool) where
   -- the writers' part: task t's newest x becomes the lowest free position; n counts the links
@@ -106,7 +106,7 @@ module _ (ahead : ℕ → ℕ → Bool) where
 abbrev pub valueBy : Event ℕ → (ℕ → ℕ) → (ℕ → ℕ) → (ℕ → ℕ) → ℕ
 valueBy (arrival s) W P C = 0
 valueBy (start t) W P C = 0
-valueBy (read l) W P C = numberOf l W P C
+valueBy (read l) W P C = numberRead l W P C
 valueBy (finish t v) W P C = 0
 
 -- that of an event given to a saved state

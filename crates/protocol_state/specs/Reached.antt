@@ -10,21 +10,21 @@ use Rattle.protocol.specs.Schedule.{urgent}
 use Rattle.protocol.specs.Published.{Lowest, Run, numbers}
 use Rattle.protocol_state.specs.Saved.{Size, Saved, Shape, at, table, boxes}
 use Rattle.protocol_state.specs.Sound.{Sound}
-use Rattle.protocol_state.specs.Give.{Outcome}
+use Rattle.protocol_state.specs.Give.{Progress}
 
--- `Stands p a s f`: a task in phase p, with a arrivals, s starts and f finishes. Idle: all as many; waiting: one arrival more; running: and its start
-pub data Stands : ℕ → ℕ → ℕ → ℕ → Type 0 where
-  idle : {n : ℕ} → Stands 0 n n n
-  waiting : {n : ℕ} → Stands 1 (suc n) n n
-  running : {n : ℕ} → Stands 2 (suc n) (suc n) n
+-- `InPhase p a s f`: a task in phase p, with a arrivals, s starts and f finishes. Idle: all as many; waiting: one arrival more; running: and its start
+pub data InPhase : ℕ → ℕ → ℕ → ℕ → Type 0 where
+  idle : {n : ℕ} → InPhase 0 n n n
+  waiting : {n : ℕ} → InPhase 1 (suc n) n n
+  running : {n : ℕ} → InPhase 2 (suc n) (suc n) n
 
 -- every task stands as the history says
 abbrev pub Agrees : List (Event ℕ) → Saved → Type 0
-Agrees h q = (t : ℕ) → Stands (at (q .phase) t) (arrivals h t) (starts h t) (finishes h t)
+Agrees h q = (t : ℕ) → InPhase (at (q .phase) t) (arrivals h t) (starts h t) (finishes h t)
 
 -- what holds of an outcome that the state q₀ came to: a sound state of the same table, whose phases are the history's, whose boxes are those of a run of
 -- the published protocol over the accepted events, and whose numbers are those that this run reads
-pub record Reached (ahead : ℕ → ℕ → Bool) (size : Size) (q₀ : Saved) (o : Outcome) : Type 0 where
+pub record Reached (ahead : ℕ → ℕ → Bool) (size : Size) (q₀ : Saved) (o : Progress) : Type 0 where
   pub shape : Shape size (o .state)
   pub sound : Sound ahead size (o .state)
   pub same : table ahead (o .state) ≡ table ahead q₀

@@ -15,13 +15,13 @@ use Rattle.protocol_state.proofs.History.{reached-possible}
 use Rattle.byte_format.specs.Number.{Bytes}
 use Rattle.byte_format.specs.Stands.{Stands}
 use Rattle.byte_format.specs.Format.{got, encodes, FitEach}
-use Rattle.byte_format.specs.Play.{Reply, reply, Allowed, Cut}
+use Rattle.byte_format.specs.Play.{Verdict, verdict, Allowed, Cut}
 use Rattle.recording_format.specs.Link.{Link, listed}
 use Rattle.byte_format.specs.Section.{Faulty}
 use Rattle.recording_format.specs.Event.{eventAt, events}
 use Rattle.recording_format.specs.Limits.{Limits, eventLimit}
 use Rattle.recording_format.specs.Recording.{encodeRecording, recording, throughE, stateAfter, Recorded}
-use Rattle.recording_format.specs.Outcome.{TableTo, Outcome, taskCount, taskRecord, linkCount, linkRecord, eventCount, eventRecord, extraBytes, accepted}
+use Rattle.recording_format.specs.Outcome.{TableTo, RecordingOutcome, taskCount, taskRecord, linkCount, linkRecord, eventCount, eventRecord, extraBytes, accepted}
 use Rattle.recording_format.proofs.Sizes.{tasks-within, within-tasks, links-within, within-links, events-within, within-events, tasks-fit, links-fit, events-fit}
 use Rattle.recording_format.proofs.LinkRules.{length-listed, allowed-no-fault, no-fault-allowed, allowed-judged, recorded-judged}
 use Rattle.byte_format.proofs.Sections.{section-records, faulty-records}
@@ -93,7 +93,7 @@ module _ {ahead : ℕ → ℕ → Bool} (ranks : Ranks ahead) (most : Limits) (o
         }
 
     -- demand 2: always accepted if genuine; the place is the length, and the state, the counts and the list are those of its events
-    pub genuine-accepted : (q : Playing) × (recording ahead most (coreOf ahead (most .size) out) s ≡ reply 0 (length s) q) × Right ahead (most .size) (freshTable (most .size) ds ls) out (past [] es) q
+    pub genuine-accepted : (q : Playing) × (recording ahead most (coreOf ahead (most .size) out) s ≡ verdict 0 (length s) q) × Right ahead (most .size) (freshTable (most .size) ds ls) out (past [] es) q
     genuine-accepted =
         let ok : Fine ahead most ds ls = recorded-judged ahead most (coreOf ahead (most .size) out) s ds ls es genuine-recorded in (
           stateAfter (coreOf ahead (most .size) out) ds ls es,
@@ -110,27 +110,27 @@ module _ {ahead : ℕ → ℕ → Bool} (ranks : Ranks ahead) (most : Limits) (o
     -- "The answer is that of its whole records (state, counts, list)": the recording of those records alone is accepted, at the place and with the state
     -- of the answer x to the cut
     pub cut-whole :
-        (m : ℕ) {x : Reply Playing} (c : Cut events (steppedIn ahead) (coreOf ahead (most .size) out .start ds (listed ls)) es (throughE ds ls) m x) →
-        recording ahead most (coreOf ahead (most .size) out) (encodeRecording ds ls (c .whole)) ≡ reply 0 (x .place) (x .state)
+        (m : ℕ) {x : Verdict Playing} (c : Cut events (steppedIn ahead) (coreOf ahead (most .size) out .start ds (listed ls)) es (throughE ds ls) m x) →
+        recording ahead most (coreOf ahead (most .size) out) (encodeRecording ds ls (c .whole)) ≡ verdict 0 (x .place) (x .state)
     cut-whole m c = cut-as-whole ahead most (coreOf ahead (most .size) out) s ds ls es genuine-recorded m c
 
   table-ok : {s ds : List ℕ} {ls : List Link} {m : ℕ} → TableTo ahead most s ds ls m → Fine ahead most ds ls
   table-ok {ds = ds} {ls = ls} t = allowed-judged ahead (length ds) most ls (t .tasked .kept .few) (t .linked .kept .few) (t .linked .kept .allowed)
 
   -- every answer is one with a table, or the single task's with nothing counted and the list untouched
-  pub answers-right : (s : List ℕ) {x : Reply Playing} → Outcome ahead most (coreOf ahead (most .size) out) s x → (x .state ≡ coreOf ahead (most .size) out .single) ⊎ WithTable ahead most out s x
+  pub answers-right : (s : List ℕ) {x : Verdict Playing} → RecordingOutcome ahead most (coreOf ahead (most .size) out) s x → (x .state ≡ coreOf ahead (most .size) out .single) ⊎ WithTable ahead most out s x
   answers-right s {x} o = go o
     where
-      single : {r p : ℕ} → x ≡ reply r p (coreOf ahead (most .size) out .single) → (x .state ≡ coreOf ahead (most .size) out .single) ⊎ WithTable ahead most out s x
-      single e = inl (ap (λ (y : Reply Playing). y .state) e)
+      single : {r p : ℕ} → x ≡ verdict r p (coreOf ahead (most .size) out .single) → (x .state ≡ coreOf ahead (most .size) out .single) ⊎ WithTable ahead most out s x
+      single e = inl (ap (λ (y : Verdict Playing). y .state) e)
 
       table : {r p : ℕ} (ds : List ℕ) (ls : List Link) (m : ℕ) (es : List (Event ℕ)) → TableTo ahead most s ds ls m → FitEach events es → Stands s (m + 2) (encodes events es) p
           → Allowed (judgedIn ahead) (steppedIn ahead) (coreOf ahead (most .size) out .start ds (listed ls)) es
-          → x ≡ reply r p (stateAfter (coreOf ahead (most .size) out) ds ls es) → (x .state ≡ coreOf ahead (most .size) out .single) ⊎ WithTable ahead most out s x
+          → x ≡ verdict r p (stateAfter (coreOf ahead (most .size) out) ds ls es) → (x .state ≡ coreOf ahead (most .size) out .single) ⊎ WithTable ahead most out s x
       table ds ls m es t f b a e =
           inr (rw e (record { tasks = ds; links = ls; happened = es; place = m; stands = t; fits = f; read = b; right = goes-on ds ls es (table-ok t) a }))
 
-      go : Outcome ahead most (coreOf ahead (most .size) out) s x → (x .state ≡ coreOf ahead (most .size) out .single) ⊎ WithTable ahead most out s x
+      go : RecordingOutcome ahead most (coreOf ahead (most .size) out) s x → (x .state ≡ coreOf ahead (most .size) out .single) ⊎ WithTable ahead most out s x
       go (taskCount r n u e) = single e
       go (taskRecord ds r p n f e) = single e
       go (linkCount ds r p n t u e) = single e

@@ -20,7 +20,7 @@ use Rattle.protocol_state.specs.Rules.{Ranks, judgedTable}
 use Rattle.protocol_state.specs.Judge.{judgedOn}
 use Rattle.protocol_state.specs.Next.{next, valueOf}
 use Rattle.protocol_state.specs.Fresh.{freshOf}
-use Rattle.protocol_state.specs.Give.{Outcome, note}
+use Rattle.protocol_state.specs.Give.{Progress, note}
 use Rattle.protocol_state.specs.Reached.{Reached}
 use Rattle.protocol_state.proofs.Give.{give-done}
 use Rattle.protocol_state.proofs.History.{reached-sound, judged-history, after-done, reached-after, reached-fresh}
@@ -121,12 +121,12 @@ module _ {ahead : ℕ → ℕ → Bool} {size : Size} {q₀ : Saved} {out : List
     unfolding judgedIn
     core-allows = both-zero (judgedOn ahead (q .state) e) _ z .0
 
-    abbrev noted : Outcome
+    abbrev noted : Progress
     noted = record { state = next ahead (q .state) e; history = e ∷ h; numbers = note e (valueOf (q .state) e) (ideals (table ahead q₀) h) }
 
     noted-reached : Reached ahead size q₀ noted
     noted-reached =
-        subst (λ (o : Outcome). Reached ahead size q₀ o)
+        subst (λ (o : Progress). Reached ahead size q₀ o)
         (after-done ahead size (record { state = q .state; history = h; numbers = ideals (table ahead q₀) h }) e _ _ (give-done ahead size (q .state) e (reached-sound (R .reached)) core-allows))
         (reached-after (R .reached) e)
 

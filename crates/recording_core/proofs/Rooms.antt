@@ -15,13 +15,13 @@ use Rattle.protocol_state.specs.Saved.{Size}
 use Rattle.protocol_state.specs.Judge.{judgedOn}
 use Rattle.protocol_state.specs.Next.{next, valueOf}
 use Rattle.protocol_state.specs.Fresh.{single}
-use Rattle.byte_format.specs.Play.{Reply, reply, Allowed}
+use Rattle.byte_format.specs.Play.{Verdict, verdict, Allowed}
 use Rattle.byte_format.specs.Handed.{Handed, tally, weighed, weighedSection}
 use Rattle.recording_format.specs.Link.{Link, Links, listed}
 use Rattle.recording_format.specs.Event.{encodeEvent, events}
 use Rattle.recording_format.specs.Limits.{Limits, eventLimit}
 use Rattle.recording_format.specs.Recording.{Core, Recorded}
-use Rattle.recording_format.specs.Writing.{tasksWeighed, linksWeighed, tableWeighed, whole}
+use Rattle.recording_format.specs.Writing.{tasksWeighed, linksWeighed, tableWeighed, recordingWeighed}
 use Rattle.recording_core.specs.Playing.{Playing, judgedIn, steppedIn, coreOf, stateCore, alone}
 use Rattle.recording_core.specs.Promise.{past}
 use Rattle.recording_core.proofs.Right.{reads-past, both-zero, room-enough}
@@ -93,23 +93,23 @@ module _ (ahead : ℕ → ℕ → Bool) where
       go :
           (t : Bool) →
           weighed events (judgedOn ahead) (next ahead) ending (next ahead (q .state) e) es n ≡ alone (weighed events (judgedIn ahead) (steppedIn ahead) ending (steppedIn ahead q e) es n) →
-          cond t (weighed events (judgedOn ahead) (next ahead) ending (next ahead (q .state) e) es n) (reply j p (q .state))
-          ≡ alone (cond t (weighed events (judgedIn ahead) (steppedIn ahead) ending (steppedIn ahead q e) es n) (reply j p q))
+          cond t (weighed events (judgedOn ahead) (next ahead) ending (next ahead (q .state) e) es n) (verdict j p (q .state))
+          ≡ alone (cond t (weighed events (judgedIn ahead) (steppedIn ahead) ending (steppedIn ahead q e) es n) (verdict j p q))
       go true i = i
       go false i = refl
 
 -- so too with a table before them: the same refusal at the same place, in the same state
 pub whole-with-room :
     (ahead : ℕ → ℕ → Bool) (most : Limits) (size : Size) (out ds : List ℕ) (ls : Handed Link) (es : Handed (Event ℕ)) → reads (past [] (es .whole)) ≤ length out →
-    whole ahead most (stateCore ahead size) ds ls es ≡ alone (whole ahead most (coreOf ahead size out) ds ls es)
-unfolding whole tableWeighed weighedSection reads
+    recordingWeighed ahead most (stateCore ahead size) ds ls es ≡ alone (recordingWeighed ahead most (coreOf ahead size out) ds ls es)
+unfolding recordingWeighed tableWeighed weighedSection reads
 whole-with-room ahead most size out ds ls es l =
     go (eqb (tasksWeighed most ds .refusal) 0) (eqb (linksWeighed ahead most (length (tasksWeighed most ds .state)) ls (tasksWeighed most ds .place) .refusal) 0) (eqb (eventLimit most (tally es)) 0)
   where
-    T : Reply (List ℕ)
+    T : Verdict (List ℕ)
     T = tasksWeighed most ds
 
-    L : Reply Links
+    L : Verdict Links
     L = linksWeighed ahead most (length (T .state)) ls (T .place)
 
     E : ℕ
@@ -121,12 +121,12 @@ whole-with-room ahead most size out ds ls es l =
     go :
         (t u v : Bool) →
         cond t
-        (cond u (cond v (weighed events (judgedOn ahead) (next ahead) (es .ending) (q .state) (es .whole) (L .place + 2)) (reply E (L .place) (single size))) (reply (L .refusal) (L .place) (single size)))
-        (reply (T .refusal) (T .place) (single size))
+        (cond u (cond v (weighed events (judgedOn ahead) (next ahead) (es .ending) (q .state) (es .whole) (L .place + 2)) (verdict E (L .place) (single size))) (verdict (L .refusal) (L .place) (single size)))
+        (verdict (T .refusal) (T .place) (single size))
         ≡ alone
         (cond t
-        (cond u (cond v (weighed events (judgedIn ahead) (steppedIn ahead) (es .ending) q (es .whole) (L .place + 2)) (reply E (L .place) (coreOf ahead size out .single))) (reply (L .refusal) (L .place) (coreOf ahead size out .single)))
-        (reply (T .refusal) (T .place) (coreOf ahead size out .single)))
+        (cond u (cond v (weighed events (judgedIn ahead) (steppedIn ahead) (es .ending) q (es .whole) (L .place + 2)) (verdict E (L .place) (coreOf ahead size out .single))) (verdict (L .refusal) (L .place) (coreOf ahead size out .single)))
+        (verdict (T .refusal) (T .place) (coreOf ahead size out .single)))
     go true true true = weighed-with-room ahead (es .ending) (es .whole) [] q (L .place + 2) refl l
     go true true false = refl
     go true false v = refl

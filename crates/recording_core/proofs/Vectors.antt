@@ -15,7 +15,7 @@ use Rattle.protocol_state.specs.Next.{newestAfter, previousAfter, pointerAfter,
 use Rattle.protocol_state.specs.Fresh.{freshOf}
 use Rattle.byte_format.specs.Number.{bytesOf, numberOf}
 use Rattle.byte_format.specs.Format.{encodes}
-use Rattle.byte_format.specs.Play.{Reply, play}
+use Rattle.byte_format.specs.Play.{Verdict, play}
 use Rattle.byte_format.specs.Section.{countAt, section}
 use Rattle.recording_format.specs.Link.{Link, linkFault}
 use Rattle.recording_format.specs.Event.{encodeEvent}
@@ -38,7 +38,7 @@ abbrev sevens : ℕ → List ℕ
 sevens n = replicate n 7
 
 -- what a case says of a reply
-abbrev answered : Reply Playing → Summary
+abbrev answered : Verdict Playing → Summary
 answered x = record { refusal = x .refusal; place = x .place; counts = x .state .counts; list = x .state .list }
 
 -- the answer to these bytes, with room for eight numbers, each 7 at first

@@ -12,7 +12,7 @@ use Rattle.protocol_state.specs.Saved.{Size, Saved, table}
 use Rattle.protocol_state.specs.Reached.{Reached}
 use Rattle.byte_format.specs.Stands.{Stands}
 use Rattle.byte_format.specs.Format.{encodes, FitEach}
-use Rattle.byte_format.specs.Play.{Reply}
+use Rattle.byte_format.specs.Play.{Verdict}
 use Rattle.recording_format.specs.Link.{Link}
 use Rattle.recording_format.specs.Event.{events}
 use Rattle.recording_format.specs.Limits.{Limits}
@@ -30,7 +30,7 @@ pub record Right (ahead : ℕ → ℕ → Bool) (size : Size) (q₀ : Saved) (ou
 
 -- an answer x to the bytes s, with a table: the table stands up to E, at `place`; the accepted events stand after E, up to the place of the answer;
 -- and what the answer holds is right after them
-pub record WithTable (ahead : ℕ → ℕ → Bool) (most : Limits) (out s : List ℕ) (x : Reply Playing) : Type 0 where
+pub record WithTable (ahead : ℕ → ℕ → Bool) (most : Limits) (out s : List ℕ) (x : Verdict Playing) : Type 0 where
   pub tasks : List ℕ
   pub links : List Link
   pub happened : List (Event ℕ)

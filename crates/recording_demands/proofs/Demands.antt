@@ -18,13 +18,13 @@ use Rattle.protocol_state.specs.Saved.{Saved, base, table, boxes, busy}
 use Rattle.protocol_state.specs.Fresh.{freshOf}
 use Rattle.protocol_state.proofs.Rules.{ltb-ranks}
 use Rattle.byte_format.specs.Format.{got}
-use Rattle.byte_format.specs.Play.{Reply, reply, Cut}
+use Rattle.byte_format.specs.Play.{Verdict, verdict, Cut}
 use Rattle.byte_format.specs.Section.{Faulty}
 use Rattle.recording_format.specs.Link.{Link, listed}
 use Rattle.recording_format.specs.Event.{eventAt, events}
 use Rattle.recording_format.specs.Limits.{baseLimits, eventLimit}
 use Rattle.recording_format.specs.Recording.{encodeRecording, throughE, recording}
-use Rattle.recording_format.specs.Outcome.{TableTo, Outcome, eventRecord}
+use Rattle.recording_format.specs.Outcome.{TableTo, RecordingOutcome, eventRecord}
 use Rattle.recording_format.proofs.Outcomes.{recording-outcome}
 use Rattle.recording_format.proofs.Decided.{outcome-is}
 use Rattle.recording_core.specs.Playing.{Playing, coreOf, judgedIn, steppedIn}
@@ -35,7 +35,7 @@ use Rattle.recording_core.proofs.Answers.{answer-totals, answer-zero-run, answe
 use Rattle.mailbox.specs.States.{saved}
 use Rattle.recording.specs.Answers.{replied}
 use Rattle.recording.specs.declared.Answer.{Answer}
-use Rattle.recording_demands.specs.Ensured.{Ensured, ZeroTime}
+use Rattle.recording_demands.specs.Ensured.{Replays, ZeroTime}
 
 -- demand 3 of a list that is right
 timed : {q₀ : Saved} {out : List ℕ} {h : List (Event ℕ)} {q : Playing} → Right ltb base q₀ out h q → ZeroTime (table ltb q₀) h out (q .list)
@@ -45,14 +45,14 @@ timed {q₀} R = record {
   finished = answer-settled R ltb-ranks;
 }
 
-module _ {s out list : List ℕ} {a : Answer} (said : Ensured s out a list) where
+module _ {s out list : List ℕ} {a : Answer} (said : Replays s out a list) where
   -- each refusal is given exactly when document 01 says, at its place and with its state: where the first fault lies, or that there is none
-  pub answered : Outcome ltb baseLimits (coreOf ltb base out) s (replied a list)
+  pub answered : RecordingOutcome ltb baseLimits (coreOf ltb base out) s (replied a list)
   answered =
-      subst (λ (x : Reply Playing). Outcome ltb baseLimits (coreOf ltb base out) s x) (sym (said .answer)) (recording-outcome ltb baseLimits (coreOf ltb base out) s (said .bytes))
+      subst (λ (x : Verdict Playing). RecordingOutcome ltb baseLimits (coreOf ltb base out) s x) (sym (said .answer)) (recording-outcome ltb baseLimits (coreOf ltb base out) s (said .bytes))
 
   -- and no other answer has the first fault of these bytes
-  pub only-answer : {x : Reply Playing} → Outcome ltb baseLimits (coreOf ltb base out) s x → x ≡ replied a list
+  pub only-answer : {x : Verdict Playing} → RecordingOutcome ltb baseLimits (coreOf ltb base out) s x → x ≡ replied a list
   only-answer o = outcome-is ltb baseLimits (coreOf ltb base out) s o ∙ sym (said .answer)
 
   -- 12 to 16 and 18: where the table and these events stand and were accepted, and the next record is there and refused, it is refused by the table
@@ -63,26 +63,26 @@ module _ {s out list : List ℕ} {a : Answer} (said : Ensured s out a list) wher
       → {e : Event ℕ} {n : ℕ} → eventAt s p ≡ got e n → (a .place ≡ p) × (a .refusal ≡ refusedBy (tableOf ltb baseLimits ds ls) out (past [] es) e)
   refused-by-history {ds} {ls} {m} {r} {p} {es} t f n u =
       let there = sym (only-answer (eventRecord ds ls m es r p n t f refl)) in
-      (ap (λ (x : Reply Playing). x .place) there, ap (λ (x : Reply Playing). x .refusal) there ∙ event-refused ltb-ranks baseLimits out t f u)
+      (ap (λ (x : Verdict Playing). x .place) there, ap (λ (x : Verdict Playing). x .refusal) there ∙ event-refused ltb-ranks baseLimits out t f u)
 
   -- demand 2: accepted only if there are a table, links and events whose encoding the bytes are, and so on
   pub accepted-only : a .refusal ≡ 0 → (ds : List ℕ) × ((ls : List Link) × ((es : List (Event ℕ)) × Genuine ltb baseLimits s out ds ls es))
-  accepted-only z = accepted-genuine ltb-ranks baseLimits out s (said .bytes) (sym (ap (λ (x : Reply Playing). x .refusal) (said .answer)) ∙ z)
+  accepted-only z = accepted-genuine ltb-ranks baseLimits out s (said .bytes) (sym (ap (λ (x : Verdict Playing). x .refusal) (said .answer)) ∙ z)
 
   module _ {ds : List ℕ} {ls : List Link} {es : List (Event ℕ)} (g : Genuine ltb baseLimits s out ds ls es) where
-    genuine : (q : Playing) × (recording ltb baseLimits (coreOf ltb base out) s ≡ reply 0 (length s) q) × Right ltb base (freshTable base ds ls) out (past [] es) q
+    genuine : (q : Playing) × (recording ltb baseLimits (coreOf ltb base out) s ≡ verdict 0 (length s) q) × Right ltb base (freshTable base ds ls) out (past [] es) q
     genuine = genuine-accepted ltb-ranks baseLimits out (lit< tt) (lit< tt) (lit< tt) g
 
-    answer-is : replied a list ≡ reply 0 (length s) (genuine .0)
+    answer-is : replied a list ≡ verdict 0 (length s) (genuine .0)
     answer-is = said .answer ∙ genuine .1
 
     -- and always then; the place is the length
     pub accepted-all : (a .refusal ≡ 0) × (a .place ≡ length s)
-    accepted-all = (ap (λ (x : Reply Playing). x .refusal) answer-is, ap (λ (x : Reply Playing). x .place) answer-is)
+    accepted-all = (ap (λ (x : Verdict Playing). x .refusal) answer-is, ap (λ (x : Verdict Playing). x .place) answer-is)
 
     -- demands 2 and 3: the state, the counts and the list are right after the recording's own events
     pub accepted-right : Right ltb base (freshTable base ds ls) out (past [] es) (replied a list .state)
-    accepted-right = subst (λ (q : Playing). Right ltb base (freshTable base ds ls) out (past [] es) q) (sym (ap (λ (x : Reply Playing). x .state) answer-is)) (genuine .2)
+    accepted-right = subst (λ (q : Playing). Right ltb base (freshTable base ds ls) out (past [] es) q) (sym (ap (λ (x : Verdict Playing). x .state) answer-is)) (genuine .2)
 
     -- demand 3: the list holds the numbers of the run where tasks take no time, none from an unfinished run
     pub zero-time : ZeroTime (tableOf ltb baseLimits ds ls) (past [] es) out list
@@ -116,16 +116,16 @@ module _ {s out list : List ℕ} {a : Answer} (w : WithTable ltb baseLimits out 
   totals = answer-totals (w .right)
 
 -- the power cut: of a recording that is accepted only the first m bytes are kept, at least through E
-module _ {s out list ds : List ℕ} {ls : List Link} {es : List (Event ℕ)} {a : Answer} (g : Genuine ltb baseLimits s out ds ls es) (m : ℕ) (said : Ensured (take m s) out a list) where
+module _ {s out list ds : List ℕ} {ls : List Link} {es : List (Event ℕ)} {a : Answer} (g : Genuine ltb baseLimits s out ds ls es) (m : ℕ) (said : Replays (take m s) out a list) where
   module _ (through : throughE ds ls ≤ m) (lost : m < length s) where
     -- 1 at the first record that isn't whole, and the state, the counts and the list after the whole records
     pub after-cut : Cut events (steppedIn ltb) (coreOf ltb base out .start ds (listed ls)) es (throughE ds ls) m (replied a list)
     after-cut =
-        subst (λ (x : Reply Playing). Cut events (steppedIn ltb) (coreOf ltb base out .start ds (listed ls)) es (throughE ds ls) m x) (sym (said .answer))
+        subst (λ (x : Verdict Playing). Cut events (steppedIn ltb) (coreOf ltb base out .start ds (listed ls)) es (throughE ds ls) m x) (sym (said .answer))
         (power-cut ltb-ranks baseLimits out (lit< tt) (lit< tt) (lit< tt) g m through lost)
 
     -- "The answer is that of its whole records (state, counts, list)": of a replay of those records alone, with 1 in place of 0
-    pub as-whole : {b : Answer} {after : List ℕ} → Ensured (encodeRecording ds ls (after-cut .whole)) out b after → replied b after ≡ reply 0 (a .place) (replied a list .state)
+    pub as-whole : {b : Answer} {after : List ℕ} → Replays (encodeRecording ds ls (after-cut .whole)) out b after → replied b after ≡ verdict 0 (a .place) (replied a list .state)
     as-whole whole = whole .answer ∙ cut-whole ltb-ranks baseLimits out (lit< tt) (lit< tt) (lit< tt) g m after-cut
 
   -- "unless nothing was lost"

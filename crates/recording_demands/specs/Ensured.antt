@@ -18,7 +18,7 @@ use Rattle.recording.specs.Answers.{replied}
 use Rattle.recording.specs.declared.Answer.{Answer}
 
 -- the two clauses of `recording::replay`, for the bytes s and the lent list out: it answers a and leaves list
-pub record Ensured (s out : List ℕ) (a : Answer) (list : List ℕ) : Type 0 where
+pub record Replays (s out : List ℕ) (a : Answer) (list : List ℕ) : Type 0 where
   pub answer : replied a list ≡ recording ltb baseLimits (coreOf ltb base out) s
   pub bytes : Bytes s
 

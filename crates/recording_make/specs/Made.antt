@@ -5,7 +5,7 @@ use mathlib.Core.List.{List}
 use Prim.Native.Nat.{ℕ}
 use lib.Dec.{eqb}
 use Rattle.protocol_state.specs.Saved.{Saved}
-use Rattle.byte_format.specs.Play.{Reply}
+use Rattle.byte_format.specs.Play.{Verdict}
 use Rattle.recording_write.specs.Answers.{replyTo, bufferTo}
 use Rattle.recording_text.specs.Text.{readOf, defaultsOf, linksOf, eventsOf}
 use Rattle.recording_text.specs.Place.{lineOf}
@@ -20,11 +20,11 @@ unfoldable pub lineTold : List ℕ → ℕ → ℕ → ℕ
 lineTold text refusal place = cond (eqb refusal 0) 0 (lineOf text refusal place)
 
 -- a text that can be read, whose numbers got this reply from the writer
-abbrev pub replied : List ℕ → Reply Saved → Made
+abbrev pub replied : List ℕ → Verdict Saved → Made
 replied text x = record { fault = 0; line = lineTold text (x .refusal) (x .place); refusal = x .refusal; place = x .place }
 
 -- the reply of the writer to the numbers of a text, with room for so many bytes
-abbrev pub writingOf : List ℕ → ℕ → Reply Saved
+abbrev pub writingOf : List ℕ → ℕ → Verdict Saved
 writingOf text room = replyTo (defaultsOf text) (linksOf text) (eventsOf text) room
 
 -- what is made of a text, with room for so many bytes: a fault of the text comes before a refusal

@@ -13,7 +13,7 @@ use lib.Seq.{drop-cons}
 use Rattle.recording_text.specs.declared.number.Number.{Number}
 use Rattle.recording_text.specs.declared.number.Numbers.{Numbers}
 use Rattle.recording_text.specs.Pieces.{separator, fields, between, Ends}
-use Rattle.recording_text.specs.Numeral.{isDigit, allDigits, valueFrom, value, numberFault, numberOf, firstFault, values, setWith, setOf, gathered, noNumbers, numbersWith}
+use Rattle.recording_text.specs.Numeral.{isDigit, allDigits, valueFrom, value, numberFault, fieldNumber, firstFault, values, setWith, setOf, gathered, noNumbers, numbersWith}
 use Rattle.recording_text.proofs.Splits.{fields-some, fields-past}
 
 -- a digit more
@@ -37,15 +37,15 @@ done f i m h d v =
     (d ∙ ap allDigits n, v ∙ ap (valueFrom m) n)
 
 -- what a field is as a number
-pub number-bad : (f : List ℕ) → allDigits f ≡ false → record { fault = 2; value = 0 } ≡ numberOf f
+pub number-bad : (f : List ℕ) → allDigits f ≡ false → record { fault = 2; value = 0 } ≡ fieldNumber f
 unfolding numberFault
 number-bad f e = rw e
 
-pub number-large : (f : List ℕ) → allDigits f ≡ true → 4294967295 < value f → record { fault = 3; value = 0 } ≡ numberOf f
+pub number-large : (f : List ℕ) → allDigits f ≡ true → 4294967295 < value f → record { fault = 3; value = 0 } ≡ fieldNumber f
 unfolding numberFault
 number-large f e h = rw (e, lt-ltb 4294967295 (value f) h)
 
-pub number-good : (f : List ℕ) → allDigits f ≡ true → value f ≤ 4294967295 → record { fault = 0; value = value f } ≡ numberOf f
+pub number-good : (f : List ℕ) → allDigits f ≡ true → value f ≤ 4294967295 → record { fault = 0; value = value f } ≡ fieldNumber f
 unfolding numberFault
 number-good f e h = rw (e, le-ltb 4294967295 (value f) h)
 
@@ -90,7 +90,7 @@ pub gathered-next :
 gathered-next ns n g p q r s = rw (p, q, r, s, g) (gathered-more ns n)
 
 -- a field of a line more
-module _ (s : List ℕ) (a e : ℕ) (ns : List ℕ) (w : Ends (separator true) s a e) (h : a < e) {v : Number} (g : v ≡ numberOf (between a e s)) where
+module _ (s : List ℕ) (a e : ℕ) (ns : List ℕ) (w : Ends (separator true) s a e) (h : a < e) {v : Number} (g : v ≡ fieldNumber (between a e s)) where
   pub field-more : v .fault ≡ 0 → numbersWith ns (fields (drop a s)) ≡ numbersWith (ns ++ (v .value ∷ [])) (fields (drop (e + 1) s))
   field-more z =
       let f : numberFault (between a e s) ≡ 0 = ap (λ (x : Number). x .fault) (sym g) ∙ z in

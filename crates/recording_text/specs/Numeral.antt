@@ -32,8 +32,8 @@ unfoldable pub numberFault : List ℕ → ℕ
 numberFault f = cond (allDigits f) (cond (ltb 4294967295 (value f)) 3 0) 2
 
 -- a field as a number, 0 with a fault
-abbrev pub numberOf : List ℕ → Number
-numberOf f = record { fault = numberFault f; value = cond (eqb (numberFault f) 0) (value f) 0 }
+abbrev pub fieldNumber : List ℕ → Number
+fieldNumber f = record { fault = numberFault f; value = cond (eqb (numberFault f) 0) (value f) 0 }
 
 -- the first field from the left that is no number says why; 0 where there is none
 unfoldable pub firstFault : List (List ℕ) → ℕ

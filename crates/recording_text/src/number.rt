@@ -5,7 +5,7 @@ ghost use mathlib.Core.List.{List, [], _∷_, _++_};
 ghost use Prim.Native.Nat.{ℕ, _+_, _-_, _*_, _^_, _≤_, _<_, min};
 ghost use lib.ListN.{drop};
 ghost use Rattle.recording_text.specs.Pieces.{fields};
-ghost use Rattle.recording_text.specs.Numeral.{isDigit, numberOf, gathered, noNumbers, numbersWith};
+ghost use Rattle.recording_text.specs.Numeral.{isDigit, fieldNumber, gathered, noNumbers, numbersWith};
 use crate::piece::piece_end;
 
 // One more than the largest number: a number that is no smaller counts as this.
@@ -45,7 +45,7 @@ fn grown(n: u64, digit: u8) -> u64
 
 // What a field says as a number.
 fn number_of(field: &[u8]) -> Number
-    ensures { λ r. ⌜ r ≡ numberOf (now (field .entry)) ⌝ }
+    ensures { λ r. ⌜ r ≡ fieldNumber (now (field .entry)) ⌝ }
 {
     let mut n = 0u64;
     let mut i = 0;

@@ -15,13 +15,13 @@ use Rattle.protocol.specs.History.{reads}
 use Rattle.protocol_state.specs.Saved.{Saved, base}
 use Rattle.protocol_state.proofs.Rules.{ltb-ranks}
 use Rattle.protocol_state.proofs.Give.{judged-small}
-use Rattle.byte_format.specs.Play.{Reply, reply}
+use Rattle.byte_format.specs.Play.{Verdict, verdict}
 use Rattle.byte_format.specs.Handed.{Handed, handed, tally}
 use Rattle.recording_format.specs.Link.{Link}
 use Rattle.recording_format.specs.Limits.{baseLimits}
 use Rattle.recording_format.specs.Recording.{encodeRecording, recording, stateAfter}
 use Rattle.recording_format.specs.Words.{linksSaid, eventsSaid, linkWords, eventWords}
-use Rattle.recording_format.specs.Writing.{whole, held, writing, bytesAsWritten, InBytes}
+use Rattle.recording_format.specs.Writing.{recordingWeighed, heldToRoom, writing, bytesAsWritten, InBytes}
 use Rattle.recording_format.proofs.Words.{links-said, events-said, values-said}
 use Rattle.recording_format.proofs.Weighed.{whole-fine, whole-reply, recorded-whole}
 use Rattle.recording_format.proofs.NumbersRead.{links-ending, events-ending, numbers-as-read}
@@ -34,11 +34,11 @@ use Rattle.recording_core.proofs.Writings.{written-recorded}
 use Rattle.recording_core.proofs.Rooms.{recorded-with-room, recorded-by-state, whole-with-room}
 use Rattle.recording_write.specs.Answers.{writtenOf}
 use Rattle.recording_write.specs.declared.Written.{Written}
-use Rattle.recording_write_demands.specs.Ensured.{Ensured, RecordingOf}
+use Rattle.recording_write_demands.specs.Ensured.{Writes, RecordingOf}
 
 -- what is judged: the tasks, and the links and events that the numbers say
-abbrev weighs : List ℕ → List ℕ → List ℕ → Reply Saved
-weighs ds lw ew = whole ltb baseLimits (stateCore ltb base) ds (linksSaid lw) (eventsSaid ew)
+abbrev weighs : List ℕ → List ℕ → List ℕ → Verdict Saved
+weighs ds lw ew = recordingWeighed ltb baseLimits (stateCore ltb base) ds (linksSaid lw) (eventsSaid ew)
 
 -- their bytes
 abbrev bytes : List ℕ → List ℕ → List ℕ → List ℕ
@@ -52,7 +52,7 @@ not-eighteen ds lw ew =
 -- a recording that is handed over as what it says is refused nothing
 genuine-weighs :
     {s out ds : List ℕ} {ls : List Link} {es : List (Event ℕ)} → Genuine ltb baseLimits s out ds ls es →
-    whole ltb baseLimits (stateCore ltb base) ds (handed ls 0) (handed es 0) ≡ reply 0 (length s) (stateAfter (stateCore ltb base) ds ls es)
+    recordingWeighed ltb baseLimits (stateCore ltb base) ds (handed ls 0) (handed es 0) ≡ verdict 0 (length s) (stateAfter (stateCore ltb base) ds ls es)
 genuine-weighs {s} {out} {ds} {ls} {es} g =
     recorded-whole ltb baseLimits (stateCore ltb base) ds s ls es
     (recorded-by-state ltb baseLimits base out (genuine-recorded ltb-ranks baseLimits out (lit< tt) (lit< tt) (lit< tt) g))
@@ -72,21 +72,21 @@ recording-genuine {ew = ew} r =
 recording-weighs : {ds lw ew s : List ℕ} → RecordingOf ds lw ew s → (weighs ds lw ew .refusal ≡ 0) × (weighs ds lw ew .place ≡ length s)
 recording-weighs {ds} {lw} {ew} {s} r =
     let g = genuine-weighs (recording-genuine r) in
-    let e : weighs ds lw ew ≡ whole ltb baseLimits (stateCore ltb base) ds (handed (linksSaid lw .whole) 0) (handed (eventsSaid ew .whole) 0) =
-    ap (λ (k : ℕ). whole ltb baseLimits (stateCore ltb base) ds (handed (linksSaid lw .whole) k) (eventsSaid ew)) (r .links-whole)
-    ∙ ap (λ (k : ℕ). whole ltb baseLimits (stateCore ltb base) ds (handed (linksSaid lw .whole) 0) (handed (eventsSaid ew .whole) k)) (r .events-whole) in
-    (ap (λ (x : Reply Saved). x .refusal) (e ∙ g), ap (λ (x : Reply Saved). x .place) (e ∙ g))
+    let e : weighs ds lw ew ≡ recordingWeighed ltb baseLimits (stateCore ltb base) ds (handed (linksSaid lw .whole) 0) (handed (eventsSaid ew .whole) 0) =
+    ap (λ (k : ℕ). recordingWeighed ltb baseLimits (stateCore ltb base) ds (handed (linksSaid lw .whole) k) (eventsSaid ew)) (r .links-whole)
+    ∙ ap (λ (k : ℕ). recordingWeighed ltb baseLimits (stateCore ltb base) ds (handed (linksSaid lw .whole) 0) (handed (eventsSaid ew .whole) k)) (r .events-whole) in
+    (ap (λ (x : Verdict Saved). x .refusal) (e ∙ g), ap (λ (x : Verdict Saved). x .place) (e ∙ g))
 
 -- the room for the bytes asks nothing of the state
-held-alone : (room : ℕ) (x : Reply Playing) → writtenOf (held room (alone x)) ≡ writtenOf (held room x)
+held-alone : (room : ℕ) (x : Verdict Playing) → writtenOf (heldToRoom room (alone x)) ≡ writtenOf (heldToRoom room x)
 held-alone room x = go (eqb (x .refusal) 0) (ltb room (x .place)) refl refl
   where
-    go : (t u : Bool) → eqb (x .refusal) 0 ≡ t → ltb room (x .place) ≡ u → writtenOf (held room (alone x)) ≡ writtenOf (held room x)
+    go : (t u : Bool) → eqb (x .refusal) 0 ≡ t → ltb room (x .place) ≡ u → writtenOf (heldToRoom room (alone x)) ≡ writtenOf (heldToRoom room x)
     go true true t u = rw (t, u)
     go true false t u = rw (t, u)
     go false u t v = rw t
 
-module _ {ds lw ew old new : List ℕ} {a : Written} (said : Ensured ds lw ew old a new) where
+module _ {ds lw ew old new : List ℕ} {a : Written} (said : Writes ds lw ew old a new) where
   -- the refusal of the answer
   refusal-is : a .refusal ≡ writing ltb baseLimits (stateCore ltb base) ds (linksSaid lw) (eventsSaid ew) (length old) .refusal
   refusal-is = ap (λ (w : Written). w .refusal) (said .answer)
@@ -100,8 +100,8 @@ module _ {ds lw ew old new : List ℕ} {a : Written} (said : Ensured ds lw ew ol
   way = which-way ltb baseLimits (stateCore ltb base) ds (linksSaid lw) (eventsSaid ew) (length old)
 
   -- an answer that is this reply
-  is : {x : Reply Saved} → writing ltb baseLimits (stateCore ltb base) ds (linksSaid lw) (eventsSaid ew) (length old) ≡ x → (a .refusal ≡ x .refusal) × (a .place ≡ x .place)
-  is e = (refusal-is ∙ ap (λ (y : Reply Saved). y .refusal) e, place-is ∙ ap (λ (y : Reply Saved). y .place) e)
+  is : {x : Verdict Saved} → writing ltb baseLimits (stateCore ltb base) ds (linksSaid lw) (eventsSaid ew) (length old) ≡ x → (a .refusal ≡ x .refusal) × (a .place ≡ x .place)
+  is e = (refusal-is ∙ ap (λ (y : Verdict Saved). y .refusal) e, place-is ∙ ap (λ (y : Verdict Saved). y .place) e)
 
   -- no refusal: nothing is at fault, and there is room
   accepted : a .refusal ≡ 0 → (weighs ds lw ew .refusal ≡ 0) × (a .place ≡ weighs ds lw ew .place) × (weighs ds lw ew .place ≤ length old)
@@ -149,7 +149,7 @@ module _ {ds lw ew old new : List ℕ} {a : Written} (said : Ensured ds lw ew ol
 
     -- and its place the length
     long : weighs ds lw ew .place ≡ length (bytes ds lw ew)
-    long = ap (λ (x : Reply Saved). x .place) (whole-reply ltb baseLimits (stateCore ltb base) ds (linksSaid lw) (eventsSaid ew) z)
+    long = ap (λ (x : Verdict Saved). x .place) (whole-reply ltb baseLimits (stateCore ltb base) ds (linksSaid lw) (eventsSaid ew) z)
 
   -- "On a refusal the buffer is untouched"
   pub refused-untouched : a .refusal ≢ 0 → new ≡ old
@@ -204,13 +204,13 @@ module _ {ds lw ew old new : List ℕ} {a : Written} (said : Ensured ds lw ew ol
   module _ (out : List ℕ) (b : InBytes ds (linksSaid lw) (eventsSaid ew)) (room : reads (past [] (eventsSaid ew .whole)) ≤ length out) where
     -- where each number fits its bytes: the answer is the reader's to the bytes as written, with room for its numbers; only that a recording may find no
     -- room in the buffer
-    pub as-the-reader : a ≡ writtenOf (held (length old) (recording ltb baseLimits (coreOf ltb base out) (bytesAsWritten ds lw ew)))
+    pub as-the-reader : a ≡ writtenOf (heldToRoom (length old) (recording ltb baseLimits (coreOf ltb base out) (bytesAsWritten ds lw ew)))
     unfolding writing
     as-the-reader =
         said .answer
-        ∙ ap (λ (x : Reply Saved). writtenOf (held (length old) x)) (whole-with-room ltb baseLimits base out ds (linksSaid lw) (eventsSaid ew) room)
-        ∙ held-alone (length old) (whole ltb baseLimits (coreOf ltb base out) ds (linksSaid lw) (eventsSaid ew))
-        ∙ ap (λ (x : Reply Playing). writtenOf (held (length old) x)) (sym (numbers-as-read ltb baseLimits (coreOf ltb base out) ds lw ew b))
+        ∙ ap (λ (x : Verdict Saved). writtenOf (heldToRoom (length old) x)) (whole-with-room ltb baseLimits base out ds (linksSaid lw) (eventsSaid ew) room)
+        ∙ held-alone (length old) (recordingWeighed ltb baseLimits (coreOf ltb base out) ds (linksSaid lw) (eventsSaid ew))
+        ∙ ap (λ (x : Verdict Playing). writtenOf (heldToRoom (length old) x)) (sym (numbers-as-read ltb baseLimits (coreOf ltb base out) ds lw ew b))
 
     -- so a fault has the reader's number and place
     pub same-fault :
@@ -249,5 +249,5 @@ genuine-recording {s} {out} {ds} {ls} {es} g =
 -- so it is written again, byte for byte
 pub accepted-written-again :
     {s out ds old new : List ℕ} {ls : List Link} {es : List (Event ℕ)} {a : Written} → Genuine ltb baseLimits s out ds ls es →
-    Ensured ds (linkWords ls) (eventWords es) old a new → length s ≤ length old → (a .refusal ≡ 0) × (a .place ≡ length s) × (take (length s) new ≡ s)
+    Writes ds (linkWords ls) (eventWords es) old a new → length s ≤ length old → (a .refusal ≡ 0) × (a .place ≡ length s) × (take (length s) new ≡ s)
 accepted-written-again g said h = recording-written said (genuine-recording g) h

@@ -14,7 +14,7 @@ use Rattle.recording_write.specs.declared.Written.{Written}
 
 -- the three clauses of `recording_write::write`, for the defaults ds, the numbers lw that say links and ew that say events, and a buffer that held `old`:
 -- it answers a and leaves `new`
-pub record Ensured (ds lw ew old : List ℕ) (a : Written) (new : List ℕ) : Type 0 where
+pub record Writes (ds lw ew old : List ℕ) (a : Written) (new : List ℕ) : Type 0 where
   pub answer : a ≡ writtenOf (replyTo ds lw ew (length old))
   pub buffer : new ≡ bufferTo ds lw ew old
   pub numbers : Words ds × Words ew

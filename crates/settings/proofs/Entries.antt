@@ -12,9 +12,9 @@ use denote.Enum.Declared.{tagOf}
 use lib.Dec.{eqb, ltb, leb}
 use lib.ListN.{length, getD}
 use Rattle.byte_format.specs.Number.{numberAt}
-use Rattle.byte_format.specs.Format.{Got, got, stop, after, sized}
+use Rattle.byte_format.specs.Format.{Got, got, stop, thenRead, sized}
 use Rattle.byte_format.specs.Kinded.{firstByte, recordAt}
-use Rattle.byte_format.specs.Play.{Reply, reply, play}
+use Rattle.byte_format.specs.Play.{Verdict, verdict, play}
 use Rattle.byte_format.proofs.Plays.{play-on, play-refused, play-stop}
 use Rattle.settings.specs.declared.Setting.{Setting}
 use Rattle.settings.specs.declared.Setting.the-variants.{Margin, Feed, Count}
@@ -23,14 +23,14 @@ use Rattle.settings.specs.declared.code.Found.{Found}
 use Rattle.settings.specs.declared.code.Found.the-variants as found
 use Rattle.settings.specs.Setting.{aboveZero, faultOf}
 use Rattle.settings.specs.Entry.{Entry, codeOf, codes, entries, made, settingOf}
-use Rattle.settings.specs.Found.{foundOf, reasonOf, judged, taken}
+use Rattle.settings.specs.Found.{foundOf, reasonOf, settingJudged, settingTaken}
 use Rattle.settings.specs.Migration.{badFloat, andSetting}
 use Rattle.settings.proofs.code.Found as F
 use Rattle.settings.proofs.Records.{entries-lawful}
 
 -- a setting without a fault is taken
-pub good-entry : (k : Code) (n : ℕ) → faultOf (made k n) ≡ 0 → (q : ℕ) → got (made k n) q ≡ judged k n q
-unfolding judged
+pub good-entry : (k : Code) (n : ℕ) → faultOf (made k n) ≡ 0 → (q : ℕ) → got (made k n) q ≡ settingJudged k n q
+unfolding settingJudged
 good-entry k n h q = rw (eq-eqb (faultOf (made k n)) 0 h)
 
 -- and one with a fault is refused with it, which is 26
@@ -46,21 +46,21 @@ only-fault k n h = go (made k n) h
     go (Feed x) e = bad (aboveZero x) e
     go (Count x) e = absurd (true≢false e)
 
-pub bad-entry : (k : Code) (n : ℕ) → eqb (faultOf (made k n)) 0 ≡ false → (q : ℕ) → stop 26 ≡ judged k n q
-unfolding judged
+pub bad-entry : (k : Code) (n : ℕ) → eqb (faultOf (made k n)) 0 ≡ false → (q : ℕ) → stop 26 ≡ settingJudged k n q
+unfolding settingJudged
 bad-entry k n h q = sym (rw (h, only-fault k n h))
 
 -- an entry of a found code, judged
 thenJudged : List ℕ → ℕ → Got Code → Got Setting
-thenJudged s p x = after (after x (λ k q. sized 9 (codes .body k s p) s p)) (λ a q. judged (a .kind) (a .bits) q)
+thenJudged s p x = thenRead (thenRead x (λ k q. sized 9 (codes .body k s p) s p)) (λ a q. settingJudged (a .kind) (a .bits) q)
 
-then-taken : (s : List ℕ) (p : ℕ) {x : Got Code} → x ≡ firstByte codeOf s p → thenJudged s p x ≡ taken s p
-unfolding thenJudged taken
+then-taken : (s : List ℕ) (p : ℕ) {x : Got Code} → x ≡ firstByte codeOf s p → thenJudged s p x ≡ settingTaken s p
+unfolding thenJudged settingTaken
 then-taken s p e = rw e
 
 module _ (f : Found) (s : List ℕ) (p : ℕ) (e : foundOf f (p + 1) ≡ firstByte codeOf s p) where
   -- no code: the byte is unknown, or it is missing
-  pub no-code : {r : ℕ} → OneOf (1 ∷ 2 ∷ []) (tagOf F.the-type f) → r ≡ reasonOf f → stop r ≡ taken s p
+  pub no-code : {r : ℕ} → OneOf (1 ∷ 2 ∷ []) (tagOf F.the-type f) → r ≡ reasonOf f → stop r ≡ settingTaken s p
   unfolding thenJudged
   no-code {r} o h = ap stop h ∙ go f o ∙ then-taken s p e
     where
@@ -80,22 +80,22 @@ module _ (f : Found) (s : List ℕ) (p : ℕ) (e : foundOf f (p + 1) ≡ firstBy
         go false t u = let y : _≡_ {A = ℕ} 0 1 = cc in absurd (omega arith)
 
     -- and what follows is cut, or is judged
-    pub known-entry : {m n : ℕ} {x : Got Setting} → m ≡ length s - p → n ≡ numberAt 8 s (p + 1) → x ≡ cond (leb 9 m) (judged k n (p + 9)) (stop 1) → x ≡ taken s p
+    pub known-entry : {m n : ℕ} {x : Got Setting} → m ≡ length s - p → n ≡ numberAt 8 s (p + 1) → x ≡ cond (leb 9 m) (settingJudged k n (p + 9)) (stop 1) → x ≡ settingTaken s p
     unfolding thenJudged
     known-entry {m} {n} {x} l u v = v ∙ rw (l, u) (go (leb 9 (length s - p)) refl) ∙ ap (λ (y : Found). thenJudged s p (foundOf y (p + 1))) (sym g) ∙ then-taken s p e
       where
-        go : (t : Bool) → leb 9 (length s - p) ≡ t → cond t (judged k (numberAt 8 s (p + 1)) (p + 9)) (stop 1) ≡ thenJudged s p (got k (p + 1))
+        go : (t : Bool) → leb 9 (length s - p) ≡ t → cond t (settingJudged k (numberAt 8 s (p + 1)) (p + 9)) (stop 1) ≡ thenJudged s p (got k (p + 1))
         go true t = sym (rw t)
         go false t = sym (rw t)
 
 -- what stands at a place where an entry is due: an entry that is taken, one with a fault, or none
 data Turn (s : List ℕ) (p : ℕ) : Type 0 where
-  takes : (a : Entry) (m : ℕ) → recordAt codes s p ≡ got a m → faultOf (settingOf a) ≡ 0 → taken s p ≡ got (settingOf a) m → Turn s p
-  faults : (a : Entry) (m : ℕ) → recordAt codes s p ≡ got a m → faultOf (settingOf a) ≢ 0 → taken s p ≡ stop (faultOf (settingOf a)) → Turn s p
-  stops : (r : ℕ) → r ≢ 0 → recordAt codes s p ≡ stop r → taken s p ≡ stop r → Turn s p
+  takes : (a : Entry) (m : ℕ) → recordAt codes s p ≡ got a m → faultOf (settingOf a) ≡ 0 → settingTaken s p ≡ got (settingOf a) m → Turn s p
+  faults : (a : Entry) (m : ℕ) → recordAt codes s p ≡ got a m → faultOf (settingOf a) ≢ 0 → settingTaken s p ≡ stop (faultOf (settingOf a)) → Turn s p
+  stops : (r : ℕ) → r ≢ 0 → recordAt codes s p ≡ stop r → settingTaken s p ≡ stop r → Turn s p
 
 turn : (s : List ℕ) (p : ℕ) → Turn s p
-unfolding taken judged
+unfolding settingTaken settingJudged
 turn s p = go (recordAt codes s p) refl
   where
     fault : (a : Entry) (m : ℕ) → recordAt codes s p ≡ got a m → (t : Bool) → eqb (faultOf (settingOf a)) 0 ≡ t → Turn s p
@@ -107,12 +107,12 @@ turn s p = go (recordAt codes s p) refl
     go (stop b) r = stops b (entries-lawful .faults s p b r) r (rw r)
 
 -- the list at turn i of n: w is its whole reply, and what is left of it is read from place p on
-module _ (xs : List Setting) (s : List ℕ) (p i n : ℕ) {w : Reply (List Setting)} (h : i < n) (e : w ≡ play entries badFloat andSetting (n - i) xs s p) where
+module _ (xs : List Setting) (s : List ℕ) (p i n : ℕ) {w : Verdict (List Setting)} (h : i < n) (e : w ≡ play entries badFloat andSetting (n - i) xs s p) where
   -- an entry that is taken: on to the next
-  pub taken-on : (x : Setting) (q : ℕ) → taken s p ≡ got x q → w ≡ play entries badFloat andSetting (n - (i + 1)) (xs ++ (x ∷ [])) s q
+  pub taken-on : (x : Setting) (q : ℕ) → settingTaken s p ≡ got x q → w ≡ play entries badFloat andSetting (n - (i + 1)) (xs ++ (x ∷ [])) s q
   taken-on x q u = go (turn s p)
     where
-      not : (r : ℕ) → taken s p ≡ stop r → w ≡ play entries badFloat andSetting (n - (i + 1)) (xs ++ (x ∷ [])) s q
+      not : (r : ℕ) → settingTaken s p ≡ stop r → w ≡ play entries badFloat andSetting (n - (i + 1)) (xs ++ (x ∷ [])) s q
       not r v = let y : _≡_ {A = ℕ} 0 1 = cc in absurd (omega arith)
 
       go : Turn s p → w ≡ play entries badFloat andSetting (n - (i + 1)) (xs ++ (x ∷ [])) s q
@@ -124,10 +124,10 @@ module _ (xs : List Setting) (s : List ℕ) (p i n : ℕ) {w : Reply (List Setti
       go (stops r f k v) = not r v
 
   -- one that is refused: that is the reply
-  pub taken-stops : (r : ℕ) → taken s p ≡ stop r → (r ≢ 0) × (reply r p xs ≡ w)
+  pub taken-stops : (r : ℕ) → settingTaken s p ≡ stop r → (r ≢ 0) × (verdict r p xs ≡ w)
   taken-stops r u = go (turn s p)
     where
-      go : Turn s p → (r ≢ 0) × (reply r p xs ≡ w)
+      go : Turn s p → (r ≢ 0) × (verdict r p xs ≡ w)
       go (takes a m k f v) = let y : _≡_ {A = ℕ} 0 1 = cc in absurd (omega arith)
       go (faults a m k f v) =
           let y : faultOf (settingOf a) ≡ r = cc in

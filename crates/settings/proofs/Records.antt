@@ -11,7 +11,7 @@ use lib.Dec.{eqb, lit≤}
 use lib.ListN.{length, getD}
 use Rattle.byte_format.specs.Number.{bytesOf, numberAt, Wide, Bytes}
 use Rattle.byte_format.specs.Stands.{Stands}
-use Rattle.byte_format.specs.Format.{got, stop, Lawful}
+use Rattle.byte_format.specs.Format.{got, stop, Readable}
 use Rattle.byte_format.proofs.Numbers.{length-bytes, number-wide}
 use Rattle.byte_format.proofs.Standing.{stands-join, stands-first, stands-left, stands-byte, byte-stands, stands-number, number-stands}
 use Rattle.byte_format.proofs.Kinded.{Said, known, unknown, Told, kinded-lawful}
@@ -69,7 +69,7 @@ stands-body s p q e f x =
     ap (λ (n : ℕ). record { kind = e .kind; bits = n }) a
 
 -- the reader of entries is the inverse of their encoder
-pub entries-lawful : Lawful entries
+pub entries-lawful : Readable entries
 entries-lawful =
     kinded-lawful codes byteOf codes-told 1 encodeEntry (λ e. Wide 8 (e .bits)) (λ e. e .kind) length-entry body-stands
     (λ s p q e x. byte-stands (stands-first (byteOf (e .kind) ∷ []) (bytesOf 8 (e .bits)) x))

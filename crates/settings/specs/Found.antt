@@ -4,7 +4,7 @@ use mathlib.Core.Bool.{cond}
 use mathlib.Core.List.{List}
 use Prim.Native.Nat.{ℕ}
 use lib.Dec.{eqb}
-use Rattle.byte_format.specs.Format.{Got, got, stop, after}
+use Rattle.byte_format.specs.Format.{Got, got, stop, thenRead}
 use Rattle.byte_format.specs.Kinded.{recordAt}
 use Rattle.settings.specs.declared.Setting.{Setting}
 use Rattle.settings.specs.declared.code.Code.{Code}
@@ -35,12 +35,12 @@ nextOf (next.Got x) q = got x q
 nextOf (next.Refused r) q = stop r
 
 -- the setting of a code and 8 bytes that end at q, judged
-unfoldable pub judged : Code → ℕ → ℕ → Got Setting
-judged k n q = cond (eqb (faultOf (made k n)) 0) (got (made k n) q) (stop (faultOf (made k n)))
+unfoldable pub settingJudged : Code → ℕ → ℕ → Got Setting
+settingJudged k n q = cond (eqb (faultOf (made k n)) 0) (got (made k n) q) (stop (faultOf (made k n)))
 
 -- the setting of the entry at a place, read and judged
-unfoldable pub taken : List ℕ → ℕ → Got Setting
-taken s p = after (recordAt codes s p) (λ e q. judged (e .kind) (e .bits) q)
+unfoldable pub settingTaken : List ℕ → ℕ → Got Setting
+settingTaken s p = thenRead (recordAt codes s p) (λ e q. settingJudged (e .kind) (e .bits) q)
 
 -- a count and the place after it, or the refusal
 abbrev pub countedOf : Counted → Got ℕ

@@ -5,7 +5,7 @@ use mathlib.Core.List.{List, [], _∷_, _++_, map}
 use Prim.Native.Nat.{ℕ, _-_}
 use lib.Dec.{eqb, ltb}
 use lib.ListN.{length, replicate}
-use Rattle.byte_format.specs.Play.{Reply}
+use Rattle.byte_format.specs.Play.{Verdict}
 use Rattle.byte_format.specs.Section.{section}
 use Rattle.byte_format.specs.End.{ended}
 use Rattle.settings.specs.declared.Setting.{Setting}
@@ -28,7 +28,7 @@ abbrev pub andSetting : List Setting → Entry → List Setting
 andSetting xs e = xs ++ (settingOf e ∷ [])
 
 -- the list judged from the left, "Order and places are as for document 01's events"
-unfoldable pub listRead : List ℕ → Reply (List Setting)
+unfoldable pub listRead : List ℕ → Verdict (List Setting)
 listRead s = ended s (section entries countLimit badFloat andSetting [] [] s 0)
 
 -- a setting in its slot
@@ -44,7 +44,7 @@ abbrev pub refusedAt : ℕ → ℕ → Migration
 refusedAt r p = record { refusal = r; place = p; number = 0; settings = slots [] }
 
 -- "The answer holds the settings and how many there are"
-abbrev pub answered : Reply (List Setting) → Migration
+abbrev pub answered : Verdict (List Setting) → Migration
 answered r =
     cond (eqb (r .refusal) 0)
     (record { refusal = 0; place = r .place; number = length (r .state); settings = slots (r .state) })

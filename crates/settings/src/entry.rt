@@ -6,7 +6,7 @@ ghost use lib.Dec.{eqb};
 ghost use Rattle.byte_format.specs.Format.{stop};
 ghost use Rattle.settings.specs.Setting.{faultOf};
 ghost use Rattle.settings.specs.Entry.{made};
-ghost use Rattle.settings.specs.Found.{nextOf, judged, taken};
+ghost use Rattle.settings.specs.Found.{nextOf, settingJudged, settingTaken};
 use crate::Setting;
 use crate::code::Code;
 use crate::code::Found;
@@ -50,7 +50,7 @@ fn make(code: Code, bits: u64) -> Setting
 
 // An entry of a known code: 1 where it is cut, then 26 for a bad float, else its setting.
 fn judge(code: Code, bits: u64, whole: bool) -> Next
-    ensures { λ r. ⌜ ((q : ℕ) → nextOf r q ≡ cond whole (judged code bits q) (stop 1)) ⌝ }
+    ensures { λ r. ⌜ ((q : ℕ) → nextOf r q ≡ cond whole (settingJudged code bits q) (stop 1)) ⌝ }
 {
     let good = is_good(code, bits);
     if !whole {
@@ -65,7 +65,7 @@ fn judge(code: Code, bits: u64, whole: bool) -> Next
 
 // The entry at a place.
 pub fn entry_at(s: &[u8], at: usize) -> Next
-    ensures { λ r. ⌜ nextOf r (at + 9) ≡ taken (now (s .entry)) at ⌝ }
+    ensures { λ r. ⌜ nextOf r (at + 9) ≡ settingTaken (now (s .entry)) at ⌝ }
 {
     let found = code_at(s, at);
     let Found::Known(code) = found else {

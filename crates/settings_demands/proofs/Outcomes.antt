@@ -10,7 +10,7 @@ use borrow.Author.Tests.{ltb-true, ltb-false}
 use lib.Dec.{ltb}
 use lib.ListN.{length, length-map}
 use Rattle.byte_format.specs.Number.{Bytes}
-use Rattle.byte_format.specs.Play.{Reply, reply, finally}
+use Rattle.byte_format.specs.Play.{Verdict, verdict, finally}
 use Rattle.byte_format.specs.Section.{section}
 use Rattle.byte_format.specs.End.{ended}
 use Rattle.byte_format.proofs.Sections.{Answered, countRefused, recordRefused, wholeSection, section-answered, section-refused, whole-section, faulty-section}
@@ -20,7 +20,7 @@ use Rattle.settings.specs.Entry.{Entry, entries, settingOf}
 use Rattle.settings.specs.Migration.{countLimit, badFloat, andSetting, listRead, answered, migration, refusedAt}
 use Rattle.settings.proofs.Records.{entries-lawful}
 use Rattle.settings.proofs.Answers.{refused-answer, extra-answer, whole-answer}
-use Rattle.settings_demands.specs.Outcome.{ListTo, holding, Outcome, badCount, badEntry, extraBytes, accepted}
+use Rattle.settings_demands.specs.Outcome.{ListTo, holding, MigrationOutcome, badCount, badEntry, extraBytes, accepted}
 
 -- entries that are taken one after the other are their settings
 pub settings-taken : (xs : List Setting) (es : List Entry) → finally andSetting xs es ≡ xs ++ map settingOf es
@@ -33,43 +33,43 @@ taken-all es = settings-taken [] es
 
 -- the reply of the section, and the answer made of it
 module _ (s : List ℕ) where
-  read : Reply (List Setting)
+  read : Verdict (List Setting)
   read = section entries countLimit badFloat andSetting [] [] s 0
 
   answer-is : migration s ≡ answered (ended s read)
   unfolding listRead read
   answer-is = refl
 
-  refused : {r p : ℕ} {xs : List Setting} → r ≢ 0 → read ≡ reply r p xs → migration s ≡ refusedAt r p
+  refused : {r p : ℕ} {xs : List Setting} → r ≢ 0 → read ≡ verdict r p xs → migration s ≡ refusedAt r p
   refused {r} {p} {xs} z e = answer-is ∙ sym (refused-answer s p xs z (sym e))
 
-  extra : {p : ℕ} {xs : List Setting} → p < length s → read ≡ reply 0 p xs → migration s ≡ refusedAt 17 p
+  extra : {p : ℕ} {xs : List Setting} → p < length s → read ≡ verdict 0 p xs → migration s ≡ refusedAt 17 p
   extra {p} {xs} h e = answer-is ∙ sym (extra-answer s p xs h (sym e))
 
-  all : (es : List Entry) {p : ℕ} → length s ≤ p → read ≡ reply 0 p (finally andSetting [] es) → migration s ≡ holding es p
+  all : (es : List Entry) {p : ℕ} → length s ≤ p → read ≡ verdict 0 p (finally andSetting [] es) → migration s ≡ holding es p
   all es {p} h e =
       let xs = map settingOf es in
-      answer-is ∙ sym (whole-answer s p xs h (sym (length-map es settingOf)) refl (sym (e ∙ ap (reply 0 p) (taken-all es))))
+      answer-is ∙ sym (whole-answer s p xs h (sym (length-map es settingOf)) refl (sym (e ∙ ap (verdict 0 p) (taken-all es))))
 
   -- for any bytes
-  pub migration-outcome : Bytes s → Outcome s (migration s)
+  pub migration-outcome : Bytes s → MigrationOutcome s (migration s)
   unfolding read
   migration-outcome b = go (section-answered entries countLimit badFloat andSetting entries-lawful [] s [] 0 b (omega arith))
     where
-      ends : (es : List Entry) (p : ℕ) → ListTo s es p → read ≡ reply 0 p (finally andSetting [] es) → (t : Bool) → ltb p (length s) ≡ t → Outcome s (migration s)
+      ends : (es : List Entry) (p : ℕ) → ListTo s es p → read ≡ verdict 0 p (finally andSetting [] es) → (t : Bool) → ltb p (length s) ≡ t → MigrationOutcome s (migration s)
       ends es p w e true t = let l = ltb-true p (length s) t in extraBytes es p w l (extra l e)
       ends es p w e false t =
           let l = ltb-false p (length s) t in
           let z : p ≡ length s = omega (arith, w .bytes .within) in
           accepted es (rw z at w) (rw z at (all es l e))
 
-      go : Answered entries countLimit badFloat andSetting [] s [] 0 read → Outcome s (migration s)
+      go : Answered entries countLimit badFloat andSetting [] s [] 0 read → MigrationOutcome s (migration s)
       go (countRefused r z u e) = badCount r z u (refused z e)
       go (recordRefused es r p z f e) = badEntry es r p z f (refused z e)
       go (wholeSection es p w e) = ends es p w e (ltb p (length s)) refl
 
   -- an answer whose outcome holds of the bytes is the answer to them
-  pub outcome-is : {m : Migration} → Outcome s m → m ≡ migration s
+  pub outcome-is : {m : Migration} → MigrationOutcome s m → m ≡ migration s
   unfolding read
   outcome-is (badCount r z u e) = e ∙ sym (refused z (section-refused entries countLimit badFloat andSetting [] [] s 0 u))
   outcome-is (badEntry es r p z f e) = e ∙ sym (refused z (faulty-section entries countLimit badFloat andSetting entries-lawful [] s [] 0 es r p z f))

@@ -10,7 +10,7 @@ use lib.Dec.{ltb}
 use lib.ListN.{length, take}
 use lib.Seq.{take-all, length-take-le, getD-take}
 use Rattle.byte_format.specs.Number.{Bytes}
-use Rattle.byte_format.specs.Format.{Got, got, stop, after, sized}
+use Rattle.byte_format.specs.Format.{Got, got, stop, thenRead, sized}
 use Rattle.byte_format.specs.Kinded.{firstByte, recordAt}
 use Rattle.byte_format.specs.Play.{finally, refusalOf}
 use Rattle.byte_format.specs.Section.{countAt}
@@ -26,7 +26,7 @@ use Rattle.settings.specs.Entry.{Entry, codeOf, codes, entries}
 use Rattle.settings.specs.Migration.{countLimit, badFloat, andSetting, migration}
 use Rattle.settings.proofs.Records.{length-entry}
 use Rattle.settings.proofs.Counting.{count-range}
-use Rattle.settings_demands.specs.Outcome.{ListTo, FaultAt, Outcome, badCount, badEntry, extraBytes, accepted}
+use Rattle.settings_demands.specs.Outcome.{ListTo, FaultAt, MigrationOutcome, badCount, badEntry, extraBytes, accepted}
 use Rattle.settings_demands.proofs.Outcomes.{migration-outcome, outcome-is}
 
 module _ (s : List ℕ) (k : ℕ) (h : 577 < k) (l : k < length s) where
@@ -43,7 +43,7 @@ module _ (s : List ℕ) (k : ℕ) (h : 577 < k) (l : k < length s) where
   -- and so is an entry that ends before
   same-entry : (p : ℕ) → p + 9 ≤ k → recordAt codes (take k s) p ≡ recordAt codes s p
   unfolding firstByte
-  same-entry p g = ap (λ (x : Got Code). after x (λ c q. sized 9 (codes .body c (take k s) p) (take k s) p)) first ∙ rest (firstByte codeOf s p)
+  same-entry p g = ap (λ (x : Got Code). thenRead x (λ c q. sized 9 (codes .body c (take k s) p) (take k s) p)) first ∙ rest (firstByte codeOf s p)
     where
       first : firstByte codeOf (take k s) p ≡ firstByte codeOf s p
       first = rw (lt-ltb p (length (take k s)) (omega (arith, long)), lt-ltb p (length s) (omega arith), getD-take k s p 0 (omega arith))
@@ -51,7 +51,7 @@ module _ (s : List ℕ) (k : ℕ) (h : 577 < k) (l : k < length s) where
       body : (c : Code) → codes .body c (take k s) p ≡ codes .body c s p
       body c = ap (λ (n : ℕ). record { kind = c; bits = n }) (number-prefix 8 s (p + 1) k (omega arith))
 
-      rest : (x : Got Code) → after x (λ c q. sized 9 (codes .body c (take k s) p) (take k s) p) ≡ after x (λ c q. sized 9 (codes .body c s p) s p)
+      rest : (x : Got Code) → thenRead x (λ c q. sized 9 (codes .body c (take k s) p) (take k s) p) ≡ thenRead x (λ c q. sized 9 (codes .body c s p) s p)
       rest (got c q) =
           sized-reads 9 (codes .body c (take k s) p) (take k s) p (omega (arith, long))
           ∙ ap (λ (e : Entry). got e (p + 9)) (body c)
@@ -70,7 +70,7 @@ module _ (s : List ℕ) (k : ℕ) (h : 577 < k) (l : k < length s) where
       let n = count-range (f .total) (f .few) .1 in
       omega (arith, f .more, faulty-records entries countLimit badFloat andSetting f .next, length-fixed entries 9 length-entry es)
 
-  prefix-outcome : {m : Migration} → Outcome s m → Outcome (take k s) m
+  prefix-outcome : {m : Migration} → MigrationOutcome s m → MigrationOutcome (take k s) m
   prefix-outcome (badCount r z u e) = badCount r z (same-count ∙ u) e
   prefix-outcome (badEntry es r p z f e) =
       let g = fault-end es f in

@@ -22,9 +22,9 @@ use Rattle.settings.specs.Migration.{slots, refusedAt}
 use Rattle.settings.specs.Writing.{settingAt, AllGood}
 use Rattle.settings.proofs.Records.{length-entry}
 use Rattle.settings.proofs.Counting.{count-range}
-use Rattle.settings_demands.specs.Ensured.{Migrated}
+use Rattle.settings_demands.specs.Ensured.{Migrates}
 use Rattle.settings_demands.specs.FromList.{FromEntry}
-use Rattle.settings_demands.specs.Outcome.{ListTo, Outcome, badCount, badEntry, extraBytes, accepted, Accepted}
+use Rattle.settings_demands.specs.Outcome.{ListTo, MigrationOutcome, badCount, badEntry, extraBytes, accepted, Accepted}
 use Rattle.settings_demands.proofs.Outcomes.{migration-outcome, outcome-is}
 use Rattle.settings_demands.proofs.Settings.{entry-kept}
 use Rattle.settings_demands.proofs.Slots.{slot-holds, slot-past, fit-at, allowed-at}
@@ -56,20 +56,20 @@ from-entry s i e w h x =
       good = h;
     }
 
-module _ {s : List ℕ} {m : Migration} (said : Migrated s m) where
+module _ {s : List ℕ} {m : Migration} (said : Migrates s m) where
   -- each refusal is given exactly when the request says, at its place: where the first fault lies, or that there is none
-  pub answered : Outcome s m
-  answered = subst (Outcome s) (sym (said .answer)) (migration-outcome s (said .bytes))
+  pub answered : MigrationOutcome s m
+  answered = subst (MigrationOutcome s) (sym (said .answer)) (migration-outcome s (said .bytes))
 
   -- and no other answer has the first fault of these bytes
-  pub only-answer : {x : Migration} → Outcome s x → x ≡ m
+  pub only-answer : {x : Migration} → MigrationOutcome s x → x ≡ m
   only-answer o = outcome-is s o ∙ sym (said .answer)
 
   -- on a refusal there is no setting: the number is 0, and every slot is a count of 0
   pub refused-empty : m .refusal ≢ 0 → (m .number ≡ 0) × (m .settings ≡ slots [])
   refused-empty z = go answered
     where
-      go : Outcome s m → (m .number ≡ 0) × (m .settings ≡ slots [])
+      go : MigrationOutcome s m → (m .number ≡ 0) × (m .settings ≡ slots [])
       go (badCount r n u e) = (ap (λ (x : Migration). x .number) e, ap (λ (x : Migration). x .settings) e)
       go (badEntry es r p n f e) = (ap (λ (x : Migration). x .number) e, ap (λ (x : Migration). x .settings) e)
       go (extraBytes es p w h e) = (ap (λ (x : Migration). x .number) e, ap (λ (x : Migration). x .settings) e)
@@ -82,7 +82,7 @@ module _ {s : List ℕ} {m : Migration} (said : Migrated s m) where
       not : (r : ℕ) → r ≢ 0 → m .refusal ≡ r → Accepted s m
       not r n e = absurd (n (sym e ∙ z))
 
-      go : Outcome s m → Accepted s m
+      go : MigrationOutcome s m → Accepted s m
       go (badCount r n u e) = not r n (ap (λ (x : Migration). x .refusal) e)
       go (badEntry es r p n f e) = not r n (ap (λ (x : Migration). x .refusal) e)
       go (extraBytes es p w h e) = not 17 (λ (y : _≡_ {A = ℕ} 17 0). omega arith) (ap (λ (x : Migration). x .refusal) e)
@@ -96,7 +96,7 @@ module _ {s : List ℕ} {m : Migration} (said : Migrated s m) where
   pub from-the-list : (i : ℕ) → i < m .number → FromEntry s i (settingAt (m .settings) i)
   from-the-list i h = go (accepted-list (no-refusal answered))
     where
-      no-refusal : Outcome s m → m .refusal ≡ 0
+      no-refusal : MigrationOutcome s m → m .refusal ≡ 0
       no-refusal (badCount r n u e) = let z = ap (λ (x : Migration). x .number) e in absurd (omega arith)
       no-refusal (badEntry es r p n f e) = let z = ap (λ (x : Migration). x .number) e in absurd (omega arith)
       no-refusal (extraBytes es p w l e) = let z = ap (λ (x : Migration). x .number) e in absurd (omega arith)
@@ -118,7 +118,7 @@ module _ {s : List ℕ} {m : Migration} (said : Migrated s m) where
       nothing : {r p : ℕ} → m ≡ refusedAt r p → settingAt (m .settings) i ≡ Count 0
       nothing e = ap (λ (y : Migration). settingAt (y .settings) i) e ∙ slot-past [] i (omega arith)
 
-      go : Outcome s m → settingAt (m .settings) i ≡ Count 0
+      go : MigrationOutcome s m → settingAt (m .settings) i ≡ Count 0
       go (badCount r n u e) = nothing e
       go (badEntry es r p n f e) = nothing e
       go (extraBytes es p w l e) = nothing e
@@ -130,7 +130,7 @@ module _ {s : List ℕ} {m : Migration} (said : Migrated s m) where
   pub few-and-good : (m .number ≤ 64) × AllGood (m .settings) (m .number)
   few-and-good = (few answered, λ i h. from-the-list i h .good)
     where
-      few : Outcome s m → m .number ≤ 64
+      few : MigrationOutcome s m → m .number ≤ 64
       few (badCount r n u e) = let z = ap (λ (x : Migration). x .number) e in omega arith
       few (badEntry es r p n f e) = let z = ap (λ (x : Migration). x .number) e in omega arith
       few (extraBytes es p w l e) = let z = ap (λ (x : Migration). x .number) e in omega arith

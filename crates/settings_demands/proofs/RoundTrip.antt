@@ -27,7 +27,7 @@ use Rattle.settings.specs.Writing.{settingAt, goodAt, firstBad, AllGood, HeldSl
 use Rattle.settings.proofs.Writing.{length-list}
 use Rattle.settings.proofs.Counting.{count-fine, count-range}
 use Rattle.settings.proofs.WriteAnswers.{all-good, list-there, room-enough}
-use Rattle.settings_demands.specs.Ensured.{Migrated, WrittenBack}
+use Rattle.settings_demands.specs.Ensured.{Migrates, WritesBack}
 use Rattle.settings_demands.specs.Outcome.{ListTo, holding, accepted, Accepted}
 use Rattle.settings_demands.specs.Again.{sameSettings}
 use Rattle.settings_demands.proofs.Settings.{setting-kept, entry-wide}
@@ -54,9 +54,9 @@ there : (ss : List Slot) (n : ℕ) (old : List ℕ) → n ≢ 0 → n ≤ 64 →
 there ss n old z h g r = list-there ss n old (room-enough ss n old z h refl (none-bad ss n g) r) refl
 
 -- "Writing settings back into a lent buffer gives the old list exactly"
-module _ {s : List ℕ} {m : Migration} (said : Migrated s m) (z : m .refusal ≡ 0) where
+module _ {s : List ℕ} {m : Migration} (said : Migrates s m) (z : m .refusal ≡ 0) where
   pub old-list-again :
-      {old new : List ℕ} {w : Written} → WrittenBack (m .settings) (m .number) old w new → length s ≤ length old →
+      {old new : List ℕ} {w : Written} → WritesBack (m .settings) (m .number) old w new → length s ≤ length old →
       (w ≡ answer 0 (length s)) × (new ≡ s ++ drop (length s) old)
   unfolding listOf
   old-list-again {old} {new} {w} wrote room = go (accepted-list said z)
@@ -164,8 +164,8 @@ module _ (ss : List Slot) (n room : ℕ) (held : HeldSlots ss n) (w : Wrote ss n
 
 -- "what is written back is migrated to the same settings"
 pub same-settings-again :
-    {ss : List Slot} {n : ℕ} {old new : List ℕ} {w : Written} {m : Migration} → WrittenBack ss n old w new → w .refusal ≡ 0 →
-    Migrated (take (w .place) new) m → m ≡ sameSettings ss n
+    {ss : List Slot} {n : ℕ} {old new : List ℕ} {w : Written} {m : Migration} → WritesBack ss n old w new → w .refusal ≡ 0 →
+    Migrates (take (w .place) new) m → m ≡ sameSettings ss n
 same-settings-again {ss} {n} {old} {new} {w} {m} wrote z said =
     let held = wrote .held z in
     let k = wrote-well ss n (length old) (sym (ap (λ (x : Written). x .refusal) (wrote .answer)) ∙ z) in
@@ -173,5 +173,5 @@ same-settings-again {ss} {n} {old} {new} {w} {m} wrote z said =
     let p : w .place ≡ sizeOf n = ap (λ (x : Written). x .place) (wrote .answer ∙ sym (t .0)) in
     let b : new ≡ listOf ss n ++ drop (sizeOf n) old = wrote .buffer ∙ sym (t .1) in
     let l : take (w .place) new ≡ listOf ss n = rw (p, b) (take-at (listOf ss n) (drop (sizeOf n) old) (sizeOf n) (length-list ss (held .many) n (k .few))) in
-    let again : Migrated (listOf ss n) m = rw l at said in
+    let again : Migrates (listOf ss n) m = rw l at said in
     sym (only-answer again (accepted (entriesOf ss n) (listed ss n (length old) held k) refl)) ∙ same ss n (length old) held k

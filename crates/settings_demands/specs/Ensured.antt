@@ -12,12 +12,12 @@ use Rattle.settings.specs.Migration.{migration}
 use Rattle.settings.specs.Writing.{HeldSlots, written, bufferAfter}
 
 -- the two clauses of `settings::migrate`, for the bytes s: it answers m
-pub record Migrated (s : List ℕ) (m : Migration) : Type 0 where
+pub record Migrates (s : List ℕ) (m : Migration) : Type 0 where
   pub answer : m ≡ migration s
   pub bytes : Bytes s
 
 -- the three clauses of `settings::write_back`, for n of these slots and a buffer that held `old`: it answers w and leaves `new`
-pub record WrittenBack (ss : List Slot) (n : ℕ) (old : List ℕ) (w : Written) (new : List ℕ) : Type 0 where
+pub record WritesBack (ss : List Slot) (n : ℕ) (old : List ℕ) (w : Written) (new : List ℕ) : Type 0 where
   pub answer : w ≡ written ss n (length old)
   pub buffer : new ≡ bufferAfter ss n old
   pub held : w .refusal ≡ 0 → HeldSlots ss n

@@ -27,15 +27,15 @@ abbrev pub holding : List Entry → ℕ → Migration
 holding es p = record { refusal = 0; place = p; number = length es; settings = slots (map settingOf es) }
 
 -- where the first fault lies, or that there is none; what stands before it is right
-pub data Outcome (s : List ℕ) (m : Migration) : Type 0 where
+pub data MigrationOutcome (s : List ℕ) (m : Migration) : Type 0 where
   -- at the count
-  badCount : (r : ℕ) → r ≢ 0 → countAt 1 countLimit s 0 ≡ stop r → m ≡ refusedAt r 0 → Outcome s m
+  badCount : (r : ℕ) → r ≢ 0 → countAt 1 countLimit s 0 ≡ stop r → m ≡ refusedAt r 0 → MigrationOutcome s m
   -- at an entry
-  badEntry : (es : List Entry) (r p : ℕ) → r ≢ 0 → FaultAt s es r p → m ≡ refusedAt r p → Outcome s m
+  badEntry : (es : List Entry) (r p : ℕ) → r ≢ 0 → FaultAt s es r p → m ≡ refusedAt r p → MigrationOutcome s m
   -- bytes after the last entry
-  extraBytes : (es : List Entry) (p : ℕ) → ListTo s es p → p < length s → m ≡ refusedAt 17 p → Outcome s m
+  extraBytes : (es : List Entry) (p : ℕ) → ListTo s es p → p < length s → m ≡ refusedAt 17 p → MigrationOutcome s m
   -- none: "On acceptance the place is the length"
-  accepted : (es : List Entry) → ListTo s es (length s) → m ≡ holding es (length s) → Outcome s m
+  accepted : (es : List Entry) → ListTo s es (length s) → m ≡ holding es (length s) → MigrationOutcome s m
 
 -- an accepted list: its bytes are those of entries that keep every rule, and the answer holds their settings
 pub record Accepted (s : List ℕ) (m : Migration) : Type 0 where

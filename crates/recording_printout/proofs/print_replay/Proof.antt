@@ -2,7 +2,7 @@
 -- Assumes nothing.
 use mathlib.Core.Path.{ap}
 use borrow.Author.Needs.{needs}
-use Rattle.byte_format.specs.Play.{Reply}
+use Rattle.byte_format.specs.Play.{Verdict}
 use Rattle.recording_core.specs.Playing.{Playing}
 use Rattle.recording_printout.proofs.print_replay.Statement.{statement}
 use Rattle.recording_printout.proofs.print_replay.Tie as tie
@@ -26,7 +26,7 @@ same-length : tie.Need-same-length
 same-length c = search needs
 
 returns : tie.Need-returns
-returns c = ap (λ (x : Reply Playing). x .state .list) (c .before .before .before .before .before .before .before .replay .ensures .0)
+returns c = ap (λ (x : Verdict Playing). x .state .list) (c .before .before .before .before .before .before .before .replay .ensures .0)
 
 pub print-replay-spec : {M : Type 1} → statement M
 print-replay-spec =

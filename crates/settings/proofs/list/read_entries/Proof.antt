@@ -12,7 +12,7 @@ use Rattle.byte_format.proofs.Plays.{play-end}
 use Rattle.settings.specs.declared.Setting.{Setting}
 use Rattle.settings.specs.declared.entry.Next.{Next}
 use Rattle.settings.specs.Entry.{entries}
-use Rattle.settings.specs.Found.{nextOf, taken}
+use Rattle.settings.specs.Found.{nextOf, settingTaken}
 use Rattle.settings.specs.Migration.{badFloat, andSetting, slot, slots}
 use Rattle.settings.proofs.Entries.{taken-on, taken-stops}
 use Rattle.settings.proofs.Answers.{slots-more, refused-answer, extra-answer, whole-answer}
@@ -65,7 +65,7 @@ returns c =
     let a = test .before .before .before .before .args in
     let xs = l .inv .1 .0 in
     let k = l .inv .1 .1 in
-    let t : taken (a .s .now) (l .at) ≡ stop (next .next2 .given .0 .0) = sym (entry .entry-at .ensures) ∙ ap (λ (r : Next). nextOf r (l .at + 9)) (next .next2 .given .1) in
+    let t : settingTaken (a .s .now) (l .at) ≡ stop (next .next2 .given .0 .0) = sym (entry .entry-at .ensures) ∙ ap (λ (r : Next). nextOf r (l .at + 9)) (next .next2 .given .1) in
     let w = taken-stops xs (a .s .now) (l .at) (l .i) (a .n) (test .loop-test .taken) (k .1 .1) (next .next2 .given .0 .0) t in
     c .refused .ensures ∙ refused-answer (a .s .now) (l .at) xs (w .0) (w .1)
 
@@ -88,7 +88,7 @@ loop-again c =
     let x = next .next .given .0 .0 in
     let xs = l .inv .1 .0 in
     let k = l .inv .1 .1 in
-    let t : taken (a .s .now) (l .at) ≡ got x (l .at + 9) = sym (entry .entry-at .ensures) ∙ ap (λ (r : Next). nextOf r (l .at + 9)) (next .next .given .1) in
+    let t : settingTaken (a .s .now) (l .at) ≡ got x (l .at + 9) = sym (entry .entry-at .ensures) ∙ ap (λ (r : Next). nextOf r (l .at + 9)) (next .next .given .1) in
     let e : set (l .settings) (l .i) (slot x) ≡ slots (xs ++ (x ∷ [])) = rw (k .1 .0, ← k .0) (slots-more xs x (omega (arith, test .loop-test .taken))) in (
       (omega (arith, test .loop-test .taken), omega arith),
       (

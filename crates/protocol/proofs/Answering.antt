@@ -10,11 +10,11 @@ use Rattle.protocol.specs.ZeroTime.{ideals}
 use Rattle.protocol.specs.Published.{Lowest, Run}
 use Rattle.protocol.specs.Published as published
 use Rattle.protocol.specs.Instant.{Order, theres}
-use Rattle.protocol.specs.Demand.{Answers, boxesAfter, numbersRead, Demand2, Demand3}
+use Rattle.protocol.specs.Answering.{Answerer, boxesAfter, numbersRead, FollowsProtocol, ReadsZeroTime}
 use Rattle.protocol.proofs.Theorem.{lowest-only, zero-time}
 use Rattle.protocol.proofs.ZeroRun.{ideals-read, theres-same}
 
-module _ {Val : Type 0} (policy : Table Val → Policy Val) (A : Answers Val) (D : Demand2 A policy) (T : Table Val) (L : Lawful T) where
+module _ {Val : Type 0} (policy : Table Val → Policy Val) (A : Answerer Val) (D : FollowsProtocol A policy) (T : Table Val) (L : Lawful T) where
   -- the boxes after every possible history are those of a run of the published protocol
   pub answers-run : (h : List (Event Val)) → AllPossible T (policy T) h → Run T (policy T) (Lowest T) (boxesAfter A T h) h
   unfolding AllPossible boxesAfter
@@ -33,10 +33,10 @@ module _ {Val : Type 0} (policy : Table Val → Policy Val) (A : Answers Val) (D
     answers-ideals (finish t v ∷ h) P = answers-ideals h (P .1)
 
 -- demand 3, for every policy that keeps Turn and every type of values
-pub demand-3 : {Val : Type 0} (policy : Table Val → Policy Val) → ((T : Table Val) → Fair T (policy T)) → (A : Answers Val) → Demand2 A policy → Demand3 A policy
-demand-3 policy F A D T L order O h P = ap theres (answers-ideals policy A D T L (F T) h P) ∙ ideals-read T (policy T) L (F T) order O h P
+pub protocol-reads-zero-time : {Val : Type 0} (policy : Table Val → Policy Val) → ((T : Table Val) → Fair T (policy T)) → (A : Answerer Val) → FollowsProtocol A policy → ReadsZeroTime A policy
+protocol-reads-zero-time policy F A D T L order O h P = ap theres (answers-ideals policy A D T L (F T) h P) ∙ ideals-read T (policy T) L (F T) order O h P
 
 -- and whatever meets demand 3 gives the closed form's numbers and no others
-pub only-ideals : {Val : Type 0} (policy : Table Val → Policy Val) → ((T : Table Val) → Fair T (policy T)) → (A : Answers Val) → Demand3 A policy
+pub only-ideals : {Val : Type 0} (policy : Table Val → Policy Val) → ((T : Table Val) → Fair T (policy T)) → (A : Answerer Val) → ReadsZeroTime A policy
     → (T : Table Val) → Lawful T → (order : List ℕ) → Order T order → (h : List (Event Val)) → AllPossible T (policy T) h → numbersRead A T h ≡ ideals T h
 only-ideals policy F A D T L order O h P = theres-same _ _ (D T L order O h P ∙ sym (ideals-read T (policy T) L (F T) order O h P))

@@ -13,5 +13,5 @@ use Rattle.mailbox_parts.specs.Becomes.{savedOf}
 use Rattle.mailbox_parts.specs.declared.event.Event.{Event}
 
 -- the parts after, the refusal r and the number v are those of the reply to an event, whatever the defaults are
-pub record Given (e : Event) (T L : ℕ) (W R K ph n p C x ph′ n′ p′ C′ x′ : List ℕ) (r v : ℕ) : Type 0 where
+pub record GivenParts (e : Event) (T L : ℕ) (W R K ph n p C x ph′ n′ p′ C′ x′ : List ℕ) (r v : ℕ) : Type 0 where
   pub event : (D : List ℕ) → reply (savedOf T L D ph′ n′ p′ C′ W R K x′) r v ≡ give ltb base (savedOf T L D ph n p C W R K x) (plain e)
