@@ -6,12 +6,12 @@ use Prim.Native.Nat.{ℕ}
 use Rattle.protocol.specs.Event.{Event, arrival, start, read, finish}
 use Rattle.protocol.specs.Table.{Table, Lawful}
 use Rattle.protocol.specs.Schedule.{Policy, Fair, AllPossible}
-use Rattle.protocol.specs.ZeroTime.{ideals}
+use Rattle.protocol.specs.ZeroTime.{dues, ideals}
 use Rattle.protocol.specs.Published.{Lowest, Run}
 use Rattle.protocol.specs.Published as published
 use Rattle.protocol.specs.Instant.{Order, theres}
 use Rattle.protocol.specs.Answering.{Answerer, boxesAfter, numbersRead, FollowsProtocol, ReadsZeroTime}
-use Rattle.protocol.proofs.Theorem.{lowest-only, zero-time}
+use Rattle.protocol.proofs.Theorem.{lowest-only, ideals-there, zero-time}
 use Rattle.protocol.proofs.ZeroRun.{ideals-read, theres-same}
 
 module _ {Val : Type 0} (policy : Table Val → Policy Val) (A : Answerer Val) (D : FollowsProtocol A policy) (T : Table Val) (L : Lawful T) where
@@ -22,15 +22,19 @@ module _ {Val : Type 0} (policy : Table Val → Policy Val) (A : Answerer Val) (
   answers-run (e ∷ h) P = published.next e (answers-run h (P .1)) (P .0) (D .step T L h (P .1) e (P .0))
 
   module _ (F : Fair T (policy T)) where
-    -- every number read is the closed form's
+    -- every number read is the one due
+    answers-dues : (h : List (Event Val)) → AllPossible T (policy T) h → theres (numbersRead A T h) ≡ dues T h
+    unfolding AllPossible numbersRead dues theres
+    answers-dues [] P = refl
+    answers-dues (arrival m ∷ h) P = answers-dues h (P .1)
+    answers-dues (start t ∷ h) P = answers-dues h (P .1)
+    answers-dues (read l ∷ h) P =
+        rw (D .number T L h (P .1) l (P .0), zero-time T (policy T) L F (lowest-only T) (answers-run h (P .1)) (P .0) .0, answers-dues h (P .1))
+    answers-dues (finish t v ∷ h) P = answers-dues h (P .1)
+
+    -- so they are the closed form's
     pub answers-ideals : (h : List (Event Val)) → AllPossible T (policy T) h → numbersRead A T h ≡ ideals T h
-    unfolding AllPossible numbersRead ideals
-    answers-ideals [] P = refl
-    answers-ideals (arrival m ∷ h) P = answers-ideals h (P .1)
-    answers-ideals (start t ∷ h) P = answers-ideals h (P .1)
-    answers-ideals (read l ∷ h) P =
-        rw (D .number T L h (P .1) l (P .0), zero-time T (policy T) L F (lowest-only T) (answers-run h (P .1)) (P .0) .0, answers-ideals h (P .1))
-    answers-ideals (finish t v ∷ h) P = answers-ideals h (P .1)
+    answers-ideals h P = theres-same _ _ (answers-dues h P ∙ sym (ideals-there T (policy T) L F h P))
 
 -- demand 3, for every policy that keeps Turn and every type of values
 pub protocol-reads-zero-time : {Val : Type 0} (policy : Table Val → Policy Val) → ((T : Table Val) → Fair T (policy T)) → (A : Answerer Val) → FollowsProtocol A policy → ReadsZeroTime A policy

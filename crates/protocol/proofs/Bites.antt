@@ -2,18 +2,19 @@
 -- Assumes nothing.
 use mathlib.Core.Path.{_≡_, refl, ap, sym, _∙_}
 use mathlib.Core.Logic.{_≢_}
-use mathlib.Core.Bool.{Bool, true, false, _&&_, true≢false}
+use mathlib.Core.Bool.{Bool, true, false, cond, _&&_, true≢false}
 use mathlib.Core.List.{List, [], _∷_}
 use Prim.Native.Nat.{ℕ}
 use borrow.Author.Tests.{eqb-true}
 use lib.Dec.{eqb, ltb, lit<}
 use Rattle.lists.specs.Lists.{some}
 use Rattle.lists.proofs.Bools.{and-left, and-right}
+use Rattle.protocol.specs.Given.{there, values}
 use Rattle.protocol.specs.Event.{Event, arrival, start, read, finish, has}
-use Rattle.protocol.specs.Table.{Table, Lawful}
+use Rattle.protocol.specs.Table.{Table, startOf, Lawful}
 use Rattle.protocol.specs.History.{Goes, same, more, arrivals, starts, finishes, upTo, output}
 use Rattle.protocol.specs.Schedule.{urgent, Possible, AllPossible, judged}
-use Rattle.protocol.specs.ZeroTime.{ideals}
+use Rattle.protocol.specs.ZeroTime.{had, dues, ideals}
 use Rattle.protocol.specs.Published.{Boxes, Step}
 use Rattle.protocol.specs.Instant.{upward}
 use Rattle.protocol.specs.Answering.{Answerer, boxesAfter, numbersRead, FollowsProtocol, ReadsZeroTime}
@@ -22,6 +23,10 @@ use Rattle.protocol.proofs.Upward.{upward-order}
 use Rattle.protocol.proofs.Answering.{only-ideals}
 
 module _ {Val : Type 0} where
+  -- what is there is one value
+  there-same : {x y : Val} → there x ≡ there y → x ≡ y
+  there-same e = cc
+
   -- two tasks, one link from the more urgent to the other, the default d
   unfoldable pair : Val → Bool → Table Val
   pair d late = record { tasks = 2; links = 1; default = λ t. d; writer = λ l. 0; reader = λ l. 1; delayed = λ l. late; ahead = ltb }
@@ -81,22 +86,22 @@ module _ {Val : Type 0} where
   module _ (A : Answerer Val) (D : ReadsZeroTime A urgent) (d x y : Val) where
     -- by a direct link it reads the output x, for every x
     reads-output : A .reply (pair d false) (start 1 ∷ finish 0 x ∷ start 0 ∷ arrival 3 ∷ []) (read 0) .value ≡ x
-    unfolding pair both numbersRead ideals arrivals starts finishes upTo output has
+    unfolding pair both numbersRead dues values arrivals starts finishes upTo output has
     reads-output = cc (told A D d false (both x) (both-possible d false x y))
 
     -- and still x where the reader is held up while its writer runs again
     reads-own-arrival : A .reply (pair d false) (finish 0 y ∷ start 0 ∷ arrival 1 ∷ start 1 ∷ finish 0 x ∷ start 0 ∷ arrival 3 ∷ []) (read 0) .value ≡ x
-    unfolding pair held numbersRead ideals arrivals starts finishes upTo output has
+    unfolding pair held numbersRead dues values arrivals starts finishes upTo output has
     reads-own-arrival = cc (told A D d false (held x y) (held-possible d false x y))
 
     -- by a delayed link it reads the default
     reads-default : A .reply (pair d true) (start 1 ∷ finish 0 x ∷ start 0 ∷ arrival 3 ∷ []) (read 0) .value ≡ d
-    unfolding pair both numbersRead ideals arrivals starts finishes upTo output has
+    unfolding pair both numbersRead dues values arrivals starts finishes upTo output has
     reads-default = cc (told A D d true (both x) (both-possible d true x y))
 
     -- the reader's first arrival settled on the default, its second on the output x
     reads-anew : (A .reply (pair d false) alone (read 0) .value ≡ d) × (A .reply (pair d false) (again x y) (read 0) .value ≡ x)
-    unfolding pair again alone numbersRead ideals arrivals starts finishes upTo output has AllPossible
+    unfolding pair again alone numbersRead dues values arrivals starts finishes upTo output has AllPossible
     reads-anew =
         let P : AllPossible (pair d false) (urgent (pair d false)) (read 0 ∷ again x y) = again-possible d false x y in
         (cc (told A D d false (read 0 ∷ alone) (P .1 .1 .1 .1 .1 .1)), cc (told A D d false (read 0 ∷ again x y) P))
@@ -140,11 +145,11 @@ module _ {Val : Type 0} where
     no-defaults R = n (sym (R (pair a false) _ 0) ∙ reads-output A D a b b)
 
     -- one that reads the last output that is finished when the read comes
-    pub no-latest : ((T : Table Val) (h : List (Event Val)) (l : ℕ) → A .reply T h (read l) .value ≡ output (T .default (T .writer l)) h (T .writer l) (finishes h (T .writer l))) → ⊥
+    pub no-latest : ((T : Table Val) (h : List (Event Val)) (l : ℕ) → there (A .reply T h (read l) .value) ≡ cond (eqb (finishes h (T .writer l)) 0) (there (startOf T l)) (output h (T .writer l) (finishes h (T .writer l)))) → ⊥
     unfolding pair output finishes
-    no-latest R = n (sym (reads-own-arrival A D a a b) ∙ R (pair a false) _ 0)
+    no-latest R = n (sym (reads-own-arrival A D a a b) ∙ there-same (R (pair a false) _ 0))
 
     -- one that reads a delayed link like a direct one
-    pub no-all-direct : ((T : Table Val) (h : List (Event Val)) (l : ℕ) → A .reply T h (read l) .value ≡ output (T .default (T .writer l)) h (T .writer l) (arrivals (upTo h (T .reader l)) (T .writer l))) → ⊥
+    pub no-all-direct : ((T : Table Val) (h : List (Event Val)) (l : ℕ) → there (A .reply T h (read l) .value) ≡ cond (eqb (had T h l) 0) (there (startOf T l)) (output h (T .writer l) (had T h l))) → ⊥
     unfolding pair output finishes arrivals upTo has
-    no-all-direct R = n (sym (reads-default A D a b b) ∙ R (pair a true) _ 0)
+    no-all-direct R = n (sym (reads-default A D a b b) ∙ there-same (R (pair a true) _ 0))

@@ -1,4 +1,4 @@
--- The reads of the run where tasks take no time, once more, by counts of arrivals alone: no output is asked for, so none can be missing.
+-- The reads of the run where tasks take no time, once more, by counts of arrivals alone: no output is looked for among those produced so far, so none is missing but what `out` leaves so.
 -- Proofs go through it; no statement that a reader must believe rests on it.
 -- Assumes nothing.
 use mathlib.Core.Path.{_≡_}
@@ -7,10 +7,11 @@ use mathlib.Core.List.{List, [], _∷_}
 use Prim.Native.Nat.{ℕ, zero, suc, _<_}
 use lib.Dec.{eqb}
 use Rattle.protocol.specs.Event.{has}
-use Rattle.protocol.specs.Table.{Table}
+use Rattle.protocol.specs.Given.{Given, there}
+use Rattle.protocol.specs.Table.{Table, startOf}
 use Rattle.protocol.specs.History.{tick}
-use Rattle.protocol.specs.ZeroTime.{runOf}
-use Rattle.protocol.specs.Instant.{Given, there, Entry}
+use Rattle.protocol.specs.ZeroTime.{runOf, early}
+use Rattle.protocol.specs.Instant.{Entry}
 
 -- how often task t arrived, by the arrival sets
 unfoldable pub seen : List ℕ → ℕ → ℕ
@@ -22,15 +23,14 @@ unfoldable pub Known : ℕ → List ℕ → Type 0
 Known n [] = Unit {0}
 Known n (m ∷ ms) = ((t : ℕ) → has m t ≡ true → t < n) × Known n ms
 
-module _ {Val : Type 0} (T : Table Val) (out : ℕ → ℕ → Val) where
-  -- output number k of task w, where number 0 is the default
-  unfoldable pub result : ℕ → ℕ → Val
-  result w zero = T .default w
-  result w (suc k) = out w (suc k)
+module _ {Val : Type 0} (T : Table Val) (out : ℕ → ℕ → Given Val) where
+  -- what link l gives after n arrivals of its writer
+  abbrev pub gives : ℕ → ℕ → Given Val
+  gives l n = cond (early (T .delayed l) n) (there (startOf T l)) (out (T .writer l) (runOf (T .delayed l) n))
 
-  -- what link l gives after the arrivals ms
+  -- after the arrivals ms
   abbrev pub told : List ℕ → ℕ → Given Val
-  told ms l = there (result (T .writer l) (runOf (T .delayed l) (seen ms (T .writer l))))
+  told ms l = gives l (seen ms (T .writer l))
 
   -- task t's read by link l after the arrivals ms
   abbrev pub entry : List ℕ → ℕ → ℕ → Entry Val

@@ -4,11 +4,17 @@ use mathlib.Core.Path.{_≡_, refl}
 use mathlib.Core.Logic.{_≢_}
 use mathlib.Core.Bool.{Bool, true, false, cond}
 use mathlib.Core.List.{List, [], _∷_}
-use Prim.Native.Nat.{ℕ, suc, _≤_}
+use Prim.Native.Nat.{ℕ, suc, _≤_, _<_}
 use native.Mathlib.Omega.{arith}
+use native.Mathlib.Decide.{ℕ-discrete}
 use borrow.Author.Tests.{eq-eqb, ne-eqb}
+use Rattle.protocol.specs.Given.{there, missing}
 use Rattle.protocol.specs.Event.{Event, arrival, start, read, finish, has}
 use Rattle.protocol.specs.History.{arrivals, starts, finishes, clock, upTo, output, stamp}
+
+-- an output is not nothing
+pub there-there : {Val : Type 0} (v : Val) → there v ≡ missing → ⊥
+there-there v e = let z : _≡_ {A = ℕ} 0 1 = cc in omega arith
 
 module _ {Val : Type 0} (h : List (Event Val)) where
   pub arrivals-in : (m t : ℕ) → has m t ≡ true → arrivals (arrival m ∷ h) t ≡ suc (arrivals h t)
@@ -43,17 +49,17 @@ module _ {Val : Type 0} (h : List (Event Val)) where
   unfolding starts
   starts-other u t n = rw (ne-eqb u t n)
 
-  pub output-other : (d : Val) (u w : ℕ) (v : Val) (k : ℕ) → u ≢ w → output d (finish u v ∷ h) w k ≡ output d h w k
+  pub output-other : (u w : ℕ) (v : Val) (k : ℕ) → u ≢ w → output (finish u v ∷ h) w k ≡ output h w k
   unfolding output
-  output-other d u w v k n = rw (ne-eqb u w n)
+  output-other u w v k n = rw (ne-eqb u w n)
 
-  pub output-new : (d : Val) (w : ℕ) (v : Val) → output d (finish w v ∷ h) w (suc (finishes h w)) ≡ v
+  pub output-new : (w : ℕ) (v : Val) → output (finish w v ∷ h) w (suc (finishes h w)) ≡ there v
   unfolding output
-  output-new d w v = rw (eq-eqb w w refl, eq-eqb (suc (finishes h w)) (suc (finishes h w)) refl)
+  output-new w v = rw (eq-eqb w w refl, eq-eqb (suc (finishes h w)) (suc (finishes h w)) refl)
 
-  pub output-old : (d : Val) (w : ℕ) (v : Val) (k : ℕ) → k ≤ finishes h w → output d (finish w v ∷ h) w k ≡ output d h w k
+  pub output-old : (w : ℕ) (v : Val) (k : ℕ) → k ≤ finishes h w → output (finish w v ∷ h) w k ≡ output h w k
   unfolding output
-  output-old d w v k q = rw (eq-eqb w w refl, ne-eqb k (suc (finishes h w)) (omega arith))
+  output-old w v k q = rw (eq-eqb w w refl, ne-eqb k (suc (finishes h w)) (omega arith))
 
 module _ {Val : Type 0} where
   arrivals-upTo-arrive : (h : List (Event Val)) (m r w : ℕ) → arrivals (upTo h r) w ≤ arrivals h w → arrivals (upTo (arrival m ∷ h) r) w ≤ arrivals (arrival m ∷ h) w
@@ -108,3 +114,43 @@ module _ {Val : Type 0} where
   stamp-seen (start u ∷ h) r w q = stamp-seen h r w q
   stamp-seen (read l ∷ h) r w q = stamp-seen h r w q
   stamp-seen (finish u v ∷ h) r w q = stamp-seen h r w q
+
+  -- a finish leaves what was there, and its own value is there
+  output-there-finish : (h : List (Event Val)) (u : ℕ) (v : Val) (w k : ℕ) → (k ≤ finishes h w → output h w k ≢ missing) → k ≤ finishes (finish u v ∷ h) w
+      → output (finish u v ∷ h) w k ≢ missing
+  output-there-finish h u v w k i q = go (ℕ-discrete u w) (ℕ-discrete k (suc (finishes h w)))
+    where
+      go : Dec (u ≡ w) → Dec (k ≡ suc (finishes h w)) → output (finish u v ∷ h) w k ≢ missing
+      go (yes x) (yes y) = rw (x, y, output-new h w v) (there-there v)
+      go (yes x) (no y) = let k′ : k ≤ finishes h w = omega (arith, finishes-same h w v, rw x at q) in rw (x, output-old h w v k k′) (i k′)
+      go (no x) y = rw (output-other h u w v k x) (i (rw (finishes-other h u w v x) at q))
+
+  -- the output of a run that has finished is there; runs are numbered from 1
+  pub output-there : (h : List (Event Val)) (w k : ℕ) → 1 ≤ k → k ≤ finishes h w → output h w k ≢ missing
+  unfolding output finishes
+  output-there [] w k p q = absurd (omega arith)
+  output-there (arrival m ∷ h) w k p q = output-there h w k p q
+  output-there (start u ∷ h) w k p q = output-there h w k p q
+  output-there (read l ∷ h) w k p q = output-there h w k p q
+  output-there (finish u v ∷ h) w k p q = output-there-finish h u v w k (output-there h w k p) q
+
+  -- a finish leaves what is missing of later runs
+  output-missing-finish : (h : List (Event Val)) (u : ℕ) (v : Val) (w k : ℕ) → (finishes h w < k → output h w k ≡ missing) → finishes (finish u v ∷ h) w < k
+      → output (finish u v ∷ h) w k ≡ missing
+  unfolding output
+  output-missing-finish h u v w k i q = go (ℕ-discrete u w)
+    where
+      go : Dec (u ≡ w) → output (finish u v ∷ h) w k ≡ missing
+      go (yes x) =
+          let f : suc (finishes h w) < k = rw (x, finishes-same h w v) at q in
+          rw (x, eq-eqb w w refl, ne-eqb k (suc (finishes h w)) (λ e. omega arith)) (i (omega arith))
+      go (no x) = rw (output-other h u w v k x) (i (rw (finishes-other h u w v x) at q))
+
+  -- that of a run that has not finished is missing
+  pub output-missing : (h : List (Event Val)) (w k : ℕ) → finishes h w < k → output h w k ≡ missing
+  unfolding output finishes
+  output-missing [] w k q = refl
+  output-missing (arrival m ∷ h) w k q = output-missing h w k q
+  output-missing (start u ∷ h) w k q = output-missing h w k q
+  output-missing (read l ∷ h) w k q = output-missing h w k q
+  output-missing (finish u v ∷ h) w k q = output-missing-finish h u v w k (output-missing h w k) q

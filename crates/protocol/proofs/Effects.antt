@@ -1,8 +1,8 @@
 -- What an arrival and a finish do to the boxes, case by case: the published equations, where their tests are known.
 -- Assumes nothing.
-use mathlib.Core.Path.{_≡_, refl}
+use mathlib.Core.Path.{_≡_, refl, ap, _∙_}
 use mathlib.Core.Logic.{_≢_}
-use mathlib.Core.Bool.{true, false}
+use mathlib.Core.Bool.{true, false, cond, _&&_}
 use Prim.Native.Nat.{ℕ, _<_}
 use borrow.Author.Tests.{lt-ltb, eq-eqb, ne-eqb}
 use lib.Dec.{eqb, ltb}
@@ -36,7 +36,10 @@ module _ {Val : Type 0} (T : Table Val) where
   module _ {t : ℕ} {v : Val} {s s′ : Boxes Val} (F : Finished T t v s s′) where
     -- the value is at the newest position
     pub cell-new : s′ .cell t (s .newest t) ≡ v
-    cell-new = rw (F .cell t (s .newest t), eq-eqb t t refl, eq-eqb (s .newest t) (s .newest t) refl)
+    cell-new = F .cell t (s .newest t) ∙ ap (λ b. cond b v (s .cell t (s .newest t))) its-own
+      where
+        its-own : eqb t t && eqb (s .newest t) (s .newest t) ≡ true
+        its-own = rw (eq-eqb t t refl, eq-eqb (s .newest t) (s .newest t) refl)
 
     -- the task's other positions stay
     pub cell-same : (p : ℕ) → p ≢ s .newest t → s′ .cell t p ≡ s .cell t p

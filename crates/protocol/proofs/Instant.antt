@@ -1,4 +1,4 @@
--- The run where tasks take no time never asks for an output that is not there, and reads what the closed form says.
+-- The run where tasks take no time reads what the closed form says; where every run's output is known, it never asks for one that is not there.
 -- Assumes nothing.
 use mathlib.Core.Path.{_≡_, refl, ap, sym, _∙_}
 use mathlib.Core.Logic.{_≢_}
@@ -6,15 +6,17 @@ use mathlib.Core.Bool.{Bool, true, false, cond, _&&_, and-false, true≢false}
 use mathlib.Core.List.{List, [], _∷_}
 use Prim.Native.Nat.{ℕ, zero, suc, pred, _≤_, _<_}
 use native.Mathlib.Omega.{arith}
-use native.Mathlib.Decide.{ℕ-discrete, decLe}
-use borrow.Author.Tests.{eqb-true, eqb-false, eq-eqb, ne-eqb, le-leb, lt-leb}
-use lib.Dec.{eqb, leb}
+use native.Mathlib.Decide.{ℕ-discrete}
+use borrow.Author.Tests.{eqb-true, eqb-false, eq-eqb, ne-eqb}
+use lib.Dec.{eqb}
+use Rattle.protocol.specs.Given.{Given, there, missing}
 use Rattle.protocol.specs.Event.{has}
-use Rattle.protocol.specs.Table.{Table, Lawful}
+use Rattle.protocol.specs.Table.{Table, startOf, Lawful}
 use Rattle.protocol.specs.History.{tick}
-use Rattle.protocol.specs.ZeroTime.{runOf}
-use Rattle.protocol.specs.Instant.{there, missing, Entry, Moment, ask, readLinks, runWhole, work, come, carried, mem, Sorted, Order, find, AllThere}
-use Rattle.protocol.proofs.ClosedForm.{seen, Known, result, told, entry, closed-reads, closed-work, closed}
+use Rattle.protocol.specs.ZeroTime.{runOf, early}
+use Rattle.protocol.specs.Instant.{Entry, Moment, ask, readLinks, runWhole, work, come, carried, mem, Sorted, Order, find, AllThere}
+use Rattle.protocol.proofs.Counts.{there-there}
+use Rattle.protocol.proofs.ClosedForm.{seen, Known, gives, told, entry, closed-reads, closed-work, closed}
 
 -- the first of a list is in it
 mem-here : (t : ℕ) (ts : List ℕ) → mem t (t ∷ ts) ≡ true
@@ -49,7 +51,7 @@ module _ {Val : Type 0} (s : Moment Val) (m t : ℕ) (ts : List ℕ) (M : Mid m 
   mid-next e = rw (e, mem-here t ts) at (M t)
 
   -- and once it has run, it is done
-  mid-whole : (T : Table Val) (out : ℕ → ℕ → Val) → has m t ≡ true → mem t ts ≡ false → Mid m ts (runWhole T out t s)
+  mid-whole : (T : Table Val) (out : ℕ → ℕ → Given Val) → has m t ≡ true → mem t ts ≡ false → Mid m ts (runWhole T out t s)
   unfolding runWhole
   mid-whole T out e f u = go (ℕ-discrete u t)
     where
@@ -57,41 +59,39 @@ module _ {Val : Type 0} (s : Moment Val) (m t : ℕ) (ts : List ℕ) (M : Mid m 
       go (yes x) = rw (x, e, f, eq-eqb t t refl) (mid-next e)
       go (no x) = rw (ne-eqb t u (λ y. x (sym y))) (rw (mem-other u t ts x) at (M u))
 
-module _ {Val : Type 0} (T : Table Val) (out : ℕ → ℕ → Val) where
-  -- the outputs produced so far are those of the runs so far, and the default
+module _ {Val : Type 0} (T : Table Val) (out : ℕ → ℕ → Given Val) where
+  -- the outputs produced so far are those of the runs so far
   abbrev Made : Moment Val → Type 0
-  Made s = (w k : ℕ) → s .made w k ≡ cond (leb k (s .runs w)) (there (result T out w k)) missing
+  Made s = (w k : ℕ) → 1 ≤ k → k ≤ s .runs w → s .made w k ≡ out w k
 
   -- the run that link l asks for has been
   abbrev Ready : Moment Val → ℕ → Type 0
   Ready s l = runOf (T .delayed l) (s .arrived (T .writer l)) ≤ s .runs (T .writer l)
 
-  -- what a link asks for is there
-  ask-there : (s : Moment Val) (l : ℕ) → Made s → Ready s l → ask T s l ≡ there (result T out (T .writer l) (runOf (T .delayed l) (s .arrived (T .writer l))))
+  -- so a link is given what it asks for
+  ask-given : (s : Moment Val) (l : ℕ) → Made s → Ready s l → ask T s l ≡ gives T out l (s .arrived (T .writer l))
   unfolding ask
-  ask-there s l D q = D (T .writer l) (runOf (T .delayed l) (s .arrived (T .writer l))) ∙ rw (le-leb (runOf (T .delayed l) (s .arrived (T .writer l))) (s .runs (T .writer l)) q)
+  ask-given s l D q = go (early (T .delayed l) (s .arrived (T .writer l))) refl
+    where
+      k : ℕ
+      k = runOf (T .delayed l) (s .arrived (T .writer l))
 
-  -- at the beginning there are the defaults
-  made-fresh : (w k : ℕ) → cond (eqb k 0) (there (T .default w)) missing ≡ cond (leb k 0) (there (result T out w k)) missing
-  unfolding result
-  made-fresh w zero = refl
-  made-fresh w (suc k) = rw (ne-eqb (suc k) 0 (λ e. omega arith), lt-leb (suc k) 0 (omega arith))
+      go : (b : Bool) → eqb k 0 ≡ b → cond b (there (startOf T l)) (s .made (T .writer l) k) ≡ cond b (there (startOf T l)) (out (T .writer l) k)
+      go true e = refl
+      go false e = D (T .writer l) k (omega (arith, eqb-false k 0 e)) q
 
   -- a task that runs adds its output
   made-whole : (s : Moment Val) (t : ℕ) → Made s → Made (runWhole T out t s)
-  unfolding runWhole result
-  made-whole s t D w k = go (ℕ-discrete t w)
+  unfolding runWhole
+  made-whole s t D w k p = go (ℕ-discrete t w)
     where
-      own : Dec (k ≡ suc (s .runs w)) → Dec (k ≤ s .runs w)
-          → cond (eqb k (suc (s .runs w))) (there (out w k)) (s .made w k) ≡ cond (leb k (suc (s .runs w))) (there (result T out w k)) missing
-      own (yes x) y = rw (x, eq-eqb (suc (s .runs w)) (suc (s .runs w)) refl, le-leb (suc (s .runs w)) (suc (s .runs w)) (omega arith))
-      own (no x) (yes y) = rw (ne-eqb k (suc (s .runs w)) x, D w k, le-leb k (s .runs w) y, le-leb k (suc (s .runs w)) (omega arith))
-      own (no x) (no y) = rw (ne-eqb k (suc (s .runs w)) x, D w k, lt-leb k (s .runs w) (omega arith), lt-leb k (suc (s .runs w)) (omega arith))
+      own : Dec (k ≡ suc (s .runs w)) → k ≤ suc (s .runs w) → cond (eqb k (suc (s .runs w))) (out w k) (s .made w k) ≡ out w k
+      own (yes x) q = rw (eq-eqb k (suc (s .runs w)) x)
+      own (no x) q = rw (ne-eqb k (suc (s .runs w)) x) (D w k p (omega arith))
 
-      go : Dec (t ≡ w)
-          → cond (eqb t w && eqb k (suc (s .runs w))) (there (out w k)) (s .made w k) ≡ cond (leb k (tick (eqb t w) (s .runs w))) (there (result T out w k)) missing
-      go (yes x) = rw (x, eq-eqb w w refl) (own (ℕ-discrete k (suc (s .runs w))) (decLe k (s .runs w)))
-      go (no x) = rw (ne-eqb t w x) (D w k)
+      go : Dec (t ≡ w) → k ≤ tick (eqb t w) (s .runs w) → cond (eqb t w && eqb k (suc (s .runs w))) (out w k) (s .made w k) ≡ out w k
+      go (yes x) = rw (x, eq-eqb w w refl) (own (ℕ-discrete k (suc (s .runs w))))
+      go (no x) = rw (ne-eqb t w x) (D w k p)
 
   -- a task that runs reads what the closed form says
   reads-closed : (ms : List ℕ) (es : List (Entry Val)) (s : Moment Val) (t : ℕ) → Made s → s .log ≡ es → ((u : ℕ) → s .arrived u ≡ seen ms u)
@@ -104,7 +104,7 @@ module _ {Val : Type 0} (T : Table Val) (out : ℕ → ℕ → Val) where
       go : (b : Bool) → eqb (T .reader l) t ≡ b → readLinks T s t l ≡ closed-reads T out ms t l es
           → cond b (record { job = suc (s .runs t); link = l; given = ask T s l } ∷ readLinks T s t l) (readLinks T s t l)
           ≡ cond b (entry T out ms t l ∷ closed-reads T out ms t l es) (closed-reads T out ms t l es)
-      go true e i = rw (ask-there s l D (p l (omega arith) (eqb-true (T .reader l) t e)), j, a (T .writer l), i)
+      go true e i = rw (ask-given s l D (p l (omega arith) (eqb-true (T .reader l) t e)), j, a (T .writer l), i)
       go false e i = i
 
   -- after all tasks of a set
@@ -153,7 +153,7 @@ module _ {Val : Type 0} (T : Table Val) (out : ℕ → ℕ → Val) where
     -- the whole run is the closed form
     pub carried-closed : (order : List ℕ) → Order T order → (ms : List ℕ) → Known (T .tasks) ms → Done ms (closed T out order ms) (carried T out order ms)
     unfolding carried closed Known seen come
-    carried-closed order O [] K = record { log = refl; arrived = λ u. refl; runs = λ u. refl; made = made-fresh }
+    carried-closed order O [] K = record { log = refl; arrived = λ u. refl; runs = λ u. refl; made = λ w k p q. absurd (omega arith) }
     carried-closed order O (m ∷ ms) K =
         let D = carried-closed order O ms (K .1) in
         work-closed (m ∷ ms) m order (closed T out order ms) (come m (carried T out order ms)) (O .sorted) (begun D) (D .made) (D .log) (λ u. ap (tick (has m u)) (D .arrived u))
@@ -165,39 +165,45 @@ module _ {Val : Type 0} (T : Table Val) (out : ℕ → ℕ → Val) where
             go true e = rw (O .all u (K .0 u e), D .arrived u, D .runs u)
             go false e = rw (D .arrived u, D .runs u)
 
-  -- an output is not nothing
-  there-there : (v : Val) → there v ≡ missing → ⊥
-  there-there v e = let z : _≡_ {A = ℕ} 0 1 = cc in omega arith
+  -- where no run's output is missing
+  module _ (known : (w k : ℕ) → out w k ≢ missing) where
+    -- no link gives nothing
+    gives-there : (l n : ℕ) → gives T out l n ≢ missing
+    gives-there l n = go (early (T .delayed l) n)
+      where
+        go : (b : Bool) → cond b (there (startOf T l)) (out (T .writer l) (runOf (T .delayed l) n)) ≢ missing
+        go true = there-there (startOf T l)
+        go false = known (T .writer l) (runOf (T .delayed l) n)
 
-  -- the closed form has outputs only: the reads of a task
-  there-reads : (ms : List ℕ) (t : ℕ) (es : List (Entry Val)) → AllThere es → (n : ℕ) → AllThere (closed-reads T out ms t n es)
-  unfolding closed-reads AllThere
-  there-reads ms t es G zero = G
-  there-reads ms t es G (suc l) = go (eqb (T .reader l) t) (there-reads ms t es G l)
-    where
-      go : (b : Bool) → AllThere (closed-reads T out ms t l es) → AllThere (cond b (entry T out ms t l ∷ closed-reads T out ms t l es) (closed-reads T out ms t l es))
-      go true i = (there-there _, i)
-      go false i = i
+    -- so nothing is missing in the closed form: in the reads of a task
+    there-reads : (ms : List ℕ) (t : ℕ) (es : List (Entry Val)) → AllThere es → (n : ℕ) → AllThere (closed-reads T out ms t n es)
+    unfolding closed-reads AllThere
+    there-reads ms t es G zero = G
+    there-reads ms t es G (suc l) = go (eqb (T .reader l) t) (there-reads ms t es G l)
+      where
+        go : (b : Bool) → AllThere (closed-reads T out ms t l es) → AllThere (cond b (entry T out ms t l ∷ closed-reads T out ms t l es) (closed-reads T out ms t l es))
+        go true i = (gives-there l (seen ms (T .writer l)), i)
+        go false i = i
 
-  -- of a set
-  there-work : (ms : List ℕ) (m : ℕ) (ts : List ℕ) (es : List (Entry Val)) → AllThere es → AllThere (closed-work T out ms m ts es)
-  unfolding closed-work
-  there-work ms m [] es G = G
-  there-work ms m (t ∷ ts) es G = there-work ms m ts _ (go (has m t))
-    where
-      go : (b : Bool) → AllThere (cond b (closed-reads T out ms t (T .links) es) es)
-      go true = there-reads ms t es G (T .links)
-      go false = G
+    -- of a set
+    there-work : (ms : List ℕ) (m : ℕ) (ts : List ℕ) (es : List (Entry Val)) → AllThere es → AllThere (closed-work T out ms m ts es)
+    unfolding closed-work
+    there-work ms m [] es G = G
+    there-work ms m (t ∷ ts) es G = there-work ms m ts _ (go (has m t))
+      where
+        go : (b : Bool) → AllThere (cond b (closed-reads T out ms t (T .links) es) es)
+        go true = there-reads ms t es G (T .links)
+        go false = G
 
-  -- of all sets
-  there-closed : (order ms : List ℕ) → AllThere (closed T out order ms)
-  unfolding closed AllThere
-  there-closed order [] = tt
-  there-closed order (m ∷ ms) = there-work (m ∷ ms) m order (closed T out order ms) (there-closed order ms)
+    -- of all sets
+    there-closed : (order ms : List ℕ) → AllThere (closed T out order ms)
+    unfolding closed AllThere
+    there-closed order [] = tt
+    there-closed order (m ∷ ms) = there-work (m ∷ ms) m order (closed T out order ms) (there-closed order ms)
 
-  -- no run asks for an output that is not there
-  pub always-there : Lawful T → (order : List ℕ) → Order T order → (ms : List ℕ) → Known (T .tasks) ms → AllThere (carried T out order ms .log)
-  always-there L order O ms K = rw (carried-closed L order O ms K .log) (there-closed order ms)
+    -- no run asks for an output that is not there
+    pub always-there : Lawful T → (order : List ℕ) → Order T order → (ms : List ℕ) → Known (T .tasks) ms → AllThere (carried T out order ms .log)
+    always-there L order O ms K = rw (carried-closed L order O ms K .log) (there-closed order ms)
 
   -- a task's reads leave what run number j of l's reader read by l, unless they are that run's
   find-reads : (ms : List ℕ) (t : ℕ) (es : List (Entry Val)) (l j : ℕ) → (T .reader l ≡ t → seen ms t ≡ j → ⊥)
@@ -212,7 +218,7 @@ module _ {Val : Type 0} (T : Table Val) (out : ℕ → ℕ → Val) where
 
       go : (b : Bool) → eqb (T .reader k) t ≡ b → find l j (closed-reads T out ms t k es) ≡ find l j es
           → find l j (cond b (entry T out ms t k ∷ closed-reads T out ms t k es) (closed-reads T out ms t k es)) ≡ find l j es
-      go true e i = rw (miss e (ℕ-discrete k l)) i
+      go true e i = ap (λ c. cond c (told T out ms k) (find l j (closed-reads T out ms t k es))) (miss e (ℕ-discrete k l)) ∙ i
       go false e i = i
 
   -- so do the reads of a set, unless its reader is in the set and that run is its last

@@ -1,23 +1,33 @@
 -- What holds of the boxes after every run of the protocol, for any free choice and any fair policy: each event keeps it.
 -- It says what stands at the positions of each task and, while a link's reader is active, what stands or will stand at the link's pointer.
 -- Assumes nothing.
-use mathlib.Core.Path.{_≡_, refl, sym, _∙_}
+use mathlib.Core.Path.{_≡_, refl, sym, ap, _∙_}
 use mathlib.Core.Logic.{_≢_, _⊎_, inl, inr}
-use mathlib.Core.Bool.{Bool, true, false, true≢false}
+use mathlib.Core.Bool.{Bool, true, false, cond, true≢false}
 use mathlib.Core.List.{List, [], _∷_}
 use Prim.Native.Nat.{ℕ, suc, pred, _≤_, _<_}
 use native.Mathlib.Omega.{arith}
 use native.Mathlib.Decide.{ℕ-discrete, decLe}
-use borrow.Author.Tests.{ltb-true, ltb-false, lt-ltb}
+use borrow.Author.Tests.{ltb-true, ltb-false, lt-ltb, ne-eqb}
+use lib.Dec.{eqb}
+use Rattle.protocol.specs.Given.{Given, there}
 use Rattle.protocol.specs.Event.{Event, arrival, start, read, finish, has}
 use Rattle.protocol.specs.Table.{Table, behind, Lawful}
 use Rattle.protocol.specs.History.{arrivals, starts, finishes, running, upTo, output, stamp}
 use Rattle.protocol.specs.Schedule.{Policy, Turn, Fair, Possible}
-use Rattle.protocol.specs.ZeroTime.{runOf, wanted, ideal}
+use Rattle.protocol.specs.ZeroTime.{runOf, had, wanted}
 use Rattle.protocol.specs.Published.{Boxes, Fresh, Free, Choice, Arrived, Finished, Step, Run, fresh, next}
 use Rattle.protocol.proofs.Counts.{arrivals-in, arrivals-out, upTo-in, upTo-out, finishes-same, finishes-other, output-new, output-old, output-other, arrivals-upTo, stamp-clock, stamp-in}
 use Rattle.protocol.proofs.Schedule.{counted, run-possible}
 use Rattle.protocol.proofs.Effects.{previous-in, previous-out, pointer-direct, pointer-delayed, pointer-out, cell-new, cell-same, cell-other, pointer-other}
+
+-- a delayed link gives the run before the last
+runOf-delayed : (n : ℕ) → runOf true n ≡ pred n
+runOf-delayed n = refl
+
+-- a direct link gives the last
+runOf-direct : (n : ℕ) → runOf false n ≡ n
+runOf-direct n = refl
 
 -- no run later than the last is asked for
 runOf-le : (b : Bool) (n : ℕ) → runOf b n ≤ n
@@ -42,16 +52,24 @@ module _ {Val : Type 0} where
   unfinished {T} {may} {h = h} r t q = omega (arith, ltb-true (finishes h t) (starts h t) q, counted T may h (run-possible T may r) t)
 
 module _ {Val : Type 0} (T : Table Val) where
+  -- what is stored of task t's run number k: its output, and for number 0, before the first run, the default
+  abbrev pub stored : List (Event Val) → ℕ → ℕ → Given Val
+  stored h t k = cond (eqb k 0) (there (T .default t)) (output h t k)
+
+  -- a finish stores its value
+  stored-new : (h : List (Event Val)) (t : ℕ) (v : Val) → stored (finish t v ∷ h) t (suc (finishes h t)) ≡ there v
+  stored-new h t v = rw (ne-eqb (suc (finishes h t)) 0 (λ e. omega arith), output-new h t v)
+
   -- the value at a task's previous position is that of the run before the last; at its newest that of the last, once finished; and while it is active the two are apart
   pub record TaskOk (h : List (Event Val)) (s : Boxes Val) (t : ℕ) : Type 0 where
-    pub before : s .cell t (s .previous t) ≡ output (T .default t) h t (pred (arrivals h t))
-    pub latest : arrivals h t ≡ finishes h t → s .cell t (s .newest t) ≡ output (T .default t) h t (arrivals h t)
+    pub before : there (s .cell t (s .previous t)) ≡ stored h t (pred (arrivals h t))
+    pub latest : arrivals h t ≡ finishes h t → there (s .cell t (s .newest t)) ≡ stored h t (arrivals h t)
     pub apart : Active h t → s .newest t ≢ s .previous t
 
   -- link l, while its reader is active
   pub record LinkOk (h : List (Event Val)) (s : Boxes Val) (l : ℕ) : Type 0 where
     -- the run wanted is finished: the pointer has its output
-    pub have : wanted T h l ≤ finishes h (T .writer l) → s .cell (T .writer l) (s .pointer l) ≡ ideal T h l
+    pub have : wanted T h l ≤ finishes h (T .writer l) → there (s .cell (T .writer l) (s .pointer l)) ≡ stored h (T .writer l) (wanted T h l)
     -- it is not: the pointer is where it will go
     pub wait : finishes h (T .writer l) < wanted T h l → s .pointer l ≡ s .newest (T .writer l)
     -- what the writer is about to write at the pointer is the run wanted, or the reader goes first
@@ -63,15 +81,19 @@ module _ {Val : Type 0} (T : Table Val) where
     pub tasks : (t : ℕ) → TaskOk h s t
     pub links : (l : ℕ) → l < T .links → Active h (T .reader l) → LinkOk h s l
 
+  -- an arrival of others leaves what link l's reader settled on
+  wanted-out : (h : List (Event Val)) (m l : ℕ) → has m (T .reader l) ≡ false → wanted T (arrival m ∷ h) l ≡ wanted T h l
+  wanted-out h m l e = ap (λ g. runOf (T .delayed l) (arrivals g (T .writer l))) (upTo-out h m (T .reader l) e)
+
   -- the run wanted has arrived
   wanted-le : (h : List (Event Val)) (l : ℕ) → wanted T h l ≤ arrivals h (T .writer l)
-  wanted-le h l = omega (arith, runOf-le (T .delayed l) (arrivals (upTo h (T .reader l)) (T .writer l)), arrivals-upTo h (T .reader l) (T .writer l))
+  wanted-le h l = omega (arith, runOf-le (T .delayed l) (had T h l), arrivals-upTo h (T .reader l) (T .writer l))
 
   -- at the beginning
   inv-fresh : {s : Boxes Val} → Fresh T s → Inv [] s
   unfolding arrivals finishes output
   inv-fresh f = record {
-    tasks = λ t. record { before = f .cell t _; latest = λ q. f .cell t _; apart = λ q. absurd (omega arith) };
+    tasks = λ t. record { before = ap there (f .cell t _); latest = λ q. ap there (f .cell t _); apart = λ q. absurd (omega arith) };
     links = λ l k q. absurd (omega arith);
   }
 
@@ -110,7 +132,7 @@ module _ {Val : Type 0} (T : Table Val) where
     -- the reader arrives: its pointer is set, after the writers' part
     link-direct : (l : ℕ) → l < T .links → T .delayed l ≡ false → has m (T .reader l) ≡ true → TaskOk (arrival m ∷ h) s′ (T .writer l) → LinkOk (arrival m ∷ h) s′ l
     link-direct l k d e w =
-        let u : wanted T (arrival m ∷ h) l ≡ arrivals (arrival m ∷ h) (T .writer l) = rw (d, upTo-in h m (T .reader l) e) in
+        let u : wanted T (arrival m ∷ h) l ≡ arrivals (arrival m ∷ h) (T .writer l) = rw (d, upTo-in h m (T .reader l) e) (runOf-direct (arrivals (arrival m ∷ h) (T .writer l))) in
         let p : s′ .pointer l ≡ s′ .newest (T .writer l) = pointer-direct T A l k e d in
         record {
           have = rw (u, p) (λ q. w .latest (omega (arith, B (T .writer l))));
@@ -121,7 +143,7 @@ module _ {Val : Type 0} (T : Table Val) where
     -- the same for a delayed link
     link-delayed : (l : ℕ) → l < T .links → T .delayed l ≡ true → has m (T .reader l) ≡ true → TaskOk (arrival m ∷ h) s′ (T .writer l) → LinkOk (arrival m ∷ h) s′ l
     link-delayed l k d e w =
-        let u : wanted T (arrival m ∷ h) l ≡ pred (arrivals (arrival m ∷ h) (T .writer l)) = rw (d, upTo-in h m (T .reader l) e) in
+        let u : wanted T (arrival m ∷ h) l ≡ pred (arrivals (arrival m ∷ h) (T .writer l)) = rw (d, upTo-in h m (T .reader l) e) (runOf-delayed (arrivals (arrival m ∷ h) (T .writer l))) in
         let p : s′ .pointer l ≡ s′ .previous (T .writer l) = pointer-delayed T A l k e d in
         record {
           have = rw (u, p) (λ q. w .before);
@@ -133,7 +155,7 @@ module _ {Val : Type 0} (T : Table Val) where
     link-writer : (l : ℕ) → l < T .links → Lawful T → has m (T .reader l) ≡ false → has m (T .writer l) ≡ true → LinkOk h s l → LinkOk (arrival m ∷ h) s′ l
     unfolding finishes output
     link-writer l k L e f o =
-        let u : wanted T (arrival m ∷ h) l ≡ wanted T h l = rw (upTo-out h m (T .reader l) e) in
+        let u : wanted T (arrival m ∷ h) l ≡ wanted T h l = wanted-out h m l e in
         let p : s′ .pointer l ≡ s .pointer l = pointer-out T A l e in
         record {
           have = rw (u, p, A .cell (T .writer l) (s .pointer l)) (o .have);
@@ -154,7 +176,7 @@ module _ {Val : Type 0} (T : Table Val) where
     unfolding finishes output
     link-neither l e f o =
         let a : arrivals (arrival m ∷ h) (T .writer l) ≡ arrivals h (T .writer l) = arrivals-out h m (T .writer l) f in
-        let u : wanted T (arrival m ∷ h) l ≡ wanted T h l = rw (upTo-out h m (T .reader l) e) in
+        let u : wanted T (arrival m ∷ h) l ≡ wanted T h l = wanted-out h m l e in
         let p : s′ .pointer l ≡ s .pointer l = pointer-out T A l e in
         let n : s′ .newest (T .writer l) ≡ s .newest (T .writer l) = A .kept (T .writer l) f in
         record {
@@ -186,11 +208,11 @@ module _ {Val : Type 0} (T : Table Val) where
 
   -- an event that is neither an arrival nor a finish
   inv-quiet : {h h′ : List (Event Val)} {s : Boxes Val} → ((t : ℕ) → arrivals h′ t ≡ arrivals h t) → ((t : ℕ) → finishes h′ t ≡ finishes h t)
-      → ((t : ℕ) → upTo h′ t ≡ upTo h t) → ((d : Val) (w k : ℕ) → output d h′ w k ≡ output d h w k) → Inv h s → Inv h′ s
+      → ((t : ℕ) → upTo h′ t ≡ upTo h t) → ((w k : ℕ) → output h′ w k ≡ output h w k) → Inv h s → Inv h′ s
   inv-quiet {h} {h′} {s} a f u o i = record {
     tasks = λ t. record {
-      before = rw (o (T .default t) t (pred (arrivals h′ t)), a t) (i .tasks t .before);
-      latest = rw (o (T .default t) t (arrivals h′ t), a t, f t) (i .tasks t .latest);
+      before = rw (o t (pred (arrivals h′ t)), a t) (i .tasks t .before);
+      latest = rw (o t (arrivals h′ t), a t, f t) (i .tasks t .latest);
       apart = rw (a t, f t) (i .tasks t .apart);
     };
     links = λ l k q. link l (i .links l k (rw (a (T .reader l), f (T .reader l)) at q));
@@ -198,7 +220,7 @@ module _ {Val : Type 0} (T : Table Val) where
     where
       link : (l : ℕ) → LinkOk h s l → LinkOk h′ s l
       link l x = record {
-        have = rw (o (T .default (T .writer l)) (T .writer l) (wanted T h′ l), u (T .reader l), f (T .writer l)) (x .have);
+        have = rw (o (T .writer l) (wanted T h′ l), u (T .reader l), f (T .writer l)) (x .have);
         wait = rw (u (T .reader l), f (T .writer l)) (x .wait);
         guard = rw (u (T .reader l), u (T .writer l), a (T .writer l), f (T .writer l)) (x .guard);
       }
@@ -217,20 +239,20 @@ module _ {Val : Type 0} (T : Table Val) where
       }
     where
       -- the output that link l is to read, after the finish
-      due : Val
-      due = output (T .default (T .writer l)) (finish (T .writer l) v ∷ h) (T .writer l) (wanted T h l)
+      due : Given Val
+      due = stored (finish (T .writer l) v ∷ h) (T .writer l) (wanted T h l)
 
       -- the writer writes at the pointer
-      at : (wanted T h l ≡ arrivals h (T .writer l)) ⊎ ((T .ahead (T .reader l) (T .writer l) ≡ true) × (stamp h (T .reader l) ≤ stamp h (T .writer l))) → v ≡ due
-      at (inl e) = rw (e, c, output-new h (T .default (T .writer l)) (T .writer l) v)
+      at : (wanted T h l ≡ arrivals h (T .writer l)) ⊎ ((T .ahead (T .reader l) (T .writer l) ≡ true) × (stamp h (T .reader l) ≤ stamp h (T .writer l))) → there v ≡ due
+      at (inl e) = rw (e, c, stored-new h (T .writer l) v)
       at (inr b) = absurd (turn (T .reader l) k (b .0) (lt-ltb _ _ q) (b .1))
 
       -- it writes elsewhere
-      off : s .pointer l ≢ s .newest (T .writer l) → Dec (wanted T h l ≤ finishes h (T .writer l)) → s .cell (T .writer l) (s .pointer l) ≡ due
-      off e (yes d) = rw (output-old h (T .default (T .writer l)) (T .writer l) v (wanted T h l) d) (o .have d)
+      off : s .pointer l ≢ s .newest (T .writer l) → Dec (wanted T h l ≤ finishes h (T .writer l)) → there (s .cell (T .writer l) (s .pointer l)) ≡ due
+      off e (yes d) = rw (output-old h (T .writer l) v (wanted T h l) d) (o .have d)
       off e (no d) = absurd (e (o .wait (omega arith)))
 
-      go : Dec (s .pointer l ≡ s .newest (T .writer l)) → s′ .cell (T .writer l) (s .pointer l) ≡ due
+      go : Dec (s .pointer l ≡ s .newest (T .writer l)) → there (s′ .cell (T .writer l) (s .pointer l)) ≡ due
       go (yes e) = rw (e, cell-new T F) (at (o .guard (omega arith) e))
       go (no e) = rw (cell-same T F (s .pointer l) e) (off e (decLe (wanted T h l) (finishes h (T .writer l))))
 
@@ -242,8 +264,8 @@ module _ {Val : Type 0} (T : Table Val) where
     task-finish-same k =
         let f : finishes (finish t v ∷ h) t ≡ suc (finishes h t) = finishes-same h t v in
         record {
-          before = rw (F .previous t, cell-same T F (s .previous t) (λ e. k .apart (omega arith) (sym e)), output-old h (T .default t) t v (pred (arrivals h t)) (omega arith)) (k .before);
-          latest = λ q. rw (F .newest t, cell-new T F, c, output-new h (T .default t) t v);
+          before = rw (F .previous t, cell-same T F (s .previous t) (λ e. k .apart (omega arith) (sym e)), output-old h t v (pred (arrivals h t)) (omega arith)) (k .before);
+          latest = λ q. rw (F .newest t, cell-new T F, c, stored-new h t v);
           apart = λ q. absurd (omega arith);
         }
 
@@ -253,8 +275,8 @@ module _ {Val : Type 0} (T : Table Val) where
     task-finish-other u n k =
         let f : finishes (finish t v ∷ h) u ≡ finishes h u = finishes-other h t u v (λ x. n (sym x)) in
         record {
-          before = rw (cell-other T F u (s′ .previous u) n, F .previous u, output-other h (T .default u) t u v (pred (arrivals h u)) (λ x. n (sym x))) (k .before);
-          latest = rw (f, cell-other T F u (s′ .newest u) n, F .newest u, output-other h (T .default u) t u v (arrivals h u) (λ x. n (sym x))) (k .latest);
+          before = rw (cell-other T F u (s′ .previous u) n, F .previous u, output-other h t u v (pred (arrivals h u)) (λ x. n (sym x))) (k .before);
+          latest = rw (f, cell-other T F u (s′ .newest u) n, F .newest u, output-other h t u v (arrivals h u) (λ x. n (sym x))) (k .latest);
           apart = rw (f, F .newest u, F .previous u) (k .apart);
         }
 
@@ -273,7 +295,7 @@ module _ {Val : Type 0} (T : Table Val) where
         let f : finishes (finish t v ∷ h) (T .writer l) ≡ finishes h (T .writer l) = finishes-other h t (T .writer l) v (λ x. nw (sym x)) in
         let p : s′ .pointer l ≡ s .pointer l = pointer-other T F l nr in
         record {
-          have = rw (f, p, cell-other T F (T .writer l) (s .pointer l) nw, output-other h (T .default (T .writer l)) t (T .writer l) v (wanted T h l) (λ x. nw (sym x))) (o .have);
+          have = rw (f, p, cell-other T F (T .writer l) (s .pointer l) nw, output-other h t (T .writer l) v (wanted T h l) (λ x. nw (sym x))) (o .have);
           wait = rw (f, p, F .newest (T .writer l)) (o .wait);
           guard = rw (f, p, F .newest (T .writer l)) (o .guard);
         }
@@ -304,6 +326,6 @@ module _ {Val : Type 0} (T : Table Val) where
     unfolding Step Possible arrivals finishes upTo output
     invariant (fresh f) = inv-fresh f
     invariant (next {h = h} (arrival m) r p A) = inv-arrive A (λ t e. omega (arith, ltb-false (finishes h t) (arrivals h t) (p .2 t e), bounded r t)) (bounded (next (arrival m) r p A)) L (invariant r)
-    invariant (next (start t) r p e) = rw e (inv-quiet (λ t. refl) (λ t. refl) (λ t. refl) (λ d w k. refl) (invariant r))
-    invariant (next (read l) r p e) = rw e (inv-quiet (λ t. refl) (λ t. refl) (λ t. refl) (λ d w k. refl) (invariant r))
+    invariant (next (start t) r p e) = rw e (inv-quiet (λ t. refl) (λ t. refl) (λ t. refl) (λ w k. refl) (invariant r))
+    invariant (next (read l) r p e) = rw e (inv-quiet (λ t. refl) (λ t. refl) (λ t. refl) (λ w k. refl) (invariant r))
     invariant (next {h = h} (finish t v) r p F) = inv-finish F (unfinished r t (p .1)) L (fair h t (p .2)) (invariant r)

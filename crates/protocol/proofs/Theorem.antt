@@ -1,22 +1,32 @@
 -- Demand 3, in closed form: each number read is the one from the run where tasks take no time, and the output of an unfinished run is never read.
 -- It holds for every table that is `Lawful`, every free choice, every policy that lets a task run in its turn only, and every type of value.
 -- Assumes nothing.
-use mathlib.Core.Path.{_≡_, refl}
-use mathlib.Core.Bool.{Bool, true, false}
+use mathlib.Core.Path.{_≡_, refl, sym, ap, _∙_}
+use mathlib.Core.Logic.{_≢_}
+use mathlib.Core.Bool.{Bool, true, false, cond}
 use mathlib.Core.List.{List, [], _∷_}
 use Prim.Native.Nat.{ℕ, suc, pred, _≤_, _<_}
 use native.Mathlib.Omega.{arith}
 use native.Mathlib.Decide.{decLe}
-use borrow.Author.Tests.{lt-ltb}
+use borrow.Author.Tests.{lt-ltb, eqb-false}
+use lib.ListN.{length}
+use Rattle.protocol.specs.Given.{Given, there, missing, values}
 use Rattle.protocol.specs.Event.{Event, arrival, start, read, finish}
-use Rattle.protocol.specs.Table.{Table, Lawful}
-use Rattle.protocol.specs.History.{arrivals, finishes, upTo}
+use Rattle.protocol.specs.Table.{Table, startOf, Lawful}
+use Rattle.protocol.specs.History.{arrivals, finishes, reads, upTo, output}
 use Rattle.protocol.specs.Schedule.{Policy, Fair, Possible, AllPossible}
-use Rattle.protocol.specs.ZeroTime.{runOf, wanted, ideal, ideals, Settled}
+use Rattle.protocol.specs.ZeroTime.{runOf, early, had, wanted, due, dues, ideals, Settled}
+use Rattle.protocol.specs.Instant.{theres}
 use Rattle.protocol.specs.Published.{Boxes, Choice, Lowest, OnlyFree, number, Step, Run, fresh, next, numbers}
-use Rattle.protocol.proofs.Counts.{arrivals-upTo, stamp-seen}
+use Rattle.protocol.proofs.Counts.{there-there, arrivals-upTo, stamp-seen, output-there}
 use Rattle.protocol.proofs.Schedule.{counted, run-possible}
 use Rattle.protocol.proofs.Invariant.{unfinished, invariant}
+
+-- the values of outputs that are there
+pub values-theres : {Val : Type 0} (vs : List Val) → values (theres vs) ≡ vs
+unfolding values theres
+values-theres [] = refl
+values-theres (v ∷ vs) = ap (λ us. v ∷ us) (values-theres vs)
 
 -- the lowest free position is a free one
 pub lowest-only : {Val : Type 0} (T : Table Val) → OnlyFree T (Lowest T)
@@ -61,19 +71,66 @@ module _ {Val : Type 0} (T : Table Val) (may : Policy Val) where
     settled (finish t v ∷ h) P = settled h (P .1)
 
     module _ {choice : Choice Val} (free : OnlyFree T choice) where
-      -- at each read: the number is the ideal one, and the run that made it is finished
+      -- at each read: the number is the one due, and the run that made it is finished
       pub zero-time : {s : Boxes Val} {h : List (Event Val)} {l : ℕ} → Run T may choice s h → Possible T may h (read l)
-          → (number T s l ≡ ideal T h l) × (wanted T h l ≤ finishes h (T .writer l))
+          → (there (number T s l) ≡ due T h l) × (wanted T h l ≤ finishes h (T .writer l))
       unfolding Possible
       zero-time {s} {h} {l} r p =
           let d = finished-then h l (run-possible T may r) (p .0) (p .2) in
           (invariant T may L F (weaken free r) .links l (p .0) (omega (arith, unfinished r (T .reader l) (p .1))) .have d, d)
 
-      -- all the numbers read are the ideal ones
+      -- all the numbers read are those due: none is missing
+      pub numbers-due : {s : Boxes Val} {h : List (Event Val)} (r : Run T may choice s h) → theres (numbers T r) ≡ dues T h
+      unfolding numbers dues theres
+      numbers-due (fresh f) = refl
+      numbers-due (next (arrival m) r p q) = numbers-due r
+      numbers-due (next (start t) r p q) = numbers-due r
+      numbers-due (next (read l) r p q) = rw (zero-time r p .0, numbers-due r)
+      numbers-due (next (finish t v) r p q) = numbers-due r
+
+      -- so they are the ideal ones
       pub numbers-ideal : {s : Boxes Val} {h : List (Event Val)} (r : Run T may choice s h) → numbers T r ≡ ideals T h
-      unfolding numbers ideals
-      numbers-ideal (fresh f) = refl
-      numbers-ideal (next (arrival m) r p q) = numbers-ideal r
-      numbers-ideal (next (start t) r p q) = numbers-ideal r
-      numbers-ideal (next (read l) r p q) = rw (zero-time r p .0, numbers-ideal r)
-      numbers-ideal (next (finish t v) r p q) = numbers-ideal r
+      numbers-ideal r = sym (values-theres (numbers T r)) ∙ ap values (numbers-due r)
+
+-- one more that is there
+there-more : {Val : Type 0} (g : Given Val) (gs : List (Given Val)) → g ≢ missing → theres (values gs) ≡ gs → theres (values (g ∷ gs)) ≡ g ∷ gs
+unfolding values theres
+there-more (there v) gs n i = ap (λ us. there v ∷ us) i
+there-more missing gs n i = absurd (n refl)
+
+-- as many as the values
+length-theres : {Val : Type 0} (vs : List Val) → length (theres vs) ≡ length vs
+unfolding theres
+length-theres [] = refl
+length-theres (v ∷ vs) = ap suc (length-theres vs)
+
+-- one is due at each read
+length-dues : {Val : Type 0} (T : Table Val) (h : List (Event Val)) → length (dues T h) ≡ reads h
+unfolding dues reads
+length-dues T [] = refl
+length-dues T (arrival m ∷ h) = length-dues T h
+length-dues T (start t ∷ h) = length-dues T h
+length-dues T (read l ∷ h) = ap suc (length-dues T h)
+length-dues T (finish t v ∷ h) = length-dues T h
+
+-- what is due by link l is there once the run wanted has finished
+due-there : {Val : Type 0} (T : Table Val) (h : List (Event Val)) (l : ℕ) → wanted T h l ≤ finishes h (T .writer l) → due T h l ≢ missing
+due-there T h l q = go (early (T .delayed l) (had T h l)) refl
+  where
+    go : (b : Bool) → early (T .delayed l) (had T h l) ≡ b → cond b (there (startOf T l)) (output h (T .writer l) (wanted T h l)) ≢ missing
+    go true e = there-there (startOf T l)
+    go false e = output-there h (T .writer l) (wanted T h l) (omega (arith, eqb-false (wanted T h l) 0 e)) q
+
+module _ {Val : Type 0} (T : Table Val) (may : Policy Val) (L : Lawful T) (F : Fair T may) where
+  -- nothing due is missing: what is due is numbers
+  pub ideals-there : (h : List (Event Val)) → AllPossible T may h → theres (ideals T h) ≡ dues T h
+  unfolding dues AllPossible Possible values theres
+  ideals-there [] P = refl
+  ideals-there (arrival m ∷ h) P = ideals-there h (P .1)
+  ideals-there (start t ∷ h) P = ideals-there h (P .1)
+  ideals-there (read l ∷ h) P = there-more (due T h l) (dues T h) (due-there T h l (finished-then T may L F h l (P .1) (P .0 .0) (P .0 .2))) (ideals-there h (P .1))
+  ideals-there (finish t v ∷ h) P = ideals-there h (P .1)
+
+  -- one for each read
+  pub ideals-count : (h : List (Event Val)) → AllPossible T may h → length (ideals T h) ≡ reads h
+  ideals-count h P = sym (length-theres (ideals T h)) ∙ ap length (ideals-there h P) ∙ length-dues T h

@@ -1,38 +1,30 @@
 -- The closed form and the run: each number of the closed form is what the same run of the reader reads by the same link where tasks take no time,
--- and no run there asks for an output that is not there yet.
+-- and where every run's output is known, no run there asks for one that is not there yet.
 -- Assumes nothing.
 use mathlib.Core.Path.{_≡_, refl, ap, sym, _∙_}
+use mathlib.Core.Logic.{_≢_}
 use mathlib.Core.Bool.{Bool, true, false, cond}
 use mathlib.Core.List.{List, [], _∷_}
-use Prim.Native.Nat.{ℕ, zero, suc, _≤_, _<_}
+use Prim.Native.Nat.{ℕ, suc, _≤_, _<_}
 use native.Mathlib.Omega.{arith}
 use borrow.Author.Tests.{ltb-true, ne-eqb}
 use lib.Dec.{eqb}
+use Rattle.protocol.specs.Given.{Given, missing, values}
 use Rattle.protocol.specs.Event.{Event, arrival, start, read, finish, has}
 use Rattle.protocol.specs.Table.{Table, Lawful}
 use Rattle.protocol.specs.History.{tick, Goes, same, more, arrivals, starts, finishes, upTo, output}
 use Rattle.protocol.specs.Schedule.{Policy, Fair, Possible, AllPossible}
-use Rattle.protocol.specs.ZeroTime.{wanted, ideal, ideals}
-use Rattle.protocol.specs.Instant.{Given, there, missing, Order, sets, zeroRun, find, looked, AllThere, theres}
+use Rattle.protocol.specs.ZeroTime.{had, wanted, due, dues, ideals}
+use Rattle.protocol.specs.Instant.{Order, sets, carried, zeroRun, find, looked, AllThere, theres}
 use Rattle.protocol.proofs.Counts.{arrivals-out, upTo-in, upTo-out}
 use Rattle.protocol.proofs.Schedule.{has-below, counted}
-use Rattle.protocol.proofs.Theorem.{finished-then}
-use Rattle.protocol.proofs.ClosedForm.{seen, Known, result, closed}
+use Rattle.protocol.proofs.Theorem.{values-theres, finished-then, ideals-there}
+use Rattle.protocol.proofs.ClosedForm.{seen, Known, gives, closed}
 use Rattle.protocol.proofs.Instant.{carried-closed, always-there, find-new, find-old}
 
 -- two lists of numbers are the same where what they give is the same
 pub theres-same : {Val : Type 0} (xs ys : List Val) → theres xs ≡ theres ys → xs ≡ ys
-unfolding theres
-theres-same {Val} xs ys e = sym (back xs) ∙ ap values e ∙ back ys
-  where
-    values : List (Given Val) → List Val
-    values [] = []
-    values (there v ∷ rest) = v ∷ values rest
-    values (missing ∷ rest) = values rest
-
-    back : (vs : List Val) → values (theres vs) ≡ vs
-    back [] = refl
-    back (v ∷ vs) = ap (λ us. v ∷ us) (back vs)
+theres-same xs ys e = sym (values-theres xs) ∙ ap values e ∙ values-theres ys
 
 -- both ways the same
 either-way : {A : Type 0} (b : Bool) (x : A) → cond b x x ≡ x
@@ -81,34 +73,22 @@ module _ {Val : Type 0} where
   never-falls f one (more {H = H} e g) = omega (arith, never-falls f one g, one e H)
 
   -- what was finished stays
-  output-one : (e : Event Val) (d : Val) (h : List (Event Val)) (w k : ℕ) → k ≤ finishes h w → output d (e ∷ h) w k ≡ output d h w k
+  output-one : (e : Event Val) (h : List (Event Val)) (w k : ℕ) → k ≤ finishes h w → output (e ∷ h) w k ≡ output h w k
   unfolding output
-  output-one (arrival m) d h w k q = refl
-  output-one (start u) d h w k q = refl
-  output-one (read l) d h w k q = refl
-  output-one (finish u v) d h w k q = rw (ne-eqb k (suc (finishes h w)) (λ e. omega arith)) (either-way (eqb u w) (output d h w k))
+  output-one (arrival m) h w k q = refl
+  output-one (start u) h w k q = refl
+  output-one (read l) h w k q = refl
+  output-one (finish u v) h w k q = rw (ne-eqb k (suc (finishes h w)) (λ e. omega arith)) (either-way (eqb u w) (output h w k))
 
   -- over many events
-  output-more : {h H : List (Event Val)} (d : Val) (w k : ℕ) → k ≤ finishes h w → Goes h H → output d H w k ≡ output d h w k
-  output-more d w k q same = refl
-  output-more d w k q (more {H = H} e g) = output-one e d H w k (omega (arith, never-falls (λ h. finishes h w) (finishes-one w) g)) ∙ output-more d w k q g
-
-  -- number 0 is the default
-  output-zero : (d : Val) (h : List (Event Val)) (w : ℕ) → output d h w 0 ≡ d
-  unfolding output
-  output-zero d [] w = refl
-  output-zero d (e ∷ h) w = output-one e d h w 0 (omega arith) ∙ output-zero d h w
+  output-more : {h H : List (Event Val)} (w k : ℕ) → k ≤ finishes h w → Goes h H → output H w k ≡ output h w k
+  output-more w k q same = refl
+  output-more w k q (more {H = H} e g) = output-one e H w k (omega (arith, never-falls (λ h. finishes h w) (finishes-one w) g)) ∙ output-more w k q g
 
 module _ {Val : Type 0} (T : Table Val) where
-  -- the outputs of a history
-  abbrev outputs : List (Event Val) → ℕ → ℕ → Val
-  outputs H w k = output (T .default w) H w k
-
-  -- the closed form's outputs are the history's
-  result-output : (H : List (Event Val)) (w k : ℕ) → result T (outputs H) w k ≡ output (T .default w) H w k
-  unfolding result
-  result-output H w zero = sym (output-zero (T .default w) H w)
-  result-output H w (suc k) = refl
+  -- what the closed form gives, with the outputs of all that happened by any later time, is what was due
+  gives-due : {h H : List (Event Val)} (l : ℕ) → wanted T h l ≤ finishes h (T .writer l) → Goes h H → gives T (output H) l (had T h l) ≡ due T h l
+  gives-due {h} l q g = rw (output-more (T .writer l) (wanted T h l) q g)
 
   -- a possible history's sets hold tasks of the table only
   sets-known : (may : Policy Val) (h : List (Event Val)) → AllPossible T may h → Known (T .tasks) (sets h)
@@ -119,7 +99,7 @@ module _ {Val : Type 0} (T : Table Val) where
   sets-known may (read l ∷ h) P = sets-known may h (P .1)
   sets-known may (finish u v ∷ h) P = sets-known may h (P .1)
 
-  module _ (out : ℕ → ℕ → Val) (order : List ℕ) where
+  module _ (out : ℕ → ℕ → Given Val) (order : List ℕ) where
     -- later events leave what was read
     find-one : (e : Event Val) (h : List (Event Val)) (l j : ℕ) → j ≤ arrivals h (T .reader l)
         → find l j (closed T out order (sets (e ∷ h))) ≡ find l j (closed T out order (sets h))
@@ -137,9 +117,9 @@ module _ {Val : Type 0} (T : Table Val) where
 
     -- what the reader's last run reads by link l, for any outputs
     abbrev Last : List (Event Val) → ℕ → Type 0
-    Last h l = find l (arrivals h (T .reader l)) (closed T out order (sets h)) ≡ there (result T out (T .writer l) (wanted T h l))
+    Last h l = find l (arrivals h (T .reader l)) (closed T out order (sets h)) ≡ gives T out l (had T h l)
 
-    -- it is the output wanted
+    -- it is what link l gives after the writer's arrivals until then
     last-read : Order T order → (h : List (Event Val)) (l : ℕ) → Known (T .tasks) (sets h) → l < T .links → 0 < arrivals h (T .reader l) → Last h l
     unfolding sets arrivals upTo Known
     last-read O [] l K q a = absurd (omega arith)
@@ -157,31 +137,34 @@ module _ {Val : Type 0} (T : Table Val) where
     last-read O (finish u v ∷ h) l K q a = last-read O h l K q a
 
 module _ {Val : Type 0} (T : Table Val) (may : Policy Val) (L : Lawful T) (F : Fair T may) (order : List ℕ) (O : Order T order) where
-  -- a read reads `ideal`, in the run of all that happened by any later time
-  read-ideal : {H : List (Event Val)} (h : List (Event Val)) (l : ℕ) → AllPossible T may (read l ∷ h) → Goes h H → AllPossible T may H
-      → find l (arrivals h (T .reader l)) (zeroRun T order H) ≡ there (ideal T h l)
+  -- the reads of a history's run are the closed form's, with the outputs of the history: those of unfinished runs are missing
+  run-closed : (h : List (Event Val)) → AllPossible T may h → zeroRun T order h ≡ closed T (output h) order (sets h)
+  run-closed h P = carried-closed T (output h) L order O (sets h) (sets-known T may h P) .log
+
+  -- a read reads what is due, in the run of all that happened by any later time
+  read-due : {H : List (Event Val)} (h : List (Event Val)) (l : ℕ) → AllPossible T may (read l ∷ h) → Goes h H → AllPossible T may H
+      → find l (arrivals h (T .reader l)) (zeroRun T order H) ≡ due T h l
   unfolding AllPossible Possible
-  read-ideal {H} h l P g Q =
+  read-due {H} h l P g Q =
       let (q, runs, turn) = P .0 in
       let arrived : 0 < arrivals h (T .reader l) = omega (arith, ltb-true (finishes h (T .reader l)) (starts h (T .reader l)) runs, counted T may h (P .1) (T .reader l)) in
-      rw (carried-closed T (outputs T H) L order O (sets H) (sets-known T may H Q) .log)
-      (find-more T (outputs T H) order l g ∙ last-read T (outputs T H) order O h l (sets-known T may h (P .1)) q arrived
-      ∙ ap there (result-output T H (T .writer l) (wanted T h l)
-      ∙ output-more (T .default (T .writer l)) (T .writer l) (wanted T h l) (finished-then T may L F h l (P .1) q turn) g))
+      ap (find l (arrivals h (T .reader l))) (run-closed H Q) ∙ find-more T (output H) order l g
+      ∙ last-read T (output H) order O h l (sets-known T may h (P .1)) q arrived
+      ∙ gives-due T l (finished-then T may L F h l (P .1) q turn) g
 
   -- the reads of a part of the history, in the run of all of it
-  ideals-part : {H : List (Event Val)} (h : List (Event Val)) → AllPossible T may h → Goes h H → AllPossible T may H → theres (ideals T h) ≡ looked T (zeroRun T order H) h
-  unfolding ideals theres looked AllPossible
-  ideals-part [] P g Q = refl
-  ideals-part (arrival m ∷ h) P g Q = ideals-part h (P .1) (onward (arrival m) g) Q
-  ideals-part (start t ∷ h) P g Q = ideals-part h (P .1) (onward (start t) g) Q
-  ideals-part (read l ∷ h) P g Q = cc (read-ideal h l P (onward (read l) g) Q, ideals-part h (P .1) (onward (read l) g) Q)
-  ideals-part (finish t v ∷ h) P g Q = ideals-part h (P .1) (onward (finish t v) g) Q
+  dues-part : {H : List (Event Val)} (h : List (Event Val)) → AllPossible T may h → Goes h H → AllPossible T may H → dues T h ≡ looked T (zeroRun T order H) h
+  unfolding dues looked AllPossible
+  dues-part [] P g Q = refl
+  dues-part (arrival m ∷ h) P g Q = dues-part h (P .1) (onward (arrival m) g) Q
+  dues-part (start t ∷ h) P g Q = dues-part h (P .1) (onward (start t) g) Q
+  dues-part (read l ∷ h) P g Q = cc (read-due h l P (onward (read l) g) Q, dues-part h (P .1) (onward (read l) g) Q)
+  dues-part (finish t v ∷ h) P g Q = dues-part h (P .1) (onward (finish t v) g) Q
 
-  -- the closed form gives what is read in the run where tasks take no time
+  -- the closed form gives what is read in the run where tasks take no time: numbers, and none is missing
   pub ideals-read : (h : List (Event Val)) → AllPossible T may h → theres (ideals T h) ≡ looked T (zeroRun T order h) h
-  ideals-read h P = ideals-part h P same P
+  ideals-read h P = ideals-there T may L F h P ∙ dues-part h P same P
 
-  -- and no run there asks for an output that is not there yet
-  pub never-missing : (h : List (Event Val)) → AllPossible T may h → AllThere (zeroRun T order h)
-  never-missing h P = always-there T (outputs T h) L order O (sets h) (sets-known T may h P)
+  -- and whatever the runs give, if only each gives something, no run there asks for an output that is not there yet
+  pub never-missing : (out : ℕ → ℕ → Given Val) → ((w k : ℕ) → out w k ≢ missing) → (h : List (Event Val)) → AllPossible T may h → AllThere (carried T out order (sets h) .log)
+  never-missing out known h P = always-there T out known L order O (sets h) (sets-known T may h P)

@@ -6,6 +6,7 @@ use Prim.Native.Nat.{ℕ, suc}
 use lib.Dec.{eqb, ltb}
 use Rattle.lists.specs.Lists.{sum}
 use Rattle.protocol.specs.Event.{Event, arrival, start, read, finish, has}
+use Rattle.protocol.specs.Given.{Given, there, missing}
 use Rattle.protocol.specs.Table.{Table}
 
 -- one more if the test passes
@@ -89,13 +90,13 @@ module _ {Val : Type 0} where
   abbrev pub stamp : List (Event Val) → ℕ → ℕ
   stamp h t = clock (upTo h t)
 
-  -- the value of task w's finish number k; the default d for number 0, and for a run not yet finished, which is shown never to be read (`Settled`)
-  unfoldable pub output : Val → List (Event Val) → ℕ → ℕ → Val
-  output d [] w k = d
-  output d (arrival m ∷ h) w k = output d h w k
-  output d (start u ∷ h) w k = output d h w k
-  output d (read l ∷ h) w k = output d h w k
-  output d (finish u v ∷ h) w k = cond (eqb u w) (cond (eqb k (suc (finishes h w))) v (output d h w k)) (output d h w k)
+  -- the value of task w's finish number k, counted from 1; missing while it has not finished so often
+  unfoldable pub output : List (Event Val) → ℕ → ℕ → Given Val
+  output [] w k = missing
+  output (arrival m ∷ h) w k = output h w k
+  output (start u ∷ h) w k = output h w k
+  output (read l ∷ h) w k = output h w k
+  output (finish u v ∷ h) w k = cond (eqb u w) (cond (eqb k (suc (finishes h w))) (there v) (output h w k)) (output h w k)
 
   -- those of a history
   abbrev pub counts : Table Val → List (Event Val) → Counts

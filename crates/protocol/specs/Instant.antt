@@ -6,14 +6,10 @@ use mathlib.Core.List.{List, [], _∷_}
 use Prim.Native.Nat.{ℕ, zero, suc, _<_}
 use lib.Dec.{eqb}
 use Rattle.protocol.specs.Event.{Event, arrival, start, read, finish, has}
-use Rattle.protocol.specs.Table.{Table}
+use Rattle.protocol.specs.Given.{Given, there, missing}
+use Rattle.protocol.specs.Table.{Table, startOf}
 use Rattle.protocol.specs.History.{tick, arrivals, output}
-use Rattle.protocol.specs.ZeroTime.{runOf}
-
--- what a run is given when it asks for an output: the output, or nothing, if it is not produced yet
-pub data Given (Val : Type 0) : Type 0 where
-  there : Val → Given Val
-  missing : Given Val
+use Rattle.protocol.specs.ZeroTime.{runOf, early}
 
 -- one read: by link `link`, in run number `job` of its reader
 pub record Entry (Val : Type 0) : Type 0 where
@@ -33,9 +29,10 @@ unfoldable pub come : {Val : Type 0} → ℕ → Moment Val → Moment Val
 come m s = record { arrived = λ t. tick (has m t) (s .arrived t); runs = s .runs; made = s .made; log = s .log }
 
 module _ {Val : Type 0} (T : Table Val) where
-  -- what link l gives: of the outputs produced so far, that of its writer's last run, or of the one before it
+  -- what link l gives: `startOf` while its writer has no run for it; then, of the outputs produced so far, that of its writer's last run, or of the one before it
   unfoldable pub ask : Moment Val → ℕ → Given Val
-  ask s l = s .made (T .writer l) (runOf (T .delayed l) (s .arrived (T .writer l)))
+  ask s l =
+      cond (early (T .delayed l) (s .arrived (T .writer l))) (there (startOf T l)) (s .made (T .writer l) (runOf (T .delayed l) (s .arrived (T .writer l))))
 
   -- task t reads those of the first n links that are its own
   unfoldable pub readLinks : Moment Val → ℕ → ℕ → List (Entry Val)
@@ -43,14 +40,14 @@ module _ {Val : Type 0} (T : Table Val) where
   readLinks s t (suc l) =
       cond (eqb (T .reader l) t) (record { job = suc (s .runs t); link = l; given = ask s l } ∷ readLinks s t l) (readLinks s t l)
 
--- `out w k`: what run number k of task w gives
-module _ {Val : Type 0} (T : Table Val) (out : ℕ → ℕ → Val) where
-  -- task t runs whole: it reads its links, then its output is there
+-- `out w k`: what run number k of task w gives; missing, if that is not known
+module _ {Val : Type 0} (T : Table Val) (out : ℕ → ℕ → Given Val) where
+  -- task t runs whole: it reads its links, then its output is there, if it is known
   unfoldable pub runWhole : ℕ → Moment Val → Moment Val
   runWhole t s = record {
     arrived = s .arrived;
     runs = λ u. tick (eqb t u) (s .runs u);
-    made = λ u k. cond (eqb t u && eqb k (suc (s .runs u))) (there (out u k)) (s .made u k);
+    made = λ u k. cond (eqb t u && eqb k (suc (s .runs u))) (out u k) (s .made u k);
     log = readLinks T s t (T .links);
   }
 
@@ -59,9 +56,9 @@ module _ {Val : Type 0} (T : Table Val) (out : ℕ → ℕ → Val) where
   work m [] s = s
   work m (t ∷ ts) s = work m ts (cond (has m t) (runWhole t s) s)
 
-  -- the arrival sets, the last one first; `order`: the tasks, most urgent first. At the beginning there are the defaults only
+  -- the arrival sets, the last one first; `order`: the tasks, most urgent first. At the beginning there is no output
   unfoldable pub carried : List ℕ → List ℕ → Moment Val
-  carried order [] = record { arrived = λ t. 0; runs = λ t. 0; made = λ w k. cond (eqb k 0) (there (T .default w)) missing; log = [] }
+  carried order [] = record { arrived = λ t. 0; runs = λ t. 0; made = λ w k. missing; log = [] }
   carried order (m ∷ ms) = work m order (come m (carried order ms))
 
 -- p stands in the list
@@ -92,9 +89,9 @@ sets (start u ∷ h) = sets h
 sets (read l ∷ h) = sets h
 sets (finish u v ∷ h) = sets h
 
--- all reads of the run where tasks take no time, with the arrivals and the outputs of a history
+-- all reads of the run where tasks take no time, with the arrivals and the outputs of a history: what a run gives that the history leaves unfinished is missing
 abbrev pub zeroRun : {Val : Type 0} → Table Val → List ℕ → List (Event Val) → List (Entry Val)
-zeroRun T order h = carried T (λ w k. output (T .default w) h w k) order (sets h) .log
+zeroRun T order h = carried T (output h) order (sets h) .log
 
 -- what run number j of link l's reader read by l
 unfoldable pub find : {Val : Type 0} → ℕ → ℕ → List (Entry Val) → Given Val

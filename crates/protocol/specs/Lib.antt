@@ -1,4 +1,5 @@
 -- The mathematics of the mailboxes: what a reader must believe.
+pub mod Given
 pub mod Table
 pub mod Event
 pub mod History

@@ -26,6 +26,10 @@ abbrev pub behinds : (ℕ → ℕ → Bool) → (ℕ → ℕ) → (ℕ → ℕ) 
 behinds ahead W R t n = count (toBehind ahead W R t) n
 
 module _ {Val : Type 0} (T : Table Val) where
+  -- what link l gives while its writer has no run for it: its writer's default
+  abbrev pub startOf : ℕ → Val
+  startOf l = T .default (T .writer l)
+
   -- link l goes to a reader behind its writer
   abbrev pub behind : ℕ → Bool
   behind l = T .ahead (T .writer l) (T .reader l)

@@ -3,30 +3,44 @@
 use mathlib.Core.Bool.{Bool, cond}
 use mathlib.Core.List.{List, [], _∷_}
 use Prim.Native.Nat.{ℕ, pred, _≤_}
+use lib.Dec.{eqb}
 use Rattle.protocol.specs.Event.{Event, arrival, start, read, finish}
-use Rattle.protocol.specs.Table.{Table}
+use Rattle.protocol.specs.Given.{Given, there, values}
+use Rattle.protocol.specs.Table.{Table, startOf}
 use Rattle.protocol.specs.History.{arrivals, finishes, upTo, output}
 
--- of a writer's n arrivals, a direct link gives the last run, a delayed link the one before it; run 0 stands for the default
+-- of a writer's n arrivals, a direct link gives the last run, a delayed link the one before it; runs are numbered from 1
 abbrev pub runOf : Bool → ℕ → ℕ
 runOf delayed n = cond delayed (pred n) n
 
+-- of n arrivals of its writer none has a run for the link: a direct link needs one, a delayed one two
+abbrev pub early : Bool → ℕ → Bool
+early delayed n = eqb (runOf delayed n) 0
+
 module _ {Val : Type 0} (T : Table Val) where
-  -- the writer's run that the last arrival of link l's reader settled on
+  -- how often link l's writer had arrived up to and including the last arrival of its reader
+  abbrev pub had : List (Event Val) → ℕ → ℕ
+  had h l = arrivals (upTo h (T .reader l)) (T .writer l)
+
+  -- the writer's run that this arrival settled on, unless it was early
   abbrev pub wanted : List (Event Val) → ℕ → ℕ
-  wanted h l = runOf (T .delayed l) (arrivals (upTo h (T .reader l)) (T .writer l))
+  wanted h l = runOf (T .delayed l) (had h l)
 
-  -- its output: the number that link l reads where tasks take no time
-  abbrev pub ideal : List (Event Val) → ℕ → Val
-  ideal h l = output (T .default (T .writer l)) h (T .writer l) (wanted h l)
+  -- what link l reads where tasks take no time: `startOf` where the arrival was early, else the output of the run wanted
+  abbrev pub due : List (Event Val) → ℕ → Given Val
+  due h l = cond (early (T .delayed l) (had h l)) (there (startOf T l)) (output h (T .writer l) (wanted h l))
 
-  -- all the numbers read, the last one first
-  unfoldable pub ideals : List (Event Val) → List Val
-  ideals [] = []
-  ideals (arrival m ∷ h) = ideals h
-  ideals (start u ∷ h) = ideals h
-  ideals (read l ∷ h) = ideal h l ∷ ideals h
-  ideals (finish u v ∷ h) = ideals h
+  -- at each read, the last one first
+  unfoldable pub dues : List (Event Val) → List (Given Val)
+  dues [] = []
+  dues (arrival m ∷ h) = dues h
+  dues (start u ∷ h) = dues h
+  dues (read l ∷ h) = due h l ∷ dues h
+  dues (finish u v ∷ h) = dues h
+
+  -- as numbers; it is shown that none is missing (`ideals-there`)
+  abbrev pub ideals : List (Event Val) → List Val
+  ideals h = values (dues h)
 
   -- at each read the run wanted had finished: the output of an unfinished run is never read
   unfoldable pub Settled : List (Event Val) → Type 0

@@ -5,9 +5,10 @@ use mathlib.Core.List.{List, [], _∷_}
 use Prim.Native.Nat.{ℕ}
 use lib.Dec.{ltb}
 use Rattle.lists.specs.Lists.{upto, every, some, count, first, leading, sum}
+use Rattle.protocol.specs.Given.{values}
 use Rattle.protocol.specs.Event.{Event, arrival, start, read, finish, has}
 use Rattle.protocol.specs.History.{arrivals, starts, finishes, reads, upTo, output, counts}
-use Rattle.protocol.specs.ZeroTime.{ideals}
+use Rattle.protocol.specs.ZeroTime.{dues, ideals}
 use Rattle.protocol.specs.Instant.{ask, readLinks, runWhole, work, come, carried, upward, sets, zeroRun, find, looked, theres}
 use Rattle.protocol_state.specs.Saved.{Saved, base, at, table}
 use Rattle.protocol_state.specs.Rules.{fault, judgedTable}
@@ -61,5 +62,5 @@ pub long-example :
     × (ideals (table ltb station) (all .history) ≡ eight)
     × (looked (table ltb station) (zeroRun (table ltb station) (upward 0 4) (all .history)) (all .history) ≡ theres eight)
     × (counts (table ltb station) (all .history) ≡ record { arrivals = 11; starts = 11; reads = 8; finishes = 11 })
-unfolding upto every some count first leading sum has fault judgedTable decided judgedArrival judgedTask judgedRead newestAfter previousAfter pointerAfter phaseAfter soundParts freshOf settled afterEvent replay arrivals starts reads finishes upTo output ideals ask readLinks runWhole work come carried upward sets find looked theres
+unfolding upto every some count first leading sum has fault judgedTable decided judgedArrival judgedTask judgedRead newestAfter previousAfter pointerAfter phaseAfter soundParts freshOf settled afterEvent replay arrivals starts reads finishes upTo output dues values ask readLinks runWhole work come carried upward sets find looked theres
 long-example = (refl, refl, refl, refl, refl, refl, refl, refl)

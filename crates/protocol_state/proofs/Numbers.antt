@@ -4,12 +4,14 @@ use mathlib.Core.Path.{_≡_, ap, subst, _∙_}
 use mathlib.Core.Bool.{Bool}
 use mathlib.Core.List.{List}
 use Prim.Native.Nat.{ℕ}
+use lib.ListN.{length}
 use Rattle.protocol.specs.Table.{Table, Lawful}
+use Rattle.protocol.specs.History.{reads}
 use Rattle.protocol.specs.Schedule.{urgent}
 use Rattle.protocol.specs.ZeroTime.{ideals, Settled}
 use Rattle.protocol.specs.Instant.{Order, zeroRun, looked, theres}
 use Rattle.protocol.proofs.Schedule.{urgent-fair}
-use Rattle.protocol.proofs.Theorem.{lowest-only, numbers-ideal, settled}
+use Rattle.protocol.proofs.Theorem.{lowest-only, numbers-ideal, settled, ideals-count}
 use Rattle.protocol.proofs.ZeroRun.{ideals-read}
 use Rattle.protocol_state.specs.Saved.{Size, Saved, table}
 use Rattle.protocol_state.specs.Rules.{Ranks}
@@ -26,6 +28,12 @@ module _ {ahead : ℕ → ℕ → Bool} (ranks : Ranks ahead) {size : Size} {q�
   -- the numbers read are the closed form's
   pub reached-ideals : o .numbers ≡ ideals (table ahead q₀) (o .history)
   reached-ideals = r .read ∙ numbers-ideal (table ahead q₀) (urgent (table ahead q₀)) table-lawful (urgent-fair (table ahead q₀)) (lowest-only (table ahead q₀)) (r .run)
+
+  -- one for each read
+  pub reached-count : length (o .numbers) ≡ reads (o .history)
+  reached-count =
+      ap length reached-ideals
+      ∙ ideals-count (table ahead q₀) (urgent (table ahead q₀)) table-lawful (urgent-fair (table ahead q₀)) (o .history) (reached-possible r)
 
   -- the output of an unfinished run is never read
   pub reached-settled : Settled (table ahead q₀) (o .history)

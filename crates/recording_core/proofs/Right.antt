@@ -3,17 +3,18 @@
 use mathlib.Core.Path.{_≡_, refl, ap, sym, subst, _∙_}
 use mathlib.Core.Bool.{Bool, true, false, cond}
 use mathlib.Core.List.{List, [], _∷_}
-use Prim.Native.Nat.{ℕ, suc, _≤_}
+use Prim.Native.Nat.{ℕ, _≤_}
 use native.Mathlib.Omega.{arith}
 use borrow.Author.Tests.{eqb-true, eqb-false, eq-eqb, leb-false, lt-leb}
 use lib.Dec.{eqb, leb}
 use lib.ListN.{length, length-set}
 use Rattle.lists.proofs.Bools.{cond-zero}
+use Rattle.protocol.specs.Given.{values}
 use Rattle.protocol.specs.Event.{Event, arrival, start, read, finish}
 use Rattle.protocol.specs.Table.{Table}
 use Rattle.protocol.specs.History.{Counts, reads}
 use Rattle.protocol.specs.Schedule.{Policy, urgent, Possible, AllPossible, judged}
-use Rattle.protocol.specs.ZeroTime.{ideals}
+use Rattle.protocol.specs.ZeroTime.{dues, ideals}
 use Rattle.protocol.proofs.Schedule.{judged-possible, possible-judged}
 use Rattle.protocol_state.specs.Saved.{Size, Saved, at, table}
 use Rattle.protocol_state.specs.Rules.{Ranks, judgedTable}
@@ -24,21 +25,12 @@ use Rattle.protocol_state.specs.Give.{Progress, note}
 use Rattle.protocol_state.specs.Reached.{Reached}
 use Rattle.protocol_state.proofs.Give.{give-done}
 use Rattle.protocol_state.proofs.History.{reached-sound, judged-history, after-done, reached-after, reached-fresh}
-use Rattle.protocol_state.proofs.Numbers.{reached-ideals}
+use Rattle.protocol_state.proofs.Numbers.{reached-ideals, reached-count}
 use Rattle.byte_format.specs.Play.{Allowed, finally}
 use Rattle.recording_core.specs.Playing.{Playing, noCounts, full, noRoom, listedBy, judgedIn, steppedIn}
 use Rattle.recording_core.specs.Promise.{past, placed, refusedBy}
 use Rattle.recording_core.specs.Right.{Right}
 use Rattle.recording_core.proofs.Counting.{counts-none, counts-next}
-
--- as many ideal numbers as reads
-length-ideals : (T : Table ℕ) (h : List (Event ℕ)) → length (ideals T h) ≡ reads h
-unfolding ideals reads
-length-ideals T [] = refl
-length-ideals T (arrival m ∷ h) = length-ideals T h
-length-ideals T (start u ∷ h) = length-ideals T h
-length-ideals T (read l ∷ h) = ap suc (length-ideals T h)
-length-ideals T (finish u v ∷ h) = length-ideals T h
 
 -- the lent list keeps its length
 pub length-placed : (vs out : List ℕ) → length (placed vs out) ≡ length out
@@ -60,13 +52,6 @@ past-possible : (T : Table ℕ) (may : Policy ℕ) (h es : List (Event ℕ)) →
 unfolding AllPossible past
 past-possible T may h [] p = p
 past-possible T may h (e ∷ es) p = past-possible T may (e ∷ h) es p .1
-
-first-same : {x y : ℕ} {xs ys : List ℕ} → x ∷ xs ≡ y ∷ ys → x ≡ y
-first-same {x} e = ap front e
-  where
-    front : List ℕ → ℕ
-    front [] = x
-    front (v ∷ vs) = v
 
 -- a refusal of the core, or else one for want of room
 pub both-zero : (j r : ℕ) → cond (eqb j 0) r j ≡ 0 → (j ≡ 0) × (r ≡ 0)
@@ -135,10 +120,10 @@ module _ {ahead : ℕ → ℕ → Bool} {size : Size} {q₀ : Saved} {out : List
 
     listed-next : (e : Event ℕ) (v : ℕ) → note e v (ideals (table ahead q₀) h) ≡ ideals (table ahead q₀) (e ∷ h)
         → listedBy (q .list) (q .counts .reads) e v ≡ placed (ideals (table ahead q₀) (e ∷ h)) out
-    unfolding ideals placed
+    unfolding dues placed
     listed-next (arrival m) v i = R .list
     listed-next (start u) v i = R .list
-    listed-next (read l) v i = rw (R .list, reads-is, first-same i, length-ideals (table ahead q₀) h)
+    listed-next (read l) v i = rw (← i, R .list, reads-is, reached-count ranks (R .reached))
     listed-next (finish u x) v i = R .list
 
     right-next : Right ahead size q₀ out (e ∷ h) (steppedIn ahead q e)
@@ -174,5 +159,5 @@ module _ {ahead : ℕ → ℕ → Bool} (ranks : Ranks ahead) {size : Size} {q�
 -- the fresh state of a table that earns no refusal
 pub right-fresh : (ahead : ℕ → ℕ → Bool) (size : Size) (n L : ℕ) (D W R K out : List ℕ) → judgedTable ahead n (at W) (at R) (at K) size L ≡ 0
     → Right ahead size (freshOf size n L D W R K) out [] (record { state = freshOf size n L D W R K; counts = noCounts; list = out })
-unfolding ideals placed reads
+unfolding dues values placed reads
 right-fresh ahead size n L D W R K out ok = record { reached = reached-fresh ahead size n L D W R K ok; counts = sym (counts-none (table ahead (freshOf size n L D W R K))); list = refl; room = omega arith }
