@@ -5,7 +5,7 @@ use mathlib.Core.Logic.{_≢_}
 use mathlib.Core.Bool.{Bool, true, false, cond, _&&_, _||_}
 use Prim.Native.Nat.{ℕ, zero, suc, _+_, _≤_, _<_}
 use native.Mathlib.Omega.{arith}
-use borrow.Author.Tests.{lt-leb, leb-false, lt-ltb, le-ltb, ltb-false, eqb-true, eqb-false, eq-eqb, ne-eqb}
+use borrow.Author.Tests.{lt-leb, leb-false, lt-ltb, le-ltb, ltb-true, ltb-false, eqb-true, eqb-false, eq-eqb, ne-eqb}
 use lib.Dec.{eqb, ltb, leb}
 use Rattle.lists.specs.Lists.{some, count, leading}
 use Rattle.lists.proofs.Bools.{and-left, and-right, and-not, and-if, or-left, or-right, cond-zero}
@@ -18,7 +18,9 @@ use Rattle.protocol_state.proofs.Places.{some-same, count-same, leading
 -- the earlier task is ahead: fixed priorities are an order of tasks
 pub ltb-ranks : Ranks ltb
 ltb-ranks = record {
+  itself = λ t. le-ltb t t (omega arith);
   either = λ u t d e. lt-ltb t u (omega (arith, ltb-false u t e));
+  onward = λ u t s d e. lt-ltb u s (omega (arith, ltb-true u t d, ltb-true t s e));
 }
 
 -- a link's fault depends only on the links before it
