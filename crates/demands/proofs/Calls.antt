@@ -1,0 +1,103 @@
+-- Whatever calls come to is what a replay of the accepted events on the fresh saved state reaches.
+-- Assumes nothing.
+use mathlib.Core.Path.{_≡_, refl, sym, ap, subst, _∙_}
+use mathlib.Core.Logic.{_≢_}
+use mathlib.Core.Bool.{true}
+use mathlib.Core.List.{List, [], _∷_, _++_, append-nil}
+use Prim.Native.Nat.{ℕ}
+use borrow.Author.Tests.{eq-eqb}
+use lib.Dec.{eqb, ltb}
+use Rattle.protocol.specs.Event.{Event, arrival, start, read, finish}
+use Rattle.protocol.specs.Table.{Table}
+use Rattle.protocol_state.specs.Saved.{Saved, base, at, table}
+use Rattle.protocol_state.specs.Rules.{judgedTable}
+use Rattle.protocol_state.specs.Fresh.{freshOf}
+use Rattle.protocol_state.specs.Give.{Progress, note, give, afterEvent}
+use Rattle.protocol_state.specs.Reached.{Reached}
+use Rattle.protocol_state.proofs.Rules as rules
+use Rattle.protocol_state.proofs.Freshes.{made-fresh}
+use Rattle.protocol_state.proofs.Give.{refused-same}
+use Rattle.protocol_state.proofs.History.{reached-after, reached-fresh}
+use Rattle.recording_core.specs.Promise.{past}
+use Rattle.mailbox.specs.States.{saved, stateOf}
+use Rattle.mailbox.specs.declared.State.{State}
+use Rattle.mailbox.specs.declared.Step.{Step}
+use Rattle.mailbox.specs.declared.Made.{Made}
+use Rattle.demands.specs.Station.{station, tasksOf, linksOf}
+use Rattle.demands.specs.Calls.{Makes, Gives, numbersOf, Calls, fresh, accepted, refused}
+use Rattle.demands.specs.Order.{turned}
+use Rattle.demands.proofs.Tables.{fresh-station}
+use Rattle.demands.proofs.Orders.{past-snoc}
+
+-- what stands after some calls
+abbrev pub stands : State → List (Event ℕ) → List ℕ → Progress
+stands q h os = record { state = saved q; history = h; numbers = os }
+
+-- the fresh state q₀ of the table, and the numbers read with the last one first, such that they reach it
+pub record Come (T : Table ℕ) (es : List (Event ℕ)) (ns : List ℕ) (q : State) : Type 0 where
+  pub begin : Saved
+  pub same : table ltb begin ≡ T
+  pub os : List ℕ
+  pub reached : Reached ltb base begin (stands q (past [] es) os)
+  pub turns : ns ≡ turned os
+
+-- an accepted call is one event more
+after-accepted : (q : State) (h : List (Event ℕ)) (os : List ℕ) (e : Event ℕ) (r : Step) → Gives q e r → r .answer .refusal ≡ 0
+    → afterEvent ltb base (stands q h os) e ≡ stands (r .state) (e ∷ h) (note e (r .answer .value) os)
+unfolding afterEvent
+after-accepted q h os e r call z =
+    let i : eqb (give ltb base (saved q) e .refusal) 0 ≡ true = eq-eqb _ 0 (ap (λ (x : Step). x .answer .refusal) (sym call) ∙ z) in
+    rw (call, i)
+
+-- a refused one hands the state back
+pub same-state : (q : State) (e : Event ℕ) (r : Step) → Gives q e r → r .answer .refusal ≢ 0 → r .state ≡ q
+same-state q e r call n =
+    ap (λ (x : Step). x .state) call
+    ∙ ap (λ (x : Saved). stateOf x) (refused-same ltb base (saved q) e (λ z. n (ap (λ (x : Step). x .answer .refusal) call ∙ z)) .0)
+
+-- the number of a read, in either order
+noted : (e : Event ℕ) (r : Step) (os : List ℕ) → turned os ++ numbersOf e r ≡ turned (note e (r .answer .value) os)
+unfolding turned
+noted (arrival m) r os = append-nil (turned os)
+noted (start t) r os = append-nil (turned os)
+noted (read l) r os = refl
+noted (finish t v) r os = append-nil (turned os)
+
+-- a table that was accepted keeps the rules, and its state is the fresh one
+pub made-is : (T L : ℕ) (D W R K : List ℕ) (m : Made) → Makes T L D W R K m → m .refusal ≡ 0
+    → (judgedTable ltb T (at W) (at R) (at K) base L ≡ 0) × (m .state ≡ stateOf (freshOf base T L D W R K))
+made-is T L D W R K m said ok =
+    let i = made-fresh ltb base T L D W R K (ap (λ (x : Made). x .refusal) (sym said) ∙ ok) in
+    (i .0, ap (λ (x : Made). x .state) said ∙ ap stateOf (i .1))
+
+come-fresh : (T L : ℕ) (D W R K : List ℕ) (m : Made) → Makes T L D W R K m → m .refusal ≡ 0 → Come (station (tasksOf T D) (linksOf L W R K)) [] [] (m .state)
+unfolding past turned
+come-fresh T L D W R K m said ok =
+    let i = made-is T L D W R K m said ok in
+    let few = rules.room ltb T (at W) (at R) (at K) base L (i .0) in
+    record {
+      begin = freshOf base T L D W R K;
+      same = fresh-station T L D W R K (few .0) (few .1);
+      os = [];
+      reached = subst (λ (q : State). Reached ltb base (freshOf base T L D W R K) (stands q [] [])) (sym (i .1)) (reached-fresh ltb base T L D W R K (i .0));
+      turns = refl;
+    }
+
+module _ {T : Table ℕ} {es : List (Event ℕ)} {ns : List ℕ} {q : State} (C : Come T es ns q) (e : Event ℕ) (r : Step) (call : Gives q e r) where
+  come-accepted : r .answer .refusal ≡ 0 → Come T (es ++ (e ∷ [])) (ns ++ numbersOf e r) (r .state)
+  come-accepted z = record {
+    begin = C .begin;
+    same = C .same;
+    os = note e (r .answer .value) (C .os);
+    reached = subst (λ (h : List (Event ℕ)). Reached ltb base (C .begin) (stands (r .state) h (note e (r .answer .value) (C .os)))) (sym (past-snoc [] es e))
+        (subst (λ (o : Progress). Reached ltb base (C .begin) o) (after-accepted q (past [] es) (C .os) e r call z) (reached-after (C .reached) e));
+    turns = ap (λ (xs : List ℕ). xs ++ numbersOf e r) (C .turns) ∙ noted e r (C .os);
+  }
+
+  come-refused : r .answer .refusal ≢ 0 → Come T es ns (r .state)
+  come-refused n = subst (λ (x : State). Come T es ns x) (sym (same-state q e r call n)) C
+
+pub comes : {T : Table ℕ} {es : List (Event ℕ)} {ns : List ℕ} {q : State} → Calls T es ns q → Come T es ns q
+comes (fresh T L D W R K m said ok) = come-fresh T L D W R K m said ok
+comes (accepted c e r call z) = come-accepted (comes c) e r call z
+comes (refused c e r call n) = come-refused (comes c) e r call n

@@ -1,0 +1,114 @@
+-- Demand 2's exactly-when of a recording, and an accepted recording as calls.
+-- Assumes nothing.
+use mathlib.Core.Path.{_≡_, sym, ap, subst, _∙_}
+use mathlib.Core.Logic.{_↔_}
+use mathlib.Core.List.{List, []}
+use Prim.Native.Nat.{ℕ, _+_, _<_, _≤_}
+use native.Mathlib.Omega.{arith}
+use lib.Dec.{ltb, lit<}
+use lib.ListN.{length, replicate, length-replicate}
+use Rattle.protocol.specs.Event.{Event}
+use Rattle.protocol.specs.Table.{Table}
+use Rattle.protocol.specs.History.{reads}
+use Rattle.protocol.specs.Schedule.{urgent, AllPossible}
+use Rattle.protocol_state.specs.Saved.{base, at}
+use Rattle.protocol_state.specs.Rules.{Obeys}
+use Rattle.protocol_state.proofs.Rules.{ltb-ranks}
+use Rattle.byte_format.specs.Play.{Verdict, verdict}
+use Rattle.recording_format.specs.Link.{Link, Links}
+use Rattle.recording_format.specs.Limits.{baseLimits}
+use Rattle.recording_format.specs.Recording.{stateAfter, Recorded}
+use Rattle.recording_format.proofs.LinkRules.{recorded-judged}
+use Rattle.recording_format.proofs.Recordings.{recorded-accepted}
+use Rattle.recording_format.proofs.Unique.{recorded-unique}
+use Rattle.recording_core.specs.Playing.{Playing, coreOf}
+use Rattle.recording_core.specs.Promise.{past}
+use Rattle.recording_core.specs.Promise as core
+use Rattle.recording_core.proofs.Promises.{genuine-recorded}
+use Rattle.mailbox.specs.States.{stateOf}
+use Rattle.mailbox.specs.declared.State.{State}
+use Rattle.recording.specs.Answers.{replied}
+use Rattle.recording.specs.declared.Answer.{Answer}
+use Rattle.recording_demands.specs.Ensured.{Replays}
+use Rattle.recording_demands.proofs.Demands.{accepted-only, accepted-all}
+use Rattle.demands.specs.Station.{station}
+use Rattle.demands.specs.Calls.{Calls}
+use Rattle.demands.specs.Recordings.{Genuine, Listed}
+use Rattle.demands.proofs.Tables.{listed-columns, recorded-station}
+use Rattle.demands.proofs.Orders.{past-reads, happen-possible, possible-happen}
+use Rattle.demands.proofs.Replays.{Went, went}
+
+-- ---- the exactly-when, in the words of this crate and of recording_core
+abbrev Ruled : List ℕ → List Link → Links → Type 0
+Ruled ds ls c = (l : ℕ) → l < length ls → Obeys ltb (length ds) (at (c .writer)) (at (c .reader)) (at (c .kind)) l
+
+module _ {s out ds : List ℕ} {ls : List Link} {es : List (Event ℕ)} where
+  pub genuine-core : Genuine s out ds ls es → core.Genuine ltb baseLimits s out ds ls es
+  unfolding reads AllPossible
+  genuine-core g = record {
+    bytes = g .bytes;
+    fits = g .fits;
+    few-tasks = g .keeps .tasks;
+    few-links = g .keeps .links;
+    few-events = g .few;
+    rules = subst (λ (c : Links). Ruled ds ls c) (sym (listed-columns ls)) (g .keeps .rules);
+    happens = subst (λ (t : Table ℕ). AllPossible t (urgent t) (past [] es)) (sym (recorded-station ds ls (g .keeps .tasks .1) (g .keeps .links)))
+        (happen-possible (station ds ls) [] es tt (g .happen));
+    room = omega (arith, past-reads [] es, g .room);
+  }
+
+  pub core-genuine : core.Genuine ltb baseLimits s out ds ls es → Genuine s out ds ls es
+  unfolding reads
+  core-genuine g = record {
+    keeps = record { tasks = g .few-tasks; links = g .few-links; rules = subst (λ (c : Links). Ruled ds ls c) (listed-columns ls) (g .rules) };
+    bytes = g .bytes;
+    fits = g .fits;
+    few = g .few-events;
+    room = omega (arith, past-reads [] es, g .room);
+    happen = possible-happen (station ds ls) [] es
+        (subst (λ (t : Table ℕ). AllPossible t (urgent t) (past [] es)) (recorded-station ds ls (g .few-tasks .1) (g .few-links)) (g .happens)) .0;
+  }
+
+  -- a genuine recording, as the reader judges it
+  pub genuine-kept : Genuine s out ds ls es → Recorded ltb baseLimits (coreOf ltb base out) s ds ls es
+  genuine-kept g = genuine-recorded ltb-ranks baseLimits out (lit< tt) (lit< tt) (lit< tt) (genuine-core g)
+
+-- another list with room for the numbers
+genuine-room : {s out out′ ds : List ℕ} {ls : List Link} {es : List (Event ℕ)} → Genuine s out ds ls es → reads es ≤ length out′ → Genuine s out′ ds ls es
+genuine-room g h = record { keeps = g .keeps; bytes = g .bytes; fits = g .fits; few = g .few; room = h; happen = g .happen }
+
+-- the bytes fix tasks, links and events
+pub one-reading : {s out out′ ds ds′ : List ℕ} {ls ls′ : List Link} {es es′ : List (Event ℕ)} → Genuine s out ds ls es → Genuine s out′ ds′ ls′ es′
+    → (ds ≡ ds′) × (ls ≡ ls′) × (es ≡ es′)
+one-reading {s} {out} {out′} {ds} {ds′} {ls} {ls′} {es} {es′} g g′ =
+    let n = reads es + reads es′ in
+    let long = length-replicate {A = ℕ} n 0 in
+    let k = genuine-kept (genuine-room {out′ = replicate {A = ℕ} n 0} g (omega arith)) in
+    let k′ = genuine-kept (genuine-room {out′ = replicate {A = ℕ} n 0} g′ (omega arith)) in
+    let u = recorded-unique ltb baseLimits (coreOf ltb base (replicate {A = ℕ} n 0)) s ds ds′ ls ls′ es es′ k k′ in
+    (u .0, u .1 .0, u .1 .1)
+
+module _ {s out list : List ℕ} {a : Answer} (said : Replays s out a list) where
+  pub exactly : (a .refusal ≡ 0) ↔ ((ds : List ℕ) × ((ls : List Link) × ((es : List (Event ℕ)) × Genuine s out ds ls es)))
+  exactly = (
+    λ z. let g = accepted-only said z in (g .0, (g .1 .0, (g .1 .1 .0, core-genuine (g .1 .1 .1)))),
+    λ g. accepted-all said (genuine-core (g .1 .1 .1)) .0,
+  )
+
+-- an answer with the state that some events came to
+module _ {out list : List ℕ} {a : Answer} {r p : ℕ} {ds : List ℕ} {ls : List Link} {es : List (Event ℕ)}
+    (e : replied a list ≡ verdict r p (stateAfter (coreOf ltb base out) ds ls es)) (w : Went out ds ls es (stateAfter (coreOf ltb base out) ds ls es)) where
+  pub calls-there : Calls (station ds ls) es (w .ns) (a .state)
+  calls-there = subst (λ (x : State). Calls (station ds ls) es (w .ns) x) (sym (ap (λ (x : Verdict Playing). stateOf (x .state .state)) e)) (w .calls)
+
+  pub listed-there : Listed (w .ns) out list
+  listed-there = subst (λ (x : List ℕ). Listed (w .ns) out x) (sym (ap (λ (x : Verdict Playing). x .state .list) e)) (w .listed)
+
+-- a recording that is accepted
+pub accepted-calls : {s out list ds : List ℕ} {a : Answer} {ls : List Link} {es : List (Event ℕ)} → Replays s out a list → Genuine s out ds ls es
+    → (ns : List ℕ) × Calls (station ds ls) es ns (a .state) × Listed ns out list × (a .place ≡ length s)
+accepted-calls {s} {out} {list} {ds} {a} {ls} {es} said g =
+    let k = genuine-kept g in
+    let e = said .answer ∙ recorded-accepted ltb baseLimits (coreOf ltb base out) s ds ls es k in
+    let w = went out ds ls es (recorded-judged ltb baseLimits (coreOf ltb base out) s ds ls es k) (k .played .allowed) in
+    (w .ns, calls-there e w, listed-there e w, ap (λ (x : Verdict Playing). x .place) e)

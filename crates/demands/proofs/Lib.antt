@@ -1,0 +1,19 @@
+-- The demands hold.
+pub mod Tables
+pub mod Orders
+pub mod Outputs
+pub mod Calls
+pub mod Readers
+pub mod Runs
+pub mod Course
+pub mod Earned
+pub mod Links
+pub mod Bits
+pub mod Events
+pub mod TableEarned
+pub mod Replays
+pub mod Genuine
+pub mod TableFaults
+pub mod Explained
+pub mod Found
+pub mod Only

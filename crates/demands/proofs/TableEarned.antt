@@ -1,0 +1,203 @@
+-- The refusal of a table that is handed over whole, in words and as the code computes it.
+-- Assumes nothing.
+use mathlib.Core.Path.{_≡_, refl, sym, ap, subst, _∙_}
+use mathlib.Core.Logic.{_≢_, _⊎_, inl, inr, _↔_}
+use mathlib.Core.Bool.{Bool, true, false, cond, _||_}
+use mathlib.Core.List.{List, [], _∷_, _++_, map}
+use Prim.Native.Nat.{ℕ, zero, suc, _≤_, _<_}
+use native.Mathlib.Omega.{arith}
+use native.Mathlib.Decide.{ℕ-discrete}
+use borrow.Author.Tests.{eqb-true, eqb-false, eq-eqb, ne-eqb, ltb-true, ltb-false, lt-ltb, le-ltb}
+use lib.Dec.{eqb, ltb}
+use lib.ListN.{length, length-map, length-append, take, drop, getD, take-append-drop, List·getD-map, List·getD-append}
+use lib.Seq.{length-take-le, drop-cons, take-at, getD-at}
+use Rattle.lists.specs.Lists.{leading}
+use Rattle.lists.proofs.Bools.{or-left, or-right}
+use Rattle.lists.proofs.Lists.{leading-zero}
+use Rattle.protocol_state.specs.Saved.{base, at}
+use Rattle.protocol_state.specs.Rules.{faultAfter, fault, Obeys, judgedTable}
+use Rattle.protocol_state.proofs.Rules.{fault-agrees, obeys, no-fault, no-refusal}
+use Rattle.protocol_state.proofs.Places.{leading-same, leading-none-other}
+use Rattle.recording_format.specs.Link.{Link}
+use Rattle.demands.specs.Station.{writers, readers, kinds, Keeps, tasksOf, linksOf}
+use Rattle.demands.specs.Refusals.{Earns, LinkBreaks, TableEarns}
+use Rattle.demands.specs.Refusals as refusals
+use Rattle.demands.proofs.Tables.{length-numbered, Firsts, column}
+use Rattle.demands.proofs.Earned.{earns-one}
+use Rattle.demands.proofs.Links.{either, or-first, or-second, fault-earned}
+
+-- ---- the first of some numbers that is not 0
+first-at : (f : ℕ → ℕ) (n : ℕ) → leading f n ≢ 0 → (j : ℕ) × (j < n) × ((i : ℕ) → i < j → f i ≡ 0) × (f j ≡ leading f n)
+unfolding leading
+first-at f zero ne = absurd (ne refl)
+first-at f (suc n) ne = go (ℕ-discrete (leading f n) 0) (first-at f n)
+  where
+    zeros : (m : ℕ) → leading f m ≡ 0 → (i : ℕ) → i < m → f i ≡ 0
+    zeros zero z i h = absurd (omega arith)
+    zeros (suc m) z i h = also (ℕ-discrete (leading f m) 0) (λ y. zeros m y i) z
+      where
+        also : Dec (leading f m ≡ 0) → (leading f m ≡ 0 → i < m → f i ≡ 0) → cond (eqb (leading f m) 0) (f m) (leading f m) ≡ 0 → f i ≡ 0
+        also (yes y) g e = here (ℕ-discrete i m)
+          where
+            here : Dec (i ≡ m) → f i ≡ 0
+            here (yes k) = ap f k ∙ (rw (eq-eqb _ 0 y) at e)
+            here (no k) = g y (omega (arith, k))
+        also (no y) g e = absurd (y (rw (ne-eqb _ 0 y) at e))
+
+    go : Dec (leading f n ≡ 0) → (leading f n ≢ 0 → (j : ℕ) × (j < n) × ((i : ℕ) → i < j → f i ≡ 0) × (f j ≡ leading f n))
+        → (j : ℕ) × (j < suc n) × ((i : ℕ) → i < j → f i ≡ 0) × (f j ≡ cond (eqb (leading f n) 0) (f n) (leading f n))
+    go (yes z) g = (n, omega arith, λ i h. zeros n z i h, rw (eq-eqb _ 0 z))
+    go (no z) g = let w = g z in (w .0, omega (arith, w .1), w .2, w .3 ∙ rw (ne-eqb _ 0 z))
+
+first-is : (f : ℕ → ℕ) (n j : ℕ) → j < n → ((i : ℕ) → i < j → f i ≡ 0) → f j ≢ 0 → leading f n ≡ f j
+unfolding leading
+first-is f zero j h z ne = absurd (omega arith)
+first-is f (suc n) j h z ne = go (ℕ-discrete j n) (λ k. first-is f n j k z ne)
+  where
+    go : Dec (j ≡ n) → (j < n → leading f n ≡ f j) → cond (eqb (leading f n) 0) (f n) (leading f n) ≡ f j
+    go (yes e) g = rw (eq-eqb _ 0 (leading-none-other f n (λ i k. z i (omega arith)))) (ap f (sym e))
+    go (no e) g = let i = g (omega (arith, e)) in rw (ne-eqb (leading f n) 0 (λ y. ne (sym i ∙ y))) i
+
+-- ---- a table of tasks ds and links ls
+
+-- a link's fault looks at the links up to it
+fault-alike : (T : ℕ) {W W′ R R′ : ℕ → ℕ} (K K′ : ℕ → ℕ) (i : ℕ) → ((j : ℕ) → j ≤ i → W j ≡ W′ j) → ((j : ℕ) → j ≤ i → R j ≡ R′ j) → K i ≡ K′ i
+    → fault ltb T W R K i ≡ fault ltb T W′ R′ K′ i
+unfolding fault
+fault-alike T {W} {W′} {R} {R′} K K′ i w r k =
+    fault-agrees ltb T i (W i) (R i) (K i) (λ j h. w j (omega arith)) (λ j h. r j (omega arith))
+    ∙ ap (λ (x : ℕ). faultAfter ltb T W′ R′ i x (R i) (K i)) (w i (omega arith))
+    ∙ ap (λ (x : ℕ). faultAfter ltb T W′ R′ i (W′ i) x (K i)) (r i (omega arith))
+    ∙ ap (λ (x : ℕ). faultAfter ltb T W′ R′ i (W′ i) (R′ i) x) k
+
+-- what stands past the links
+abbrev noLink : Link
+noLink = record { writer = 0; reader = 0; kind = 0 }
+
+module _ (ds : List ℕ) (ls : List Link) where
+  abbrev faults : ℕ → ℕ
+  faults = fault ltb (length ds) (at (writers ls)) (at (readers ls)) (at (kinds ls))
+
+  -- a column of the first links
+  column-take : (f : Link → ℕ) (j i : ℕ) → i < j → at (map f (take j ls)) i ≡ at (map f ls) i
+  column-take f j i h = goes ls j i h
+    where
+      goes : (xs : List Link) (j i : ℕ) → i < j → at (map f (take j xs)) i ≡ at (map f xs) i
+      goes [] zero i h = refl
+      goes [] (suc j) i h = refl
+      goes (x ∷ xs) zero i h = absurd (omega arith)
+      goes (x ∷ xs) (suc j) zero h = refl
+      goes (x ∷ xs) (suc j) (suc i) h = goes xs j i (omega arith)
+
+  -- link j
+  abbrev nth : ℕ → Link
+  nth j = getD ls j noLink
+
+  nth-column : (f : Link → ℕ) (j : ℕ) → f noLink ≡ 0 → at (map f ls) j ≡ f (nth j)
+  nth-column f j z = ap (λ (d : ℕ). getD (map f ls) j d) (sym z) ∙ List·getD-map f ls j noLink
+
+  -- what the code finds at fault in link j is what that link earns after the ones before it
+  fault-nth : (j : ℕ) → j < length ls → Earns (LinkBreaks ds (take j ls) (nth j)) (faults j)
+  unfolding fault
+  fault-nth j h = subst (λ (n : ℕ). Earns (LinkBreaks ds (take j ls) (nth j)) n) there (fault-earned ds (take j ls) (nth j))
+    where
+      there : faultAfter ltb (length ds) (at (writers (take j ls))) (at (readers (take j ls))) (length (take j ls)) (nth j .writer) (nth j .reader) (nth j .kind) ≡ faults j
+      there =
+          ap (λ (n : ℕ). faultAfter ltb (length ds) (at (writers (take j ls))) (at (readers (take j ls))) n (nth j .writer) (nth j .reader) (nth j .kind)) (length-take-le j ls (omega arith))
+          ∙ fault-agrees ltb (length ds) j (nth j .writer) (nth j .reader) (nth j .kind) (column-take (λ l. l .writer) j) (column-take (λ l. l .reader) j)
+          ∙ rw (← nth-column (λ l. l .writer) j refl, ← nth-column (λ l. l .reader) j refl, ← nth-column (λ l. l .kind) j refl)
+
+  -- a link that is not at fault obeys the rules, among the first links too
+  first-keeps : (j : ℕ) → j ≤ length ls → (1 ≤ length ds) × (length ds ≤ 16) → length ls ≤ 32 → ((i : ℕ) → i < j → faults i ≡ 0) → Keeps ds (take j ls)
+  first-keeps j h few least z = record {
+    tasks = few;
+    links = omega (arith, length-take-le j ls h);
+    rules = λ i k. obeys ltb (length ds) (at (writers (take j ls))) (at (readers (take j ls))) (at (kinds (take j ls))) i
+        (same i (omega (arith, length-take-le j ls h)) ∙ z i (omega (arith, length-take-le j ls h)));
+  }
+    where
+      same : (i : ℕ) → i < j → fault ltb (length ds) (at (writers (take j ls))) (at (readers (take j ls))) (at (kinds (take j ls))) i ≡ faults i
+      same i k = fault-alike (length ds) (at (kinds (take j ls))) (at (kinds ls)) i (λ m l. column-take (λ x. x .writer) j m (omega arith)) (λ m l. column-take (λ x. x .reader) j m (omega arith)) (column-take (λ x. x .kind) j i k)
+
+  -- what the code computes
+  abbrev judgedHere : ℕ
+  judgedHere = judgedTable ltb (length ds) (at (writers ls)) (at (readers ls)) (at (kinds ls)) base (length ls)
+
+  pub judged-table-earned : TableEarns ds ls judgedHere
+  unfolding judgedTable
+  judged-table-earned = counts (eqb (length ds) 0 || ltb 16 (length ds)) refl
+    where
+      links : (1 ≤ length ds) × (length ds ≤ 16) → length ls ≤ 32 → (x : ℕ) → leading faults (length ls) ≡ x → Dec (x ≡ 0) → TableEarns ds ls x
+      links few least x e (yes z) =
+          rw z (refusals.kept (record { tasks = few; links = least; rules = λ l h. obeys ltb (length ds) (at (writers ls)) (at (readers ls)) (at (kinds ls)) l (leading-zero faults (length ls) l (e ∙ z) h) }))
+      links few least x e (no n) =
+          let w = first-at faults (length ls) (λ z. n (sym e ∙ z)) in
+          refusals.link least (take (w .0) ls) (nth (w .0)) (drop (suc (w .0)) ls)
+          (sym (take-append-drop (w .0) ls) ∙ ap (λ (ys : List Link). take (w .0) ls ++ ys) (drop-cons ls (w .0) noLink (w .1)))
+          (first-keeps (w .0) (omega (arith, w .1)) few least (w .2))
+          (subst (λ (k : ℕ). Earns (LinkBreaks ds (take (w .0) ls) (nth (w .0))) k) (w .3 ∙ e) (fault-nth (w .0) (w .1))) n
+
+      second : (1 ≤ length ds) × (length ds ≤ 16) → (b : Bool) → ltb 32 (length ls) ≡ b → TableEarns ds ls (cond b 3 (leading faults (length ls)))
+      second few true e = refusals.links (few .0) (few .1) (ltb-true 32 (length ls) e)
+      second few false e = links few (ltb-false 32 (length ls) e) (leading faults (length ls)) refl (ℕ-discrete (leading faults (length ls)) 0)
+
+      wrong : (eqb (length ds) 0 ≡ true) ⊎ (ltb 16 (length ds) ≡ true) → (length ds ≡ 0) ⊎ (16 < length ds)
+      wrong (inl e) = inl (eqb-true (length ds) 0 e)
+      wrong (inr e) = inr (ltb-true 16 (length ds) e)
+
+      counts : (b : Bool) → (eqb (length ds) 0 || ltb 16 (length ds)) ≡ b → TableEarns ds ls (cond b 2 (cond (ltb 32 (length ls)) 3 (leading faults (length ls))))
+      counts true e = refusals.tasks (wrong (either (eqb (length ds) 0) (ltb 16 (length ds)) e))
+      counts false e =
+          let some-task : length ds ≢ 0 = eqb-false (length ds) 0 (or-left (eqb (length ds) 0) _ e) in
+          second (omega arith, ltb-false 16 (length ds) (or-right (eqb (length ds) 0) _ e)) (ltb 32 (length ls)) refl
+
+-- no other number is earned
+pub table-earns-one : (ds : List ℕ) (ls : List Link) {n : ℕ} → TableEarns ds ls n → n ≡ judgedHere ds ls
+unfolding judgedTable
+table-earns-one ds ls (refusals.tasks (inl z)) = rw (eq-eqb (length ds) 0 z)
+table-earns-one ds ls (refusals.tasks (inr h)) = rw (or-second (eqb (length ds) 0) (lt-ltb 16 (length ds) h))
+table-earns-one ds ls (refusals.links a b h) = rw (ne-eqb (length ds) 0 (λ z. omega arith), le-ltb 16 (length ds) b, lt-ltb 32 (length ls) h)
+table-earns-one ds ls (refusals.kept k) = sym (no-refusal ltb (length ds) (at (writers ls)) (at (readers ls)) (at (kinds ls)) base (length ls) (k .tasks .0) (k .tasks .1) (k .links) (k .rules))
+table-earns-one ds ls {n} (refusals.link least before l after e k g ne) =
+    rw (ne-eqb (length ds) 0 (λ z. omega (arith, k .tasks .0)), le-ltb 16 (length ds) (k .tasks .1), le-ltb 32 (length ls) least) (sym there)
+  where
+    j : ℕ
+    j = length before
+
+    inside : j < length ls
+    inside = omega (arith, ap length e, length-append before (l ∷ after))
+
+    first : take j ls ≡ before
+    first = ap (take j) e ∙ take-at before (l ∷ after) j refl
+
+    this : nth ds ls j ≡ l
+    this = ap (λ (xs : List Link). getD xs j noLink) e ∙ getD-at before l after noLink j refl
+
+    earned : faults ds ls j ≡ n
+    earned = earns-one (subst (λ (xs : List Link). Earns (LinkBreaks ds xs (nth ds ls j)) (faults ds ls j)) first (fault-nth ds ls j inside)) (subst (λ (x : Link). Earns (LinkBreaks ds before x) n) (sym this) g)
+
+    zero-before : (i : ℕ) → i < j → faults ds ls i ≡ 0
+    zero-before i h = sym (kept-alike i h) ∙ no-fault ltb (length ds) (at (writers before)) (at (readers before)) (at (kinds before)) i (k .rules i h)
+      where
+        kept-alike : (i : ℕ) → i < j → fault ltb (length ds) (at (writers before)) (at (readers before)) (at (kinds before)) i ≡ faults ds ls i
+        kept-alike i h =
+            ap (λ (xs : List Link). fault ltb (length ds) (at (writers xs)) (at (readers xs)) (at (kinds xs)) i) (sym first)
+            ∙ fault-alike (length ds) (at (kinds (take j ls))) (at (kinds ls)) i (λ m q. column-take ds ls (λ x. x .writer) j m (omega arith)) (λ m q. column-take ds ls (λ x. x .reader) j m (omega arith)) (column-take ds ls (λ x. x .kind) j i h)
+
+    there : leading (faults ds ls) (length ls) ≡ n
+    there = first-is (faults ds ls) (length ls) j inside zero-before (λ z. ne (sym earned ∙ z)) ∙ earned
+
+-- of a table in arrays
+pub arrays-judged : (T L : ℕ) (D W R K : List ℕ) → judgedTable ltb T (at W) (at R) (at K) base L ≡ judgedHere (tasksOf T D) (linksOf L W R K)
+unfolding judgedTable
+arrays-judged T L D W R K =
+    let link : ℕ → Link = λ l. record { writer = at W l; reader = at R l; kind = at K l } in
+    let t = length-numbered (at D) 0 T in
+    let n = length-numbered link 0 L in
+    let w : Firsts L W (writers (linksOf L W R K)) = column (λ l. l .writer) link W (λ i. refl) L in
+    let r : Firsts L R (readers (linksOf L W R K)) = column (λ l. l .reader) link R (λ i. refl) L in
+    let k : Firsts L K (kinds (linksOf L W R K)) = column (λ l. l .kind) link K (λ i. refl) L in
+    rw (t, n)
+    (ap (λ (x : ℕ). cond (eqb T 0 || ltb 16 T) 2 (cond (ltb 32 L) 3 x))
+    (leading-same (fault ltb T (at W) (at R) (at K)) (fault ltb T (at (writers (linksOf L W R K))) (at (readers (linksOf L W R K))) (at (kinds (linksOf L W R K)))) L
+    (λ i h. fault-alike T (at K) (at (kinds (linksOf L W R K))) i (λ j q. sym (w .at-first j (omega arith))) (λ j q. sym (r .at-first j (omega arith))) (sym (k .at-first i h)))))

@@ -1,0 +1,40 @@
+-- The calls on a state, and what comes of any sequence of them from a fresh one.
+-- Assumes nothing.
+use mathlib.Core.Path.{_≡_}
+use mathlib.Core.Logic.{_≢_}
+use mathlib.Core.List.{List, [], _∷_, _++_}
+use Prim.Native.Nat.{ℕ}
+use lib.Dec.{ltb}
+use Rattle.protocol.specs.Event.{Event, arrival, start, read, finish}
+use Rattle.protocol.specs.Table.{Table}
+use Rattle.protocol_state.specs.Saved.{base}
+use Rattle.protocol_state.specs.Fresh.{made}
+use Rattle.mailbox.specs.States.{madeOf, given}
+use Rattle.mailbox.specs.declared.State.{State}
+use Rattle.mailbox.specs.declared.Step.{Step}
+use Rattle.mailbox.specs.declared.Made.{Made}
+use Rattle.demands.specs.Station.{station, tasksOf, linksOf}
+
+-- `State::fresh` answers m to T tasks with the defaults D and L links with the writers W, the readers R and the kinds K
+abbrev pub Makes : ℕ → ℕ → List ℕ → List ℕ → List ℕ → List ℕ → Made → Type 0
+Makes T L D W R K m = m ≡ madeOf (made ltb base T L D W R K)
+
+-- an event e given to the state q, any state, by `arrival`, `start`, `read`, `finish` or `event`, is answered r
+abbrev pub Gives : State → Event ℕ → Step → Type 0
+Gives q e r = r ≡ given q e
+
+-- the number of an accepted read
+abbrev pub numbersOf : Event ℕ → Step → List ℕ
+numbersOf (arrival m) r = []
+numbersOf (start t) r = []
+numbersOf (read l) r = r .answer .value ∷ []
+numbersOf (finish t v) r = []
+
+-- "every sequence of accepted events from a fresh state, refused ones left aside":
+-- of the table T the events es were accepted, the reads among them gave the numbers ns, and the last call handed back q
+pub data Calls : Table ℕ → List (Event ℕ) → List ℕ → State → Type 0 where
+  fresh : (T L : ℕ) (D W R K : List ℕ) (m : Made) → Makes T L D W R K m → m .refusal ≡ 0 → Calls (station (tasksOf T D) (linksOf L W R K)) [] [] (m .state)
+  accepted : {T : Table ℕ} {es : List (Event ℕ)} {ns : List ℕ} {q : State} → Calls T es ns q →
+      (e : Event ℕ) (r : Step) → Gives q e r → r .answer .refusal ≡ 0 → Calls T (es ++ (e ∷ [])) (ns ++ numbersOf e r) (r .state)
+  refused : {T : Table ℕ} {es : List (Event ℕ)} {ns : List ℕ} {q : State} → Calls T es ns q →
+      (e : Event ℕ) (r : Step) → Gives q e r → r .answer .refusal ≢ 0 → Calls T es ns (r .state)

@@ -1,0 +1,51 @@
+-- The contracts in the source: what a call asks, and what its caller learns, which is what the demands take of a call.
+-- Assumes nothing.
+use contract.Lifetimes.{Lfts}
+use denote.Ref.{now}
+use denote.Triple.Clauses.{AtExit}
+use borrow.Fn.Kinds.{Dens, resT, endedOf}
+use Rattle.protocol.specs.Event.{arrival, start, read, finish}
+use Rattle.mailbox_parts.specs.Plain.{plain}
+use Rattle.recording_demands.specs.Ensured.{Replays}
+use Rattle.recording.proofs.replay.Kinds as of-replay
+use Rattle.recording.proofs.replay.Reads as on-replay
+use Rattle.mailbox.proofs.State.fresh.Kinds as of-fresh
+use Rattle.mailbox.proofs.State.fresh.Reads as on-fresh
+use Rattle.mailbox.proofs.State.arrival.Kinds as of-arrival
+use Rattle.mailbox.proofs.State.arrival.Reads as on-arrival
+use Rattle.mailbox.proofs.State.start.Kinds as of-start
+use Rattle.mailbox.proofs.State.start.Reads as on-start
+use Rattle.mailbox.proofs.State.read.Kinds as of-read
+use Rattle.mailbox.proofs.State.read.Reads as on-read
+use Rattle.mailbox.proofs.State.finish.Kinds as of-finish
+use Rattle.mailbox.proofs.State.finish.Reads as on-finish
+use Rattle.mailbox.proofs.State.event.Kinds as of-event
+use Rattle.mailbox.proofs.State.event.Reads as on-event
+use Rattle.demands.specs.Calls.{Makes, Gives}
+
+-- no call asks anything of what is lent to it, so it can be made with whatever there is; and a proved function that is called as it asks returns
+pub record AsksNothing : Type 0 where
+  pub replay : (κs : Lfts 2) (lent : Dens κs of-replay.ps) → on-replay.Asked κs lent
+  pub fresh : (κs : Lfts 0) (lent : Dens κs of-fresh.ps) → on-fresh.Asked κs lent
+  pub arrival : (κs : Lfts 0) (lent : Dens κs of-arrival.ps) → on-arrival.Asked κs lent
+  pub start : (κs : Lfts 0) (lent : Dens κs of-start.ps) → on-start.Asked κs lent
+  pub read : (κs : Lfts 0) (lent : Dens κs of-read.ps) → on-read.Asked κs lent
+  pub finish : (κs : Lfts 0) (lent : Dens κs of-finish.ps) → on-finish.Asked κs lent
+  pub event : (κs : Lfts 0) (lent : Dens κs of-event.ps) → on-event.Asked κs lent
+
+-- `lent` are the arguments of a call, `left` is what they hold after it
+pub record Tells : Type 0 where
+  pub replay : (κs : Lfts 2) (lent : Dens κs of-replay.ps) (a : resT of-replay.r κs .Denot) (left : AtExit (endedOf 2 of-replay.ps of-replay.r) κs) →
+      on-replay.Learnt κs lent a left → Replays (now (lent .0)) (now (lent .1 .0)) a (now (left .1 .0))
+  pub fresh : (κs : Lfts 0) (lent : Dens κs of-fresh.ps) (m : resT of-fresh.r κs .Denot) (left : AtExit (endedOf 0 of-fresh.ps of-fresh.r) κs) →
+      on-fresh.Learnt κs lent m left → Makes (lent .0) (lent .1 .0) (lent .1 .1 .0) (lent .1 .1 .1 .0) (lent .1 .1 .1 .1 .0) (lent .1 .1 .1 .1 .1 .0) m
+  pub arrival : (κs : Lfts 0) (lent : Dens κs of-arrival.ps) (r : resT of-arrival.r κs .Denot) (left : AtExit (endedOf 0 of-arrival.ps of-arrival.r) κs) →
+      on-arrival.Learnt κs lent r left → Gives (lent .0) (arrival (lent .1 .0)) r
+  pub start : (κs : Lfts 0) (lent : Dens κs of-start.ps) (r : resT of-start.r κs .Denot) (left : AtExit (endedOf 0 of-start.ps of-start.r) κs) →
+      on-start.Learnt κs lent r left → Gives (lent .0) (start (lent .1 .0)) r
+  pub read : (κs : Lfts 0) (lent : Dens κs of-read.ps) (r : resT of-read.r κs .Denot) (left : AtExit (endedOf 0 of-read.ps of-read.r) κs) →
+      on-read.Learnt κs lent r left → Gives (lent .0) (read (lent .1 .0)) r
+  pub finish : (κs : Lfts 0) (lent : Dens κs of-finish.ps) (r : resT of-finish.r κs .Denot) (left : AtExit (endedOf 0 of-finish.ps of-finish.r) κs) →
+      on-finish.Learnt κs lent r left → Gives (lent .0) (finish (lent .1 .0) (lent .1 .1 .0)) r
+  pub event : (κs : Lfts 0) (lent : Dens κs of-event.ps) (r : resT of-event.r κs .Denot) (left : AtExit (endedOf 0 of-event.ps of-event.r) κs) →
+      on-event.Learnt κs lent r left → Gives (lent .0) (plain (lent .1 .0)) r

@@ -1,0 +1,17 @@
+-- The three demands. A reader begins at Demands; what stands above it here is what its sentences are made of.
+-- a table
+pub mod Station
+-- events in order, and the calls
+pub mod Order
+pub mod Calls
+-- the table of refusals
+pub mod Refusals
+-- whole recordings
+pub mod Recordings
+-- the published protocol, and the run where tasks take no time
+pub mod Mailboxes
+pub mod Outputs
+-- the contracts in the source
+pub mod Contracts
+-- the demands
+pub mod Demands

@@ -1,0 +1,45 @@
+-- What the published protocol gives for events, and how many mailboxes it takes.
+-- Assumes nothing.
+use mathlib.Core.Path.{_≡_}
+use mathlib.Core.Bool.{Bool, true, _&&_}
+use mathlib.Core.List.{List, []}
+use Prim.Native.Nat.{ℕ, _+_, _≤_, _<_}
+use lib.Dec.{eqb}
+use Rattle.lists.specs.Lists.{some, count}
+use Rattle.protocol.specs.Event.{Event}
+use Rattle.protocol.specs.Table.{Table}
+use Rattle.protocol.specs.Schedule.{urgent}
+use Rattle.protocol.specs.Published.{Boxes, Same, Lowest, Run}
+use Rattle.protocol.specs.Published as published
+use Rattle.protocol_state.specs.Saved.{Saved, at, busy, boxes}
+use Rattle.recording_core.specs.Promise.{past}
+use Rattle.mailbox.specs.States.{saved}
+use Rattle.mailbox.specs.declared.State.{State}
+use Rattle.demands.specs.Order.{turned}
+
+-- task r reads from task w
+abbrev pub readsFrom : Table ℕ → ℕ → ℕ → Bool
+readsFrom T w r = some (λ l. eqb (T .writer l) w && eqb (T .reader l) r) (T .links)
+
+-- how many less urgent readers task w has: tasks behind it that read from it
+unfoldable pub lessUrgentReaders : Table ℕ → ℕ → ℕ
+lessUrgentReaders T w = count (λ r. T .ahead w r && readsFrom T w r) (T .tasks)
+
+-- "at most two mailboxes more than a writer has less urgent readers": every position and every pointer is one of them; 0 is an absent pointer, of an idle
+-- reader only
+pub record Mailboxes (T : Table ℕ) (q : Saved) : Type 0 where
+  pub newest : (t : ℕ) → t < T .tasks → (1 ≤ at (q .newest) t) × (at (q .newest) t ≤ lessUrgentReaders T t + 2)
+  pub previous : (t : ℕ) → t < T .tasks → (1 ≤ at (q .previous) t) × (at (q .previous) t ≤ lessUrgentReaders T t + 2)
+  pub pointer : (l : ℕ) → l < T .links → at (q .pointer) l ≤ lessUrgentReaders T (T .writer l) + 2
+  pub present : (l : ℕ) → l < T .links → busy q (T .reader l) ≡ true → 1 ≤ at (q .pointer) l
+
+-- state q and numbers ns are what the published protocol gives for the events es
+pub record Published (T : Table ℕ) (es : List (Event ℕ)) (ns : List ℕ) (q : State) : Type 0 where
+  -- "Every pointer, mailbox": by a run of the protocol over these events
+  pub run : Run T (urgent T) (Lowest T) (boxes (saved q)) (past [] es)
+  -- "is .. the one": no run of the protocol, with the lowest free position taken, gives others
+  pub only : (s : Boxes ℕ) → Run T (urgent T) (Lowest T) s (past [] es) → Same (boxes (saved q)) s
+  -- "and number read"
+  pub numbers : ns ≡ turned (published.numbers T run)
+  -- "with at most two mailboxes more than a writer has less urgent readers"
+  pub mailboxes : Mailboxes T (saved q)

@@ -1,0 +1,138 @@
+-- Whole recordings: which are accepted, and what every answer says of the bytes, the state and the list.
+-- Assumes nothing.
+use mathlib.Core.Path.{_≡_}
+use mathlib.Core.Logic.{_≢_, _⊎_}
+use mathlib.Core.List.{List, [], _∷_, _++_}
+use Prim.Native.Nat.{ℕ, _+_, _≤_, _<_}
+use lib.ListN.{length, drop, getD}
+use Rattle.protocol.specs.Event.{Event}
+use Rattle.protocol.specs.Table.{Table}
+use Rattle.protocol.specs.History.{Counts, counts, reads}
+use Rattle.byte_format.specs.Number.{bytesOf, numberAt}
+use Rattle.byte_format.specs.Stands.{Stands}
+use Rattle.byte_format.specs.Format.{FitEach, encodes, encodeSection}
+use Rattle.recording_format.specs.Task.{tasks}
+use Rattle.recording_format.specs.Link.{Link, links, linkAt}
+use Rattle.recording_format.specs.Event.{events, encodeEvent, EventFits}
+use Rattle.recording_format.specs.Recording.{encodeRecording}
+use Rattle.recording_core.specs.Promise.{past}
+use Rattle.mailbox.specs.declared.State.{State}
+use Rattle.recording.specs.declared.Answer.{Answer}
+use Rattle.demands.specs.Station.{station, Keeps}
+use Rattle.demands.specs.Order.{Happen}
+use Rattle.demands.specs.Calls.{Makes, Calls}
+use Rattle.demands.specs.Refusals.{Earns, LinkBreaks, RecordBreaks}
+
+-- the bytes s are the tasks ds, the links ls and the events es, within every limit, and could happen
+pub record Genuine (s out : List ℕ) (ds : List ℕ) (ls : List Link) (es : List (Event ℕ)) : Type 0 where
+  -- "its links obey the published rules"
+  pub keeps : Keeps ds ls
+  -- "its bytes .. the stated limits"
+  pub bytes : s ≡ encodeRecording ds ls es
+  pub fits : FitEach tasks ds × (FitEach links ls × FitEach events es)
+  pub few : length es ≤ 10000
+  -- "and list room"
+  pub room : reads es ≤ length out
+  -- "and its events could happen"
+  pub happen : Happen (station ds ls) [] es
+
+-- ---- what stands at the beginning of the bytes s, up to the place p, in order
+
+-- a count of tasks, and the first tasks
+pub record TasksBegun (s : List ℕ) (T : ℕ) (ds : List ℕ) (p : ℕ) : Type 0 where
+  pub few : (1 ≤ T) × (T ≤ 16)
+  pub fits : FitEach tasks ds
+  pub bytes : Stands s 0 (bytesOf 1 T ++ encodes tasks ds) p
+
+-- all tasks, a count of links, and the first links, which keep the rules
+pub record LinksBegun (s : List ℕ) (ds : List ℕ) (L : ℕ) (ls : List Link) (p : ℕ) : Type 0 where
+  pub few : L ≤ 32
+  pub keeps : Keeps ds ls
+  pub fits : FitEach tasks ds × FitEach links ls
+  pub bytes : Stands s 0 (encodeSection tasks ds ++ (bytesOf 1 L ++ encodes links ls)) p
+
+-- the table, a count of events, and the first events
+pub record EventsBegun (s : List ℕ) (ds : List ℕ) (ls : List Link) (E : ℕ) (es : List (Event ℕ)) (p : ℕ) : Type 0 where
+  pub few : E ≤ 10000
+  pub keeps : Keeps ds ls
+  pub fits : FitEach tasks ds × (FitEach links ls × FitEach events es)
+  pub bytes : Stands s 0 (encodeSection tasks ds ++ (encodeSection links ls ++ (bytesOf 2 E ++ encodes events es))) p
+
+-- ---- refusals whose place is in the tasks, the links or one of the three counts
+
+-- `TableFault s r p`: the first fault of the bytes s has the number r and lies there, at the place p
+pub data TableFault (s : List ℕ) : ℕ → ℕ → Type 0 where
+  -- T: 1 "the bytes end inside a count", 2 "T is 0 or above 16"
+  noTaskCount : length s ≡ 0 → TableFault s 1 0
+  badTaskCount : 1 ≤ length s → (numberAt 1 s 0 ≡ 0) ⊎ (16 < numberAt 1 s 0) → TableFault s 2 0
+  -- a task: 1 "the bytes end inside a .. record"
+  cutTask : {T p : ℕ} {ds : List ℕ} → TasksBegun s T ds p → length ds < T → length s < p + 4 → TableFault s 1 p
+  -- L: 1, 3 "L is above 32"
+  noLinkCount : {p : ℕ} {ds : List ℕ} → TasksBegun s (length ds) ds p → length s ≡ p → TableFault s 1 p
+  badLinkCount : {p : ℕ} {ds : List ℕ} → TasksBegun s (length ds) ds p → p < length s → 32 < numberAt 1 s p → TableFault s 3 p
+  -- a link: "any byte missing (1), then rising order", 4 to 9
+  cutLink : {L p : ℕ} {ds : List ℕ} {ls : List Link} → LinksBegun s ds L ls p → length ls < L → length s < p + 3 → TableFault s 1 p
+  badLink : {L p r : ℕ} {ds : List ℕ} {ls : List Link} → LinksBegun s ds L ls p → length ls < L → p + 3 ≤ length s →
+      Earns (LinkBreaks ds ls (linkAt s p)) r → r ≢ 0 → TableFault s r p
+  -- E: 1, 10 "E is above 10,000"
+  cutEventCount : {p : ℕ} {ds : List ℕ} {ls : List Link} → LinksBegun s ds (length ls) ls p → length s < p + 2 → TableFault s 1 p
+  badEventCount : {p : ℕ} {ds : List ℕ} {ls : List Link} → LinksBegun s ds (length ls) ls p → p + 2 ≤ length s → 10000 < numberAt 2 s p → TableFault s 10 p
+
+-- the four counts of an answer
+abbrev pub countsOf : Answer → Counts
+countsOf a = record { arrivals = a .arrivals; starts = a .starts; reads = a .reads; finishes = a .finishes }
+
+-- "At a refusal whose place is in the tasks, the links or one of the three counts, the state is the fresh one of a single task with default 0 and no links,
+-- all counts are 0, and the list is untouched."
+pub record AtTable (s out : List ℕ) (a : Answer) (list : List ℕ) : Type 0 where
+  pub fault : TableFault s (a .refusal) (a .place)
+  pub state : Makes 1 0 (0 ∷ []) [] [] [] (record { refusal = 0; state = a .state })
+  pub counted : countsOf a ≡ record { arrivals = 0; starts = 0; reads = 0; finishes = 0 }
+  pub listed : list ≡ out
+
+-- ---- all other answers
+
+-- how many bytes a record has that begins with this byte; a byte with no line here is no kind
+pub data KindOf : ℕ → ℕ → Type 0 where
+  anArrival : KindOf 1 3
+  aStart : KindOf 2 2
+  aRead : KindOf 3 2
+  aFinish : KindOf 4 6
+
+-- what the bytes s have at the place p after the events es, of E in all, and its number
+pub data Ending (T : Table ℕ) (s out : List ℕ) (E : ℕ) (es : List (Event ℕ)) (p : ℕ) : ℕ → Type 0 where
+  -- 0: no record is left, and no byte
+  whole : length es ≡ E → p ≡ length s → Ending T s out E es p 0
+  -- 17: "bytes after the last record"
+  extra : length es ≡ E → p < length s → Ending T s out E es p 17
+  -- "In an event record: kind byte missing (1), kind unknown (11), rest missing (1)
+  noKind : length es < E → p ≡ length s → Ending T s out E es p 1
+  unknownKind : length es < E → p < length s → ((n : ℕ) → KindOf (getD s p 0) n → ⊥) → Ending T s out E es p 11
+  cutEvent : length es < E → p < length s → (n : ℕ) → KindOf (getD s p 0) n → length s < p + n → Ending T s out E es p 1
+  -- then rising order of number": 12 to 16, 18
+  badEvent : {r : ℕ} → length es < E → (e : Event ℕ) (q : ℕ) → Stands s p (encodeEvent e) q → EventFits e →
+      Earns (RecordBreaks T out (past [] es) e) r → r ≢ 0 → Ending T s out E es p r
+
+-- the list that was lent as `out` begins with the numbers ns, which fit, and its rest is untouched
+pub record Listed (ns out list : List ℕ) : Type 0 where
+  pub room : length ns ≤ length out
+  pub holds : list ≡ ns ++ drop (length ns) out
+
+-- "Later, state and counts are those after the last accepted event; the list's first entries hold the numbers read, the rest is untouched.":
+-- before the place stand the table and the events es; the state is the one of calls in which just these were accepted, the numbers are those that the calls
+-- read, the counts are counted from these events
+pub record AtEvents (s out : List ℕ) (a : Answer) (list : List ℕ) : Type 0 where
+  pub ds : List ℕ
+  pub ls : List Link
+  pub es : List (Event ℕ)
+  pub ns : List ℕ
+  pub total : ℕ
+  pub begun : EventsBegun s ds ls total es (a .place)
+  pub calls : Calls (station ds ls) es ns (a .state)
+  pub counted : countsOf a ≡ counts (station ds ls) (past [] es)
+  pub listed : Listed ns out list
+  pub ending : Ending (station ds ls) s out total es (a .place) (a .refusal)
+
+-- every answer is one or the other (demand 1's `place`), and no two are right of the same bytes and list (demand 1's `only`)
+abbrev pub Explained : List ℕ → List ℕ → Answer → List ℕ → Type 0
+Explained s out a list = AtTable s out a list ⊎ AtEvents s out a list

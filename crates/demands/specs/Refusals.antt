@@ -1,0 +1,90 @@
+-- The refusals of links, tables and events, one case for each line of document 01's table, in its words; and which of those that fit is given.
+-- Assumes nothing.
+use mathlib.Core.Path.{_≡_}
+use mathlib.Core.Logic.{_≢_, _⊎_}
+use mathlib.Core.Bool.{Bool, true, false}
+use mathlib.Core.List.{List, _∷_, _++_}
+use Prim.Native.Nat.{ℕ, _≤_, _<_}
+use lib.Dec.{eqb}
+use lib.ListN.{length}
+use Rattle.protocol.specs.Event.{Event, arrival, start, read, finish, has}
+use Rattle.protocol.specs.Table.{Table, behinds}
+use Rattle.protocol.specs.History as history
+use Rattle.protocol.specs.History.{reads}
+use Rattle.protocol_state.specs.Saved.{Saved, at, busy}
+use Rattle.recording_format.specs.Link.{Link}
+use Rattle.demands.specs.Station.{ahead, writers, readers, Keeps}
+
+-- "tried in rising order": of the numbers that fit, the lowest is given; 0 where none does
+pub data Earns (Fits : ℕ → Type 0) : ℕ → Type 0 where
+  none : ((n : ℕ) → Fits n → ⊥) → Earns Fits 0
+  lowest : {r : ℕ} → Fits r → ((n : ℕ) → n < r → Fits n → ⊥) → Earns Fits r
+
+-- ---- links: l after the links ls, in a table of the tasks ds
+pub data LinkBreaks (ds : List ℕ) (ls : List Link) (l : Link) : ℕ → Type 0 where
+  -- 4: "a link names no task of the table"
+  noTask : (length ds ≤ l .writer) ⊎ (length ds ≤ l .reader) → LinkBreaks ds ls l 4
+  -- 5: "its writer is its reader"
+  itself : l .writer ≡ l .reader → LinkBreaks ds ls l 5
+  -- 6: "its kind is neither 0 nor 1"
+  unknownKind : l .kind ≢ 0 → l .kind ≢ 1 → LinkBreaks ds ls l 6
+  -- 7: "a direct link to a reader ahead"
+  directAhead : l .kind ≡ 0 → ahead ds (l .reader) (l .writer) ≡ true → LinkBreaks ds ls l 7
+  -- 8: "its writer has an earlier link to its reader"
+  twice : (j : ℕ) → j < length ls → at (writers ls) j ≡ l .writer → at (readers ls) j ≡ l .reader → LinkBreaks ds ls l 8
+  -- 9: "it is the writer's ninth link to a reader behind"
+  ninth : ahead ds (l .writer) (l .reader) ≡ true → 8 ≤ behinds (ahead ds) (at (writers ls)) (at (readers ls)) (l .writer) (length ls) → LinkBreaks ds ls l 9
+
+-- ---- a table that is handed over whole: its counts first, then the first link at fault
+pub data TableEarns (ds : List ℕ) (ls : List Link) : ℕ → Type 0 where
+  -- 2: "T is 0 or above 16"
+  tasks : (length ds ≡ 0) ⊎ (16 < length ds) → TableEarns ds ls 2
+  -- 3: "L is above 32"
+  links : 1 ≤ length ds → length ds ≤ 16 → 32 < length ls → TableEarns ds ls 3
+  -- 4 to 9: the links before it keep the rules
+  link : {r : ℕ} → length ls ≤ 32 → (before : List Link) (l : Link) (after : List Link) → ls ≡ before ++ (l ∷ after) → Keeps ds before →
+      Earns (LinkBreaks ds before l) r → r ≢ 0 → TableEarns ds ls r
+  -- 0
+  kept : Keeps ds ls → TableEarns ds ls 0
+
+-- ---- events
+
+-- how the tasks stand: active, waiting, running
+pub record Standing : Type 0 where
+  pub active : ℕ → Bool
+  pub waiting : ℕ → Bool
+  pub running : ℕ → Bool
+
+-- "By history: active when its accepted arrivals outnumber its accepted finishes"
+abbrev pub byHistory : List (Event ℕ) → Standing
+byHistory h = record { active = history.active h; waiting = history.waiting h; running = history.running h }
+
+-- by the phases of a saved state: 0 idle, 1 waiting, 2 running
+abbrev pub byPhases : Saved → Standing
+byPhases q = record { active = busy q; waiting = λ t. eqb (at (q .phase) t) 1; running = λ t. eqb (at (q .phase) t) 2 }
+
+pub data EventBreaks (T : Table ℕ) (stands : Standing) : Event ℕ → ℕ → Type 0 where
+  -- 12: "an empty arrival set, or a task or link not in the table"
+  nobody : EventBreaks T stands (arrival 0) 12
+  aStranger : {m : ℕ} (t : ℕ) → T .tasks ≤ t → has m t ≡ true → EventBreaks T stands (arrival m) 12
+  startsNoTask : {t : ℕ} → T .tasks ≤ t → EventBreaks T stands (start t) 12
+  readsNoLink : {l : ℕ} → T .links ≤ l → EventBreaks T stands (read l) 12
+  finishesNoTask : {t v : ℕ} → T .tasks ≤ t → EventBreaks T stands (finish t v) 12
+  -- 13: "arrival of an active task"
+  arrivesAgain : {m : ℕ} (t : ℕ) → t < T .tasks → has m t ≡ true → stands .active t ≡ true → EventBreaks T stands (arrival m) 13
+  -- 14: "start of a task that isn't waiting"
+  startsNotWaiting : {t : ℕ} → stands .waiting t ≡ false → EventBreaks T stands (start t) 14
+  -- 15: "read or finish by a task that isn't running"
+  readsNotRunning : {l : ℕ} → stands .running (T .reader l) ≡ false → EventBreaks T stands (read l) 15
+  finishesNotRunning : {t v : ℕ} → stands .running t ≡ false → EventBreaks T stands (finish t v) 15
+  -- 16: "start, read or finish while a more urgent task is active"
+  startsOutOfTurn : {t : ℕ} (u : ℕ) → u < T .tasks → T .ahead u t ≡ true → stands .active u ≡ true → EventBreaks T stands (start t) 16
+  readsOutOfTurn : {l : ℕ} (u : ℕ) → u < T .tasks → T .ahead u (T .reader l) ≡ true → stands .active u ≡ true → EventBreaks T stands (read l) 16
+  finishesOutOfTurn : {t v : ℕ} (u : ℕ) → u < T .tasks → T .ahead u t ≡ true → stands .active u ≡ true → EventBreaks T stands (finish t v) 16
+
+-- in a recording, after the history h and with the lent list `out`
+pub data RecordBreaks (T : Table ℕ) (out : List ℕ) (h : List (Event ℕ)) : Event ℕ → ℕ → Type 0 where
+  -- 12 to 16
+  rule : {e : Event ℕ} {n : ℕ} → EventBreaks T (byHistory h) e n → RecordBreaks T out h e n
+  -- 18: "a read that is otherwise allowed, with no room in the lent list of numbers"
+  noRoom : {l : ℕ} → length out ≤ reads h → RecordBreaks T out h (read l) 18
