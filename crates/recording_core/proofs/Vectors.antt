@@ -1,21 +1,21 @@
--- The cases that document 01 marks to be shown of the definitions, as one table under one claim: bytes, and refusal, place, counts and list of the answer.
+-- The cases that document 01 marks to be shown of the definitions, as one table under one claim: bytes, and the whole answer, which is refusal, place, state,
+-- counts and list.
 -- Assumes nothing.
 use mathlib.Core.Path.{_≡_, refl}
 use mathlib.Core.List.{List, [], _∷_, _++_, map}
-use Prim.Native.Nat.{ℕ}
+use Prim.Native.Nat.{ℕ, _-_}
 use lib.Dec.{ltb}
-use lib.ListN.{replicate}
+use lib.ListN.{length, replicate}
 use Rattle.lists.specs.Lists.{upto, every, some, count, first, leading}
 use Rattle.protocol.specs.Event.{Event, arrival, start, read, finish, has}
-use Rattle.protocol.specs.History.{Counts}
-use Rattle.protocol_state.specs.Saved.{base}
+use Rattle.protocol_state.specs.Saved.{Saved, base}
 use Rattle.protocol_state.specs.Decision.{decided}
 use Rattle.protocol_state.specs.Judge.{judgedArrival, judgedTask, judgedRead}
 use Rattle.protocol_state.specs.Next.{newestAfter, previousAfter, pointerAfter, phaseAfter}
 use Rattle.protocol_state.specs.Fresh.{freshOf}
 use Rattle.byte_format.specs.Number.{bytesOf, numberOf}
 use Rattle.byte_format.specs.Format.{encodes}
-use Rattle.byte_format.specs.Play.{Verdict, play}
+use Rattle.byte_format.specs.Play.{Verdict, verdict, play}
 use Rattle.byte_format.specs.Section.{countAt, section}
 use Rattle.recording_format.specs.Link.{Link, linkFault}
 use Rattle.recording_format.specs.Event.{encodeEvent}
@@ -24,33 +24,44 @@ use Rattle.recording_format.specs.Limits.{baseLimits}
 use Rattle.recording_format.specs.Recording.{encodeRecording, tableThen, eventsFrom, recording}
 use Rattle.recording_core.specs.Playing.{Playing, coreOf, judgedIn, steppedIn}
 
--- of an answer, all that a case says: refusal, place, counts and list
-pub record Summary : Type 0 where
-  pub refusal : ℕ
-  pub place : ℕ
-  pub counts : Counts
-  pub list : List ℕ
-
-abbrev summary : ℕ → ℕ → ℕ → ℕ → ℕ → ℕ → List ℕ → Summary
-summary r p a s n f list = record { refusal = r; place = p; counts = record { arrivals = a; starts = s; reads = n; finishes = f }; list = list }
-
-abbrev sevens : ℕ → List ℕ
-sevens n = replicate n 7
-
--- what a case says of a reply
-abbrev answered : Verdict Playing → Summary
-answered x = record { refusal = x .refusal; place = x .place; counts = x .state .counts; list = x .state .list }
+-- n entries, these first and x at the others
+abbrev filledUp : ℕ → ℕ → List ℕ → List ℕ
+filledUp n x xs = xs ++ replicate (n - length xs) x
 
 -- the answer to these bytes, with room for eight numbers, each 7 at first
-abbrev answer : List ℕ → Summary
-answer s = answered (recording ltb baseLimits (coreOf ltb base (sevens 8)) s)
+abbrev answer : List ℕ → Verdict Playing
+answer s = recording ltb baseLimits (coreOf ltb base (replicate 8 7)) s
 
--- refusal r, 0 for none, at p: nothing counted, and the list untouched
-abbrev untouched : ℕ → ℕ → Summary
-untouched r p = summary r p 0 0 0 0 (sevens 8)
+-- refusal r, 0 for none, at p, with this state and these counts: arrivals, starts, reads and finishes; and with these numbers read
+abbrev replied : ℕ → ℕ → Saved → ℕ → ℕ → ℕ → ℕ → List ℕ → Verdict Playing
+replied r p q a s n f list = verdict r p (record { state = q; counts = record { arrivals = a; starts = s; reads = n; finishes = f }; list = filledUp 8 7 list })
+
+-- refusal r, 0 for none, at p, with this state: nothing counted, and the list untouched
+abbrev untouched : ℕ → ℕ → Saved → Verdict Playing
+untouched r p q = replied r p q 0 0 0 0 []
 
 abbrev link : ℕ → ℕ → ℕ → Link
 link w r k = record { writer = w; reader = r; kind = k }
+
+-- so many tasks with default 0 and so many links with these writers, readers and kinds, all of it fresh
+abbrev fresh : ℕ → ℕ → List ℕ → List ℕ → List ℕ → Saved
+fresh T L W R K = record {
+  tasks = T;
+  links = L;
+  defaults = replicate 16 0;
+  phase = replicate 16 0;
+  newest = replicate 16 1;
+  previous = replicate 16 1;
+  cells = replicate 160 0;
+  writer = filledUp 32 0 W;
+  reader = filledUp 32 0 R;
+  kind = filledUp 32 0 K;
+  pointer = replicate 32 0;
+}
+
+-- a single task with no links: the state at a refusal before the events
+abbrev alone : Saved
+alone = fresh 1 0 [] [] []
 
 -- two tasks and one link
 abbrev joined : ℕ → ℕ → ℕ → List ℕ
@@ -65,6 +76,34 @@ nine =
 -- the station of the long example, with these events
 abbrev example : List (Event ℕ) → List ℕ
 example es = encodeRecording (0 ∷ 100 ∷ 0 ∷ 0 ∷ []) (link 1 0 1 ∷ link 1 2 0 ∷ link 1 3 0 ∷ []) es
+
+-- its state: phases, newest and previous of its tasks, the first numbers of task 1, which has 100 at the other positions, and pointers of its links
+abbrev station : List ℕ → List ℕ → List ℕ → List ℕ → List ℕ → Saved
+station ph n p c x = record {
+  tasks = 4;
+  links = 3;
+  defaults = filledUp 16 0 (0 ∷ 100 ∷ []);
+  phase = filledUp 16 0 ph;
+  newest = filledUp 16 1 n;
+  previous = filledUp 16 1 p;
+  cells = filledUp 160 0 (replicate 10 0 ++ filledUp 10 100 c);
+  writer = filledUp 32 0 (1 ∷ 1 ∷ 1 ∷ []);
+  reader = filledUp 32 0 (0 ∷ 2 ∷ 3 ∷ []);
+  kind = filledUp 32 0 (1 ∷ []);
+  pointer = filledUp 32 0 x;
+}
+
+-- after the first arrival, with these phases
+abbrev arrived : List ℕ → Saved
+arrived ph = station ph (2 ∷ 2 ∷ 2 ∷ 2 ∷ []) (1 ∷ []) [] (1 ∷ 2 ∷ 2 ∷ [])
+
+-- after the second
+abbrev midway : Saved
+midway = station (1 ∷ 1 ∷ 0 ∷ 2 ∷ []) (1 ∷ 1 ∷ 2 ∷ 2 ∷ []) (2 ∷ 2 ∷ 1 ∷ 1 ∷ []) (100 ∷ 101 ∷ []) (2 ∷ 0 ∷ 2 ∷ [])
+
+-- after all events
+abbrev done : Saved
+done = station [] (1 ∷ 3 ∷ 1 ∷ 1 ∷ []) (2 ∷ 1 ∷ 2 ∷ 2 ∷ []) (102 ∷ 101 ∷ 103 ∷ []) (1 ∷ [])
 
 -- up to the second arrival, and the rest
 abbrev begun : List (Event ℕ)
@@ -94,7 +133,8 @@ cases =
     -- link 1 to 0, direct and delayed
     ∷ joined 1 0 0
     ∷ joined 1 0 1
-    -- link 0 to 0
+    -- link 0 to 0, direct and delayed
+    ∷ joined 0 0 0
     ∷ joined 0 0 1
     -- kind 2
     ∷ joined 0 1 2
@@ -111,20 +151,21 @@ cases =
     ∷ []
 
 pub marked-cases : map answer cases ≡
-    (untouched 1 0
-    ∷ untouched 0 8
-    ∷ untouched 17 8
-    ∷ untouched 2 0
-    ∷ untouched 9 66
-    ∷ untouched 7 10
-    ∷ untouched 0 15
-    ∷ untouched 5 10
-    ∷ untouched 6 10
-    ∷ summary 16 65 6 4 2 3 (100 ∷ 101 ∷ sevens 6)
-    ∷ summary 13 65 6 4 2 3 (100 ∷ 101 ∷ sevens 6)
-    ∷ summary 0 148 11 11 8 11 (100 ∷ 101 ∷ 101 ∷ 102 ∷ 102 ∷ 101 ∷ 102 ∷ 103 ∷ [])
-    ∷ summary 14 34 4 1 0 0 (sevens 8)
-    ∷ summary 15 32 4 0 0 0 (sevens 8)
+    (untouched 1 0 alone
+    ∷ untouched 0 8 alone
+    ∷ untouched 17 8 alone
+    ∷ untouched 2 0 alone
+    ∷ untouched 9 66 alone
+    ∷ untouched 7 10 alone
+    ∷ untouched 0 15 (fresh 2 1 (1 ∷ []) (0 ∷ []) (1 ∷ []))
+    ∷ untouched 5 10 alone
+    ∷ untouched 5 10 alone
+    ∷ untouched 6 10 alone
+    ∷ replied 16 65 midway 6 4 2 3 (100 ∷ 101 ∷ [])
+    ∷ replied 13 65 midway 6 4 2 3 (100 ∷ 101 ∷ [])
+    ∷ replied 0 148 done 11 11 8 11 (100 ∷ 101 ∷ 101 ∷ 102 ∷ 102 ∷ 101 ∷ 102 ∷ 103 ∷ [])
+    ∷ replied 14 34 (arrived (2 ∷ 1 ∷ 1 ∷ 1 ∷ [])) 4 1 0 0 []
+    ∷ replied 15 32 (arrived (1 ∷ 1 ∷ 1 ∷ 1 ∷ [])) 4 0 0 0 []
     ∷ [])
 unfolding upto every some count first leading has decided judgedArrival judgedTask judgedRead newestAfter previousAfter pointerAfter phaseAfter freshOf bytesOf numberOf encodes play countAt section linkFault firstByte encodeEvent recording tableThen eventsFrom judgedIn steppedIn
 marked-cases = refl
