@@ -17,17 +17,17 @@ use Rattle.settings.specs.declared.list.Counted.the-variants as counted
 use Rattle.settings.specs.Setting.{faultOf}
 use Rattle.settings.specs.Entry.{codes, made}
 
--- a code and the place after it, or the refusal
-abbrev pub foundOf : Found → ℕ → Got Code
-foundOf (found.Known k) q = got k q
-foundOf found.Unknown q = stop 11
-foundOf found.Missing q = stop 1
-
--- why there is no code; 0 where there is one
+-- the document's number for what stands where a code is due: why there is none, 0 where there is one
 abbrev pub reasonOf : Found → ℕ
 reasonOf (found.Known k) = 0
 reasonOf found.Unknown = 11
 reasonOf found.Missing = 1
+
+-- a code and the place after it, or the refusal
+abbrev pub foundOf : Found → ℕ → Got Code
+foundOf (found.Known k) q = got k q
+foundOf found.Unknown q = stop (reasonOf found.Unknown)
+foundOf found.Missing q = stop (reasonOf found.Missing)
 
 -- a setting and the place after its entry, or the refusal
 abbrev pub nextOf : Next → ℕ → Got Setting
