@@ -1,4 +1,5 @@
 // The replay of a whole recording, into the lent parts of a state.
+ghost use Rattle.byte_format.specs.Number.{Bytes};
 ghost use Rattle.mailbox_parts.specs.Becomes.{savedOf};
 ghost use Rattle.exports.specs.Replayed.{Replayed};
 use crate::parts::put_state;
@@ -10,7 +11,7 @@ use mailbox_base::numbers::TASKS;
 const COUNTS: usize = 4;
 
 // The answer to a whole recording: the refusal, its place, the four counts and the state after the last accepted event; the numbers
-// read stand first in the lent list.
+// read stand first in the lent list. Each entry of the lent recording is a byte: `bytes` hands that fact on, as the replay's does.
 #[no_mangle]
 pub extern "C" fn parnusild_replay(
     bytes: &[u8],
@@ -29,7 +30,8 @@ pub extern "C" fn parnusild_replay(
     kind: &mut [u8; LINKS],
     pointer: &mut [u8; LINKS],
 ) -> u8
-    ensures { λ r. ⌜ Replayed (now (bytes .entry)) (now (numbers .entry)) r (now (place .exit)) (now (counts .exit)) (savedOf (now (tasks .exit)) (now (links .exit)) (now (defaults .exit)) (now (phase .exit)) (now (newest .exit)) (now (previous .exit)) (now (cells .exit)) (now (writer .exit)) (now (reader .exit)) (now (kind .exit)) (now (pointer .exit))) (now (numbers .exit)) ⌝ }
+    ensures answer { λ r. ⌜ Replayed (now (bytes .entry)) (now (numbers .entry)) r (now (place .exit)) (now (counts .exit)) (savedOf (now (tasks .exit)) (now (links .exit)) (now (defaults .exit)) (now (phase .exit)) (now (newest .exit)) (now (previous .exit)) (now (cells .exit)) (now (writer .exit)) (now (reader .exit)) (now (kind .exit)) (now (pointer .exit))) (now (numbers .exit)) ⌝ }
+    ensures bytes { λ r. ⌜ Bytes (now (bytes .entry)) ⌝ }
 {
     let answer = recording::replay(bytes, numbers);
     *place = answer.place;

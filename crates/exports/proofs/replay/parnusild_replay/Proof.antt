@@ -15,7 +15,9 @@ same-length : tie.Need-same-length
 same-length c = search needs
 
 returns : tie.Need-returns
-returns c = replay-filled _ _ (c .before .before .before .before .before .before .before .before .before .before .before .before .before .before .before .replay .result) (c .before .before .before .before .before .before .before .before .before .before .before .before .before .before .before .replay .ensures .0) (c .put-state .ensures)
+returns c =
+    let d = c .before .before .before .before .before .before .before .before .before .before .before .before .before .before .before in
+    (replay-filled _ _ (d .replay .result) (d .replay .ensures .0) (c .put-state .ensures), d .replay .ensures .1)
 
 pub parnusild-replay-spec : {M : Type 1} → statement M
 parnusild-replay-spec = tie.close (tie.spec replay-requires put-state-requires same-length returns)
