@@ -16,17 +16,17 @@ use Rattle.exports.specs.Calls.{called, answered}
 use Rattle.exports.specs.declared.call.Asked.{Asked}
 use Rattle.exports.specs.declared.call.Asked.the-variants.{Known, Outside, Unknown}
 
--- what the code's reading of a call answers: a number that no table has is 12, after 19
-abbrev pub heard : Saved → Asked → Reply
-heard q (Known e) = give ltb base q (plain e)
-heard q Outside = settled (isSound ltb base q) 12 q q 0
-heard q Unknown = settled (isSound ltb base q) 11 q q 0
-
--- the refusal of what is no event
+-- the document's number for each reading of a call: 0 an event, 12 a number that no table has, 11 an unknown kind
 abbrev pub askedNumber : Asked → ℕ
 askedNumber (Known e) = 0
 askedNumber Outside = 12
 askedNumber Unknown = 11
+
+-- what the code's reading of a call answers: the reply to its event, or its refusal, after 19
+abbrev pub heard : Saved → Asked → Reply
+heard q (Known e) = give ltb base q (plain e)
+heard q Outside = settled (isSound ltb base q) (askedNumber Outside) q q 0
+heard q Unknown = settled (isSound ltb base q) (askedNumber Unknown) q q 0
 
 -- what a table makes, from its parts
 abbrev pub madeAs : ℕ → Saved → Made
