@@ -112,6 +112,10 @@ uint8_t parnusild_replay(const uint8_t *bytes, size_t size, uint32_t *numbers, s
                          uint8_t *previous, uint32_t *cells, uint8_t *writer, uint8_t *reader, uint8_t *kind,
                          uint8_t *pointer);
 
+/* The unread rest of a recording, `size` lent bytes, after a replay that answered `place`: how many bytes it has. They are the last of the
+ * recording, from the place on; none past the end, and none after acceptance. */
+size_t parnusild_rest(const uint8_t *bytes, size_t size, size_t place);
+
 /* A recording, written into a lent buffer of `room` bytes. `defaults`: one for each of `tasks` tasks. `links`, `links_size` numbers:
  * writer, reader and kind of each link. `events`, `events_size` numbers: the kind of each event and what it has, so 1 and a set (bit t is
  * task t); 2 and a task; 3 and a link; 4, a task and a value. Judged from the left as a replay would judge the bytes, and the first fault
@@ -180,7 +184,7 @@ static inline uint8_t parnusild_state_finish(struct parnusild_state *state, uint
  * refusal, the place and the four counts; state and counts are those after the last accepted event; the list's first entries hold the
  * numbers read, the rest is untouched. At a refusal whose place is in the tasks, the links or one of the three counts, the state is the
  * fresh one of a single task with default 0 and no links, all counts are 0, and the list is untouched.
- * 18 is a read that is otherwise allowed, with no room in the list. On refusal the unread rest is bytes + place, size - place long.
+ * 18 is a read that is otherwise allowed, with no room in the list. parnusild_recording_rest has the unread rest.
  * `bytes` may be null where `size` is 0, and `numbers` where `room` is 0. Answers the refusal, too. */
 static inline uint8_t parnusild_state_replay(struct parnusild_state *PARNUSILD_RESTRICT state,
                                              struct parnusild_answer *PARNUSILD_RESTRICT answer,
@@ -199,6 +203,16 @@ static inline uint8_t parnusild_state_replay(struct parnusild_state *PARNUSILD_R
     answer->reads = counts[2];
     answer->finishes = counts[3];
     return answer->refusal;
+}
+
+/* The unread rest of a recording after a replay, as that part of the lent bytes: from the place of the refusal to the end, and empty after
+ * acceptance. Answers where it begins; `left` is how many bytes it has. `bytes` may be null where `size` is 0, and so may then the answer. */
+static inline const uint8_t *parnusild_recording_rest(const struct parnusild_answer *answer, const uint8_t *bytes, size_t size,
+                                                      size_t *left)
+{
+    const uint8_t no_byte = 0;
+    *left = parnusild_rest(size ? bytes : &no_byte, size, answer->place);
+    return size ? bytes + (size - *left) : bytes;
 }
 
 /* A recording, written into a lent buffer, as parnusild_write says. Each of the four slices may be null where its length is 0. */

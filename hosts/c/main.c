@@ -158,16 +158,20 @@ static const char *past(const uint32_t *list, size_t room)
     return list[room] == 77 ? "past kept" : "past CHANGED";
 }
 
-/* a replay at an edge size: its refusal and place, how many numbers it read, and whether the entry past the lent ones is as it was */
+/* a replay at an edge size: its refusal and place, how many numbers it read, how many bytes are left unread, and whether the entry past the
+ * lent ones is as it was */
 static void edge(const char *what, const uint8_t *lent, size_t size, uint32_t *list, size_t room)
 {
     struct parnusild_state state;
     struct parnusild_answer answer;
+    const uint8_t *rest;
+    size_t left = 77;
     if (list)
         list[room] = 77;
     parnusild_state_replay(&state, &answer, lent, size, list, room);
-    printf("%s: refusal %u at %zu, reads %zu, tasks %zu, %s\n", what, answer.refusal, answer.place, answer.reads, state.tasks,
-           past(list, room));
+    rest = parnusild_recording_rest(&answer, lent, size, &left);
+    printf("%s: refusal %u at %zu, reads %zu, tasks %zu, left %zu%s, %s\n", what, answer.refusal, answer.place, answer.reads,
+           state.tasks, left, rest == (lent ? lent + answer.place : lent) ? "" : " ELSEWHERE", past(list, room));
 }
 
 static void edge_sizes(size_t size)

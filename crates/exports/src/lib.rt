@@ -7,4 +7,5 @@ pub mod event;
 pub mod fresh;
 mod parts;
 pub mod replay;
+pub mod rest;
 pub mod write;

@@ -62,6 +62,8 @@ extern "C" {
         pointer: &mut [u8; LINKS],
     ) -> u8;
 
+    pub fn parnusild_rest(bytes: *const u8, size: usize, place: usize) -> usize;
+
     pub fn parnusild_write(
         defaults: *const u32,
         tasks: usize,

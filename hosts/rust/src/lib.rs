@@ -210,7 +210,9 @@ pub fn replay(bytes: &[u8], numbers: &mut [u32]) -> Answer {
 
 /// The unread rest of a recording, from the place of its answer to the end: empty after acceptance.
 pub fn rest<'a>(bytes: &'a [u8], answer: &Answer) -> &'a [u8] {
-    bytes.get(answer.place..).unwrap_or(&[])
+    // SAFETY: the slice passes with its own length, its pointer is not null even where it is empty, and nothing is written to.
+    let left = unsafe { calls::parnusild_rest(bytes.as_ptr(), bytes.len(), answer.place) };
+    &bytes[bytes.len() - left..]
 }
 
 /// Writes a recording into the buffer. `defaults` has the default of each task; `links` writer, reader and kind of each link; `events` the

@@ -194,6 +194,8 @@ fn small_recordings() {
     let a = replay(&[1, 0, 0, 0, 0, 0, 0, 0, 5], &mut [3]);
     assert_eq!((a.refusal, a.place), (17, 8));
     assert_eq!(rest(&[1, 0, 0, 0, 0, 0, 0, 0, 5], &a), [5]);
+    // a place past the end of other bytes leaves none of them
+    assert!(rest(&[1, 0, 0], &a).is_empty());
     let a = replay(&[1, 0, 0, 0, 0, 0, 1, 0, 5], &mut []);
     assert_eq!((a.refusal, a.place), (11, 8));
 }
