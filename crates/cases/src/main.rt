@@ -4,9 +4,8 @@ ghost use Prim.Native.Nat.{_≤_};
 ghost use Rattle.io.specs.Counts.{Counts};
 use libc::STDOUT_FILENO;
 use recording_printout::NUMBERS;
-use recording_printout::print_end;
+use recording_printout::print_last;
 use recording_printout::print_replay;
-use recording_read::table::read_table;
 
 // The most room that a digit says.
 const LITTLE: usize = 9;
@@ -33,13 +32,6 @@ fn load(path: &[u8], bytes: &mut [u8]) -> usize
     let n = io::read_full(fd, bytes);
     libc::close(fd);
     n
-}
-
-// The last line of a recording's printout.
-fn print_last(s: &[u8], out: &mut [u32]) {
-    let answer = recording::replay(s, out);
-    let table = read_table(s);
-    print_end(answer.refusal, answer.place, table.events);
 }
 
 // The printout of every beginning of a recording, the shortest first, each after a line with its length.

@@ -19,7 +19,7 @@ pub struct Table {
 
 impl Table {
     // So many tasks and no links.
-    pub fn of(tasks: usize) -> Table {
+    pub(crate) fn of(tasks: usize) -> Table {
         Table {
             tasks,
             links: 0,
@@ -30,7 +30,7 @@ impl Table {
     }
 
     // One link more, as long as there is a slot.
-    pub fn link(mut self, w: u8, r: u8, k: u8) -> Table {
+    pub(crate) fn link(mut self, w: u8, r: u8, k: u8) -> Table {
         let l = self.links;
         if l < LINKS {
             self.writer[l] = w;
@@ -42,13 +42,13 @@ impl Table {
     }
 
     // The same table that says it has so many links.
-    pub fn count(mut self, links: usize) -> Table {
+    pub(crate) fn count(mut self, links: usize) -> Table {
         self.links = links;
         self
     }
 
     // What it makes.
-    pub fn made(self) -> Made {
+    pub(crate) fn made(self) -> Made {
         let writer = self.writer;
         let reader = self.reader;
         let kind = self.kind;
@@ -57,7 +57,7 @@ impl Table {
 }
 
 // The state with `x` in the part that this letter names, at `i` where it is an array; as it is for any other letter.
-pub fn with(mut s: State, part: u8, i: usize, x: u8) -> State {
+pub(crate) fn with(mut s: State, part: u8, i: usize, x: u8) -> State {
     let t = i % TASKS;
     let l = i % LINKS;
     match part {

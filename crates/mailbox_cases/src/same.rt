@@ -25,11 +25,11 @@ fn same_numbers(a: &[u32], b: &[u32]) -> bool {
 }
 
 // What stands at `i`, and 0 past the end.
-pub fn byte_at(a: &[u8], i: usize) -> u8 {
+pub(crate) fn byte_at(a: &[u8], i: usize) -> u8 {
     if i < a.len() { a[i] } else { 0 }
 }
 
-pub fn number_at(a: &[u32], i: usize) -> u32 {
+pub(crate) fn number_at(a: &[u32], i: usize) -> u32 {
     if i < a.len() { a[i] } else { 0 }
 }
 
@@ -44,7 +44,7 @@ fn same_links(a: &[u8; LINKS], b: &[u8; LINKS]) -> bool {
 }
 
 // The parts that no event may change.
-pub fn same_table(a: State, b: State) -> bool {
+pub(crate) fn same_table(a: State, b: State) -> bool {
     let a_defaults = a.defaults;
     let b_defaults = b.defaults;
     let a_writer = a.writer;
@@ -80,12 +80,12 @@ fn same_boxes(a: State, b: State) -> bool {
         & same_links(&a_pointer, &b_pointer)
 }
 
-pub fn same(a: State, b: State) -> bool {
+pub(crate) fn same(a: State, b: State) -> bool {
     same_table(a, b) & same_boxes(a, b)
 }
 
 // Whether two events were answered alike.
-pub fn same_step(a: Step, b: Step) -> bool {
+pub(crate) fn same_step(a: Step, b: Step) -> bool {
     let p = a.answer;
     let q = b.answer;
     let s = a.state;

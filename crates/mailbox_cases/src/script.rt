@@ -68,7 +68,7 @@ pub struct Desk {
 
 impl Desk {
     // Before the first line.
-    pub fn cleared() -> Desk {
+    pub(crate) fn cleared() -> Desk {
         Desk {
             table: Table::of(1),
             base: State::single(),
@@ -80,7 +80,7 @@ impl Desk {
     }
 
     // One byte of the script more.
-    pub fn byte(self, c: u8) -> Desk {
+    pub(crate) fn byte(self, c: u8) -> Desk {
         if c == b'\n' {
             return self.done().ended();
         }
@@ -223,7 +223,7 @@ fn called(s: State, e: Event) -> Step {
 }
 
 // The whole script.
-pub fn play(script: &[u8]) {
+pub(crate) fn play(script: &[u8]) {
     let mut desk = Desk::cleared();
     let mut i = 0;
     while i < script.len() {

@@ -13,7 +13,7 @@ use mailbox_base::numbers::POSITIONS;
 use mailbox_base::numbers::TASKS;
 use mailbox_parts::event::Event;
 
-pub fn text(s: &[u8]) {
+pub(crate) fn text(s: &[u8]) {
     io::write_all(STDOUT_FILENO, s);
 }
 
@@ -128,7 +128,7 @@ fn ends(s: State) {
 }
 
 // The largest number past the counts in phase, newest, previous, writer, reader, kind and pointer.
-pub fn past(s: State) {
+pub(crate) fn past(s: State) {
     let tasks = s.tasks;
     let links = s.links;
     let phase = s.phase;
@@ -149,7 +149,7 @@ pub fn past(s: State) {
 }
 
 // What a table made.
-pub fn made(m: Made) {
+pub(crate) fn made(m: Made) {
     let s = m.state;
     byte(m.refusal);
     number(s.tasks as u64);
@@ -180,7 +180,7 @@ fn changed(before: State, after: State) {
 }
 
 // The answer to an event, and `apart` where the ways to ask differ: `event`, the event's own method, `sound`.
-pub fn answered(s: State, e: Event, step: Step) {
+pub(crate) fn answered(s: State, e: Event, step: Step) {
     let answer = step.answer;
     byte(answer.refusal);
     number(answer.value as u64);

@@ -7,12 +7,12 @@
 ghost use Prim.Native.Nat.{_≤_};
 use libc::STDIN_FILENO;
 use libc::STDOUT_FILENO;
+use recording_lines::put_refused;
 use settings::SETTINGS;
 use settings::Slot;
 use settings::Written;
 use settings::write_back;
 use settings_printout::print_migration;
-use settings_printout::print_refused;
 use text_line::Line;
 use text_line::ROOM;
 use text_line::show;
@@ -36,6 +36,12 @@ fn print_length(n: usize) {
     let mut bytes = [0u8; ROOM];
     let line = Line::empty().text(b"written").number(n as u64);
     show(line.put(&mut bytes), &bytes);
+}
+
+// Writes a refusal and its place.
+fn print_refused(refusal: u8, place: usize) {
+    let mut bytes = [0u8; ROOM];
+    show(put_refused(refusal, place, &mut bytes), &bytes);
 }
 
 // Writes what writing back answered.

@@ -1,3 +1,4 @@
 -- Laws that the proofs cite, and worked examples.
 pub mod Lengths
 pub mod Examples
+pub mod Printed

@@ -1,3 +1,4 @@
 -- What the contracts cite.
 pub mod Words
 pub mod Lines
+pub mod Printed

@@ -1,9 +1,11 @@
 // The recording of a text, written to standard output; or why there is none, a line on standard error.
 //
-// What a program writes no contract can say, so of the functions that write it is proved that they are safe and that they end. What the lines
-// hold is said by the contracts of the functions that put them, and which recording a text has by that of `make_recording`.
+// What a program writes no contract can say, so of the functions that write it is proved that they are safe, that they end, and how many bytes the
+// recording has. What the lines hold is said by the contracts of the functions that put them, and which recording a text has by that of
+// `make_recording`.
 ghost use mathlib.Core.Path.{_≡_};
 ghost use Rattle.text_line.specs.Shown.{shown, joined, Put};
+ghost use Rattle.record_printout.specs.Printed.{lengthPrinted};
 ghost use Rattle.record_printout.specs.Lines.{reason, faultLine, refusedLine, tooLongLine};
 use recording_make::make_recording;
 use text_line::Line;
@@ -80,21 +82,24 @@ fn tell_too_long() {
     show_error(put_too_long(&mut room), &room);
 }
 
-// Writes the recording of a text to standard output, or tells on standard error why there is none.
-pub fn print_recording(text: &[u8]) {
+// Writes the recording of a text to standard output, or tells on standard error why there is none: how many bytes the recording has, 0 for none.
+pub fn print_recording(text: &[u8]) -> usize
+    ensures { λ r. ⌜ r ≡ lengthPrinted (now (text .entry)) ⌝ }
+{
     if TEXT < text.len() {
         tell_too_long();
-        return;
+        return 0;
     }
     let mut out = [0u8; RECORDING];
     let made = make_recording(text, &mut out);
     if made.fault != 0 {
         tell_fault(made.line, made.fault);
-        return;
+        return 0;
     }
     if made.refusal != 0 {
         tell_refused(made.line, made.refusal, made.place);
-        return;
+        return 0;
     }
     show(made.place, &out);
+    made.place
 }

@@ -88,13 +88,22 @@ fn print_reads(s: &[u8], at: usize, events: usize, list: &[u32]) {
 }
 
 // Writes the last line of a replay: all events accepted, or the refusal and its place.
-pub fn print_end(refusal: u8, place: usize, events: usize) {
+fn print_end(refusal: u8, place: usize, events: usize) {
     let mut line = [0u8; LINE];
     if refusal == 0 {
         show(put_accepted(events, &mut line), &line);
     } else {
         show(put_refused(refusal, place, &mut line), &line);
     }
+}
+
+// Writes the last line of a replay alone. The lent list has the numbers.
+pub fn print_last(s: &[u8], out: &mut [u32])
+    ensures { λ _. ⌜ now (out .exit) ≡ listAfter (now (s .entry)) (now (out .entry)) ⌝ }
+{
+    let a = replay(s, out);
+    let t = read_table(s);
+    print_end(a.refusal, a.place, t.events);
 }
 
 // Writes what a recording says: a line for each number read, then whether it was accepted. The lent list has the numbers.

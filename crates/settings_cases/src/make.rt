@@ -6,7 +6,7 @@ const SIGN: u64 = 0x8000_0000_0000_0000;
 const INFINITE: u64 = 0x7ff0_0000_0000_0000;
 
 // The float of these bits. A NaN is made by arithmetic: what `from_bits` would make of its bits nothing says.
-pub fn float_of(bits: u64) -> f64 {
+pub(crate) fn float_of(bits: u64) -> f64 {
     if INFINITE < bits % SIGN {
         return 0.0 / 0.0;
     }

@@ -59,7 +59,7 @@ pub struct Desk {
 
 impl Desk {
     // Before a line.
-    pub fn cleared() -> Desk {
+    pub(crate) fn cleared() -> Desk {
         let nothing = Slot {
             setting: Setting::Count(0),
         };
@@ -77,7 +77,7 @@ impl Desk {
     }
 
     // One byte of the script more.
-    pub fn byte(self, c: u8) -> Desk {
+    pub(crate) fn byte(self, c: u8) -> Desk {
         if c == b'\n' {
             return self.done().ended();
         }
@@ -188,7 +188,7 @@ impl Desk {
 }
 
 // The whole script.
-pub fn play(script: &[u8]) {
+pub(crate) fn play(script: &[u8]) {
     let mut desk = Desk::cleared();
     let mut i = 0;
     while i < script.len() {

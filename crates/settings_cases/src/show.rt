@@ -13,7 +13,7 @@ pub const MOST: usize = 600;
 // What each byte of a buffer is before it is lent.
 const UNTOUCHED: u8 = 170;
 
-pub fn text(s: &[u8]) {
+pub(crate) fn text(s: &[u8]) {
     io::write_all(STDOUT_FILENO, s);
 }
 
@@ -87,7 +87,7 @@ fn zeros_from(settings: [Slot; SETTINGS], n: usize) -> bool {
 }
 
 // What a list is migrated to.
-pub fn migrated(list: &[u8]) {
+pub(crate) fn migrated(list: &[u8]) {
     let m = migrate(list);
     let settings = m.settings;
     number(m.refusal as u64);
@@ -102,7 +102,7 @@ pub fn migrated(list: &[u8]) {
 }
 
 // The first n bytes; all where there are fewer.
-pub fn first_bytes(s: &[u8], n: usize) -> &[u8] {
+pub(crate) fn first_bytes(s: &[u8], n: usize) -> &[u8] {
     if n <= s.len() {
         return &s[..n];
     }
@@ -159,7 +159,7 @@ fn lent(settings: [Slot; SETTINGS], n: usize, out: &mut [u8]) {
 }
 
 // What writing back into a buffer of so many bytes comes to, 600 at most.
-pub fn written(settings: [Slot; SETTINGS], n: usize, room: usize) {
+pub(crate) fn written(settings: [Slot; SETTINGS], n: usize, room: usize) {
     let mut out = [UNTOUCHED; MOST];
     let size = few(room, MOST);
     lent(settings, n, &mut out[..size]);

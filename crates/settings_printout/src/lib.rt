@@ -66,7 +66,7 @@ fn print_migrated(number: usize) {
 }
 
 // Writes a refusal and its place.
-pub fn print_refused(refusal: u8, place: usize) {
+fn print_refused(refusal: u8, place: usize) {
     let mut line = [0u8; LINE];
     show(put_refused(refusal, place, &mut line), &line);
 }

@@ -87,19 +87,27 @@ impl Line {
     }
 }
 
-// Writes the first n bytes of a made line to an open file, of which there are never more than its room.
-fn write_line(file: i32, n: usize, line: &[u8]) {
+// Writes the first n bytes of a made line to an open file: how many are handed over, none where the line has fewer than n.
+fn write_line(file: i32, n: usize, line: &[u8]) -> usize
+    ensures { λ r. ⌜ r ≡ fit n (length (now (line .entry))) ⌝ }
+{
     if n <= line.len() {
         io::write_all(file, &line[..n]);
+        return n;
     }
+    0
 }
 
-// Writes the first n bytes of a made line to standard output.
-pub fn show(n: usize, line: &[u8]) {
-    write_line(STDOUT_FILENO, n, line);
+// Writes the first n bytes of a made line to standard output: how many are handed over, none where the line has fewer than n.
+pub fn show(n: usize, line: &[u8]) -> usize
+    ensures { λ r. ⌜ r ≡ fit n (length (now (line .entry))) ⌝ }
+{
+    write_line(STDOUT_FILENO, n, line)
 }
 
 // The same to standard error.
-pub fn show_error(n: usize, line: &[u8]) {
-    write_line(STDERR_FILENO, n, line);
+pub fn show_error(n: usize, line: &[u8]) -> usize
+    ensures { λ r. ⌜ r ≡ fit n (length (now (line .entry))) ⌝ }
+{
+    write_line(STDERR_FILENO, n, line)
 }
