@@ -17,3 +17,6 @@ pub mod TableFaults
 pub mod Explained
 pub mod Found
 pub mod Only
+pub mod Unknown
+pub mod Cuts
+pub mod Demands

@@ -1,0 +1,57 @@
+-- The power cut, and that the replay's contract allows one answer.
+-- Assumes nothing.
+use mathlib.Core.Path.{_≡_, sym, ap, subst, _∙_}
+use mathlib.Core.List.{List}
+use Prim.Native.Nat.{ℕ, _+_, _≤_, _<_}
+use native.Mathlib.Omega.{arith}
+use lib.Dec.{ltb}
+use lib.ListN.{length, take}
+use lib.Seq.{take-all}
+use Rattle.protocol.specs.Event.{Event}
+use Rattle.protocol_state.specs.Saved.{base}
+use Rattle.byte_format.specs.Format.{encodes}
+use Rattle.byte_format.specs.Play.{Verdict, Cut}
+use Rattle.recording_format.specs.Link.{Link, listed}
+use Rattle.recording_format.specs.Event.{events}
+use Rattle.recording_format.specs.Recording.{encodeRecording, throughE}
+use Rattle.recording_core.specs.Playing.{Playing, coreOf, steppedIn}
+use Rattle.mailbox.specs.States.{stateOf}
+use Rattle.recording.specs.Answers.{replied}
+use Rattle.recording.specs.declared.Answer.{Answer}
+use Rattle.recording_demands.specs.Ensured.{Replays}
+use Rattle.recording_demands.proofs.Demands.{after-cut, as-whole}
+use Rattle.demands.specs.Recordings.{Genuine, countsOf}
+use Rattle.demands.specs.Demands.{CutShort}
+use Rattle.demands.proofs.Genuine.{genuine-core, exactly}
+use Rattle.demands.proofs.Only.{reply-parts}
+
+pub one-answer : {s out list list′ : List ℕ} {a a′ : Answer} → Replays s out a list → Replays s out a′ list′ → (a ≡ a′) × (list ≡ list′)
+one-answer said said′ = reply-parts (said .answer ∙ sym (said′ .answer))
+
+module _ {s out after ds : List ℕ} {ls : List Link} {es : List (Event ℕ)} {b : Answer} {m : ℕ} (g : Genuine s out ds ls es) (said : Replays (take m s) out b after) where
+  pub power-cut : throughE ds ls ≤ m → m < length s → CutShort s out ds ls es m b after
+  power-cut through lost =
+      let c : Cut events (steppedIn ltb) (coreOf ltb base out .start ds (listed ls)) es (throughE ds ls) m (replied b after) = after-cut (genuine-core g) m said through lost in
+      let p : b .place ≡ throughE ds ls + length (encodes events (c .whole)) = ap (λ (x : Verdict Playing). x .place) (c .says) in
+      record {
+        whole = c .whole;
+        partly = c .partly;
+        gone = c .gone;
+        all = c .all;
+        from = p;
+        inside = (omega (arith, c .from), omega (arith, c .inside));
+        refusal = ap (λ (x : Verdict Playing). x .refusal) (c .says);
+        as-whole = λ {c = d} {list} whole.
+            let e = as-whole (genuine-core g) m said through lost whole in (
+              ap (λ (x : Verdict Playing). x .refusal) e,
+              sym (ap (λ (x : Verdict Playing). stateOf (x .state .state)) e),
+              sym (ap (λ (x : Verdict Playing). x .state .counts) e),
+              sym (ap (λ (x : Verdict Playing). x .state .list) e),
+            );
+      }
+
+  pub nothing-lost : {list : List ℕ} {a : Answer} → Replays s out a list → length s ≤ m → (b .refusal ≡ 0) × (b ≡ a) × (after ≡ list)
+  nothing-lost whole all =
+      let all-there : Replays s out b after = rw (take-all m s all) at said in
+      let e = one-answer all-there whole in
+      (exactly all-there .1 (ds, (ls, (es, g))), e .0, e .1)

@@ -1,0 +1,153 @@
+-- The three demands hold, and what document 01 says besides of a whole recording.
+-- Assumes nothing.
+use mathlib.Core.Path.{_≡_, refl, sym, ap, subst, _∙_}
+use mathlib.Core.Logic.{_≢_, _↔_}
+use mathlib.Core.Bool.{Bool, true, false, cond}
+use mathlib.Core.List.{List, []}
+use Prim.Native.Nat.{ℕ}
+use borrow.Author.Tests.{eqb-true}
+use lib.Dec.{eqb, ltb}
+use Rattle.protocol.specs.Event.{Event}
+use Rattle.protocol.specs.Table.{Table}
+use Rattle.protocol_state.specs.Saved.{base, at, table}
+use Rattle.protocol_state.specs.Sound.{isSound, Sound}
+use Rattle.protocol_state.specs.Fresh as state
+use Rattle.protocol_state.specs.Fresh.{made}
+use Rattle.protocol_state.specs.Rules.{judgedTable}
+use Rattle.protocol_state.specs.Give.{give}
+use Rattle.protocol_state.proofs.Sound.{sound-says, says-sound}
+use Rattle.protocol_state.proofs.Give.{give-refusal, give-unsound, refused-same}
+use Rattle.recording_core.specs.Promise.{past}
+use Rattle.recording_demands.proofs.Contract.{learnt-ensured}
+use Rattle.mailbox_demands.proofs.Contract.{fresh-learnt, arrival-learnt, start-learnt, read-learnt, finish-learnt, event-learnt}
+use Rattle.mailbox.specs.States.{saved, stateOf, stepOf}
+use Rattle.mailbox.specs.declared.State.{State}
+use Rattle.mailbox.specs.declared.Step.{Step}
+use Rattle.mailbox.specs.declared.Made.{Made}
+use Rattle.demands.specs.Station.{Keeps, tasksOf, linksOf}
+use Rattle.demands.specs.Calls.{Makes, Gives, Calls}
+use Rattle.demands.specs.Refusals.{Earns, TableEarns, EventBreaks, byHistory, byPhases}
+use Rattle.demands.specs.Refusals as refusals
+use Rattle.demands.specs.Contracts.{AsksNothing, Tells}
+use Rattle.demands.specs.Demands.{asLent, Demand1, Demand2, Demand3, Recordings}
+use Rattle.demands.proofs.Earned.{earns-exactly}
+use Rattle.demands.proofs.TableEarned.{judged-table-earned, table-earns-one, arrays-judged}
+use Rattle.demands.proofs.Events.{phases-earned, judged-earned}
+use Rattle.demands.proofs.Runs.{calls-refusal, calls-event, calls-published, calls-no-time, calls-direct, calls-delayed, calls-finished}
+use Rattle.demands.proofs.Course.{one-course}
+use Rattle.demands.proofs.Replays.{keeps-of}
+use Rattle.demands.proofs.Genuine.{one-reading, exactly, accepted-calls}
+use Rattle.demands.proofs.Explained.{every-answer}
+use Rattle.demands.proofs.Only.{only, totals}
+use Rattle.demands.proofs.Unknown.{unknown-event, unknown-link}
+use Rattle.demands.proofs.Cuts.{one-answer, power-cut, nothing-lost}
+
+asks-nothing : AsksNothing
+asks-nothing = record {
+  replay = λ κs lent. tt;
+  fresh = λ κs lent. tt;
+  arrival = λ κs lent. tt;
+  start = λ κs lent. tt;
+  read = λ κs lent. tt;
+  finish = λ κs lent. tt;
+  event = λ κs lent. tt;
+}
+
+-- what a caller learns of each call is what the demands take of it
+pub tells : Tells
+tells = record {
+  replay = λ κs lent a left learnt. learnt-ensured κs lent a left learnt;
+  fresh = λ κs lent m left learnt. fresh-learnt κs lent m left learnt .0;
+  arrival = λ κs lent r left learnt. arrival-learnt κs lent r left learnt .0;
+  start = λ κs lent r left learnt. start-learnt κs lent r left learnt .0;
+  read = λ κs lent r left learnt. read-learnt κs lent r left learnt .0;
+  finish = λ κs lent r left learnt. finish-learnt κs lent r left learnt .0;
+  event = λ κs lent r left learnt. event-learnt κs lent r left learnt .0;
+}
+
+-- ---- a table
+-- the refusal of what a table makes is what the table is judged
+made-refusal : (T L : ℕ) (D W R K : List ℕ) → made ltb base T L D W R K .refusal ≡ judgedTable ltb T (at W) (at R) (at K) base L
+unfolding made
+made-refusal T L D W R K = go (eqb (judgedTable ltb T (at W) (at R) (at K) base L) 0) refl
+  where
+    go : (b : Bool) → eqb (judgedTable ltb T (at W) (at R) (at K) base L) 0 ≡ b
+        → cond {A = state.Made} b (record { refusal = 0; state = state.freshOf base T L D W R K })
+        (record { refusal = judgedTable ltb T (at W) (at R) (at K) base L; state = state.single base }) .refusal ≡ judgedTable ltb T (at W) (at R) (at K) base L
+    go true e = sym (eqb-true _ 0 e)
+    go false e = refl
+
+module _ (T L : ℕ) (D W R K : List ℕ) (m : Made) (said : Makes T L D W R K m) where
+  refusal-is : m .refusal ≡ judgedTable ltb T (at W) (at R) (at K) base L
+  refusal-is = ap (λ (x : Made). x .refusal) said ∙ made-refusal T L D W R K
+
+  table-number : (n : ℕ) → (m .refusal ≡ n) ↔ TableEarns (tasksOf T D) (linksOf L W R K) n
+  table-number n =
+      let e = refusal-is ∙ arrays-judged T L D W R K in (
+        λ z. subst (λ (k : ℕ). TableEarns (tasksOf T D) (linksOf L W R K) k) (sym e ∙ z) (judged-table-earned (tasksOf T D) (linksOf L W R K)),
+        λ t. e ∙ sym (table-earns-one (tasksOf T D) (linksOf L W R K) t),
+      )
+
+  table-kept : (m .refusal ≡ 0) ↔ Keeps (tasksOf T D) (linksOf L W R K)
+  table-kept = (
+    λ z. keeps-of (tasksOf T D) (linksOf L W R K) (sym (arrays-judged T L D W R K) ∙ sym refusal-is ∙ z),
+    λ k. table-number 0 .1 (refusals.kept k),
+  )
+
+-- ---- an event given to any state
+module _ (q : State) (e : Event ℕ) (r : Step) (call : Gives q e r) where
+  event-number : Sound ltb base (saved q) → (n : ℕ) → (r .answer .refusal ≡ n) ↔ Earns (EventBreaks (table ltb (saved q)) (byPhases (saved q)) e) n
+  event-number S = earns-exactly (ap (λ (x : Step). x .answer .refusal) call ∙ give-refusal ltb base (saved q) e (says-sound ltb base (saved q) S)) (phases-earned (saved q) S e)
+
+  unknown-state : (Sound ltb base (saved q) → ⊥) → r ≡ asLent q 19
+  unknown-state n = call ∙ ap stepOf (give-unsound ltb base (saved q) e (go (isSound ltb base (saved q)) refl))
+    where
+      go : (b : Bool) → isSound ltb base (saved q) ≡ b → isSound ltb base (saved q) ≡ false
+      go true i = absurd (n (sound-says ltb base (saved q) i))
+      go false i = i
+
+  unchanged : r .answer .refusal ≢ 0 → r ≡ asLent q (r .answer .refusal)
+  unchanged n =
+      let i : give ltb base (saved q) e .refusal ≢ 0 = λ z. n (ap (λ (x : Step). x .answer .refusal) call ∙ z) in
+      let u = refused-same ltb base (saved q) e i in
+      λ j. record {
+        state = (ap (λ (x : Step). x .state) call ∙ ap stateOf (u .0)) j;
+        answer = record { refusal = r .answer .refusal; value = (ap (λ (x : Step). x .answer .value) call ∙ u .1) j };
+      }
+
+-- after any calls
+number-there : {T : Table ℕ} {es : List (Event ℕ)} {ns : List ℕ} {q : State} → Calls T es ns q → (e : Event ℕ) (r : Step) → Gives q e r
+    → (n : ℕ) → (r .answer .refusal ≡ n) ↔ Earns (EventBreaks T (byHistory (past [] es)) e) n
+number-there {T} {es} c e r call = earns-exactly (calls-refusal c e r call) (judged-earned T (past [] es) e)
+
+-- ---- the theorems
+pub demand-1 : Demand1
+demand-1 = record {
+  asks = asks-nothing;
+  unknown-state = unknown-state;
+  unknown-event = unknown-event;
+  unknown-link = unknown-link;
+  table-number = table-number;
+  event-number = event-number;
+  number-there = number-there;
+  place = every-answer;
+  only = only;
+  unchanged = unchanged;
+}
+
+pub demand-2 : Demand2
+demand-2 = record {
+  recording = exactly;
+  one-reading = one-reading;
+  table = table-kept;
+  event = calls-event;
+  protocol = calls-published;
+  replayed = accepted-calls;
+  one-course = one-course;
+}
+
+pub demand-3 : Demand3
+demand-3 = record { recordings = every-answer; no-time = calls-no-time; direct = calls-direct; delayed = calls-delayed; finished = calls-finished }
+
+pub recordings : Recordings
+recordings = record { totals = totals; power-cut = power-cut; nothing-lost = λ g a b all. nothing-lost g b a all; one-answer = one-answer }
