@@ -3,12 +3,13 @@
 -- Assumes nothing.
 use mathlib.Core.Path.{_≡_, refl, sym, ap, _∙_}
 use mathlib.Core.Bool.{Bool, true, false, cond, _&&_, _||_}
+use mathlib.Core.List.{List}
 use Prim.Native.Nat.{ℕ, zero, suc, _+_, _-_, _*_, _/_, _%_, _^_, _≤_, _<_, min}
 use native.Mathlib.Nat.{mod-lt, one-mul, zero-mul}
 use native.Mathlib.Omega.{arith}
-use borrow.Author.Tests.{eqb-true, ne-eqb, leb-true, leb-false, lt-ltb}
+use borrow.Author.Tests.{eqb-true, ne-eqb, leb-true, leb-false}
 use lib.Bits.{bitOr, or-shr, or-mod}
-use lib.Dec.{eqb, leb, ltb}
+use lib.Dec.{eqb, leb}
 use lib.Pow.{field, mod-mod-pow, shl-exact, shr-shr}
 use mir.Val.{boolByte}
 use Rattle.lists.specs.Lists.{every, first}
@@ -16,9 +17,9 @@ use Rattle.lists.proofs.Lists.{every-at}
 use Rattle.lists.proofs.Search.{first-from, first-same, first-less}
 use Rattle.protocol.specs.Event.{has}
 use Rattle.protocol.proofs.Schedule.{has-not}
-use Rattle.protocol_state.specs.Saved.{positions}
+use Rattle.protocol_state.specs.Saved.{at, positions}
 use Rattle.mailbox_free.specs.Marks.{lastBit, markOf}
-use Rattle.mailbox_free.specs.Pattern.{patterns, takenIn, lowestIn}
+use Rattle.mailbox_free.specs.Pattern.{patterns, takenIn, lowestIn, AllLowest}
 
 -- ---- two words in one
 or-digit : (x y : ℕ) → x < 2 → y < 2 → eqb (bitOr x y) 1 ≡ (eqb x 1 || eqb y 1)
@@ -100,10 +101,10 @@ unmarked a =
           let h : positions < all = leb-false _ _ e in
           omega arith
 
--- what the code answers with, of what the table answered
-pub answered : (a r : ℕ) → r ≡ cond (ltb (a / 2 % patterns) patterns) (lowestIn (a / 2 % patterns)) 0 → cond (eqb r 0) positions r ≡ first (has a) 9 1
-answered a r e =
-    let s : r ≡ lowestIn (a / 2 % patterns) = e ∙ rw (lt-ltb (a / 2 % patterns) patterns (mod-lt (a / 2) (omega arith))) in
+-- what the code answers with, of what the table has at the pattern
+pub answered : {t : List ℕ} (a : ℕ) → AllLowest t → cond (eqb (at t (a / 2 % patterns)) 0) positions (at t (a / 2 % patterns)) ≡ first (has a) 9 1
+answered a right =
+    let s = right .entry (a / 2 % patterns) (mod-lt (a / 2) (omega arith)) in
     rw s (unmarked a)
 
 -- ---- a mark as the code makes it: 1 or 0, shifted

@@ -2,11 +2,12 @@
 -- Assumes nothing.
 use mathlib.Core.Path.{_≡_}
 use mathlib.Core.Bool.{Bool, true, false, cond}
+use mathlib.Core.List.{List}
 use Prim.Native.Nat.{ℕ, _-_, _^_, _≤_, _<_}
 use lib.Dec.{leb}
 use Rattle.lists.specs.Lists.{first}
 use Rattle.protocol.specs.Event.{has}
-use Rattle.protocol_state.specs.Saved.{positions}
+use Rattle.protocol_state.specs.Saved.{at, positions}
 
 -- how many patterns there are
 abbrev pub patterns : ℕ
@@ -34,3 +35,7 @@ pub record LeftFree (k p : ℕ) : Type 0 where
   pub upto : p ≤ positions
   pub free : takenIn k p ≡ false
   pub before : TakenBefore k p
+
+-- at each pattern the table t has the lowest position that the pattern leaves free, 0 for the full one
+pub record AllLowest (t : List ℕ) : Type 0 where
+  pub entry : (k : ℕ) → k < patterns → at t k ≡ lowestIn k

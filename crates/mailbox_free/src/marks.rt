@@ -5,8 +5,8 @@ ghost use Prim.Native.Nat.{min};
 ghost use Rattle.lists.specs.Lists.{first};
 ghost use Rattle.protocol.specs.Event.{has};
 ghost use Rattle.mailbox_free.specs.Marks.{lastBit, markOf};
+ghost use Rattle.mailbox_free.specs.Pattern.{AllLowest};
 use crate::table::PATTERNS;
-use crate::table::lowest_in;
 use mailbox_base::numbers::POSITIONS;
 use mailbox_base::numbers::pick;
 
@@ -31,10 +31,10 @@ pub fn mark(b: bool, p: u8) -> u16
 }
 
 // The lowest position without a mark; the tenth where the nine before it have one, whether it has or not. Bit `p` of the marks is bit
-// `p` - 1 of the pattern.
-pub fn lowest_unmarked(marks: u16) -> u8
-    ensures { λ r. ⌜ r ≡ first (has marks) 9 1 ⌝ }
+// `p` - 1 of the pattern. What is lent is the table; of any other array only a number is promised.
+pub fn lowest_unmarked(lowest: &[u8; PATTERNS], marks: u16) -> u8
+    ensures { λ r. ⌜ (AllLowest (now (lowest .entry)) → r ≡ first (has marks) 9 1) ⌝ }
 {
-    let p = lowest_in(marks / 2 % PATTERNS);
+    let p = lowest[marks as usize / 2 % PATTERNS];
     pick(p == 0, TENTH, p)
 }

@@ -1,4 +1,4 @@
--- `mailbox_free::marks::lowest_unmarked` meets its contract: what the table says of the pattern.
+-- `mailbox_free::marks::lowest_unmarked` meets its contract: what the table has at the pattern.
 -- Assumes nothing.
 use mathlib.Core.Path.{_∙_}
 use borrow.Author.Needs.{needs}
@@ -6,14 +6,14 @@ use Rattle.mailbox_free.proofs.Marked.{answered}
 use Rattle.mailbox_free.proofs.marks.lowest_unmarked.Statement.{statement}
 use Rattle.mailbox_free.proofs.marks.lowest_unmarked.Tie as tie
 
-lowest-in-requires : tie.Need-lowest-in-requires
-lowest-in-requires c κs = search needs
+element-copy-out-p : tie.Need-element-copy-out-p
+element-copy-out-p c = search needs
 
 pick-requires : tie.Need-pick-requires
 pick-requires c κs = search needs
 
 returns : tie.Need-returns
-returns c = c .pick .ensures ∙ answered _ _ (c .before .lowest-in .ensures)
+returns c right = c .pick .ensures ∙ answered _ right
 
 pub lowest-unmarked-spec : {M : Type 1} → statement M
-lowest-unmarked-spec = tie.close (tie.spec lowest-in-requires pick-requires returns)
+lowest-unmarked-spec = tie.close (tie.spec element-copy-out-p pick-requires returns)
