@@ -9,6 +9,7 @@ ghost use Rattle.protocol.specs.Event.{has};
 ghost use Rattle.protocol.specs.Free.{holds, lowestFree};
 ghost use Rattle.protocol_state.specs.Next.{aimed, pointerAt};
 ghost use Rattle.mailbox_free.specs.Marks.{lastBit};
+ghost use Rattle.mailbox_free.specs.Pattern.{AllLowest};
 ghost use Rattle.mailbox_arrival.specs.Arrives.{Moves, Moved, Arrives};
 use lists::few;
 use mailbox_base::decision::ARRIVAL;
@@ -20,6 +21,7 @@ use mailbox_base::numbers::has;
 use mailbox_base::numbers::pick;
 use mailbox_free::marks::lowest_unmarked;
 use mailbox_free::marks::mark;
+use mailbox_free::table::PATTERNS;
 
 // Whether a link with this writer and reader is one of task `t`'s to readers behind.
 fn is_behind(w: u8, r: u8, t: u8) -> bool
@@ -79,6 +81,7 @@ fn held_marks(
 // The lowest free position of task `t`, whose newest is `x`. Mostly no link holds the lowest position other than `x`, and one look at the
 // links shows it; else it is looked up. Where the links keep the rules at most nine of ten positions are taken, so the tenth needs no test.
 fn lowest_free(
+    lowest: &[u8; PATTERNS],
     writer: &[u8; LINKS],
     reader: &[u8; LINKS],
     pointer: &[u8; LINKS],
@@ -87,18 +90,22 @@ fn lowest_free(
     x: u8,
 ) -> u8
     requires { ⌜ links ≤ base .links ⌝ }
-    ensures { λ r. ⌜ r ≡ lowestFree ltb (at (now (writer .entry))) (at (now (reader .entry))) (at (now (pointer .entry))) links t x ⌝ }
+    ensures { λ r. ⌜ (AllLowest (now (lowest .entry)) → r ≡ lowestFree ltb (at (now (writer .entry))) (at (now (reader .entry))) (at (now (pointer .entry))) links t x) ⌝ }
 {
     let next = pick(x == 1, 2, 1);
     if !held(writer, reader, pointer, links, t, next) {
         return next;
     }
-    lowest_unmarked(mark(true, x) | held_marks(writer, reader, pointer, links, t))
+    lowest_unmarked(
+        lowest,
+        mark(true, x) | held_marks(writer, reader, pointer, links, t),
+    )
 }
 
 // The writers' part for task `t`, where it is in the set: its newest position becomes its previous, its lowest free one its newest,
 // and it is waiting.
 fn move_task(
+    lowest: &[u8; PATTERNS],
     set: u32,
     t: usize,
     links: usize,
@@ -110,19 +117,20 @@ fn move_task(
     previous: &mut [u8; TASKS],
 )
     requires { ⌜ (t < base .tasks) × (links ≤ base .links) ⌝ }
-    ensures { λ _. ⌜ Moves set t links (now (writer .entry)) (now (reader .entry)) (now (pointer .entry)) (now (phase .entry)) (now (newest .entry)) (now (previous .entry)) (now (phase .exit)) (now (newest .exit)) (now (previous .exit)) ⌝ }
+    ensures { λ _. ⌜ (AllLowest (now (lowest .entry)) → Moves set t links (now (writer .entry)) (now (reader .entry)) (now (pointer .entry)) (now (phase .entry)) (now (newest .entry)) (now (previous .entry)) (now (phase .exit)) (now (newest .exit)) (now (previous .exit))) ⌝ }
 {
     if !has(set, t) {
         return;
     }
     let x = newest[t];
     previous[t] = x;
-    newest[t] = lowest_free(writer, reader, pointer, links, t as u8, x);
+    newest[t] = lowest_free(lowest, writer, reader, pointer, links, t as u8, x);
     phase[t] = decide(ARRIVAL, phase[t]);
 }
 
 // The writers' part: each task of the set moves.
 fn move_tasks(
+    lowest: &[u8; PATTERNS],
     set: u32,
     tasks: usize,
     links: usize,
@@ -134,11 +142,12 @@ fn move_tasks(
     previous: &mut [u8; TASKS],
 )
     requires { ⌜ (tasks ≤ base .tasks) × (links ≤ base .links) ⌝ }
-    ensures { λ _. ⌜ Moved set tasks links (now (writer .entry)) (now (reader .entry)) (now (pointer .entry)) (now (phase .entry)) (now (newest .entry)) (now (previous .entry)) (now (phase .exit)) (now (newest .exit)) (now (previous .exit)) ⌝ }
+    ensures { λ _. ⌜ (AllLowest (now (lowest .entry)) → Moved set tasks links (now (writer .entry)) (now (reader .entry)) (now (pointer .entry)) (now (phase .entry)) (now (newest .entry)) (now (previous .entry)) (now (phase .exit)) (now (newest .exit)) (now (previous .exit))) ⌝ }
 {
     let mut t = 0;
     while t < tasks {
         move_task(
+            lowest,
             set,
             t,
             links,
@@ -202,7 +211,9 @@ fn set_pointers(
 }
 
 // An arrival that is allowed. The order matters: the readers' part comes after the writers'. Counts above the room are taken as the room.
+// `lowest` is the table of free positions, lent because a constant would be filled anew at each use; of any other array nothing is said.
 pub fn arrive(
+    lowest: &[u8; PATTERNS],
     set: u32,
     tasks: usize,
     links: usize,
@@ -214,10 +225,11 @@ pub fn arrive(
     previous: &mut [u8; TASKS],
     pointer: &mut [u8; LINKS],
 )
-    ensures { λ _. ⌜ Arrives set (min tasks (base .tasks)) (min links (base .links)) (now (writer .entry)) (now (reader .entry)) (now (kind .entry)) (now (phase .entry)) (now (newest .entry)) (now (previous .entry)) (now (pointer .entry)) (now (phase .exit)) (now (newest .exit)) (now (previous .exit)) (now (pointer .exit)) ⌝ }
+    ensures { λ _. ⌜ (AllLowest (now (lowest .entry)) → Arrives set (min tasks (base .tasks)) (min links (base .links)) (now (writer .entry)) (now (reader .entry)) (now (kind .entry)) (now (phase .entry)) (now (newest .entry)) (now (previous .entry)) (now (pointer .entry)) (now (phase .exit)) (now (newest .exit)) (now (previous .exit)) (now (pointer .exit))) ⌝ }
 {
     let n = few(links, LINKS);
     move_tasks(
+        lowest,
         set,
         few(tasks, TASKS),
         n,

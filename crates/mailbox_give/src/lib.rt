@@ -4,6 +4,7 @@ use mailbox_base::numbers::CELLS;
 use mailbox_base::numbers::LINKS;
 use mailbox_base::numbers::TASKS;
 use mailbox_checks::sound::is_sound;
+use mailbox_free::table::lowest_table;
 use mailbox_parts::event::Event;
 use mailbox_parts::event::do_event;
 use mailbox_parts::event::judge;
@@ -45,7 +46,9 @@ pub fn give(
         return refusal;
     }
     *number = value_of(e, writer, pointer, cells);
+    let lowest = lowest_table();
     do_event(
+        &lowest,
         e,
         tasks,
         links,

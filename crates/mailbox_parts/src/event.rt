@@ -5,6 +5,7 @@ ghost use lib.Dec.{ltb};
 ghost use Rattle.protocol_state.specs.Saved.{at, base};
 ghost use Rattle.protocol_state.specs.Judge.{judgedEvent};
 ghost use Rattle.protocol_state.specs.Next.{valueBy};
+ghost use Rattle.mailbox_free.specs.Pattern.{AllLowest};
 ghost use Rattle.mailbox_parts.specs.Plain.{plain};
 ghost use Rattle.mailbox_parts.specs.Becomes.{Becomes};
 use crate::finish::advance;
@@ -16,6 +17,7 @@ use mailbox_base::decision::START;
 use mailbox_base::numbers::CELLS;
 use mailbox_base::numbers::LINKS;
 use mailbox_base::numbers::TASKS;
+use mailbox_free::table::PATTERNS;
 use mailbox_judge::judge_arrival;
 use mailbox_judge::judge_read;
 use mailbox_judge::judge_task;
@@ -52,8 +54,9 @@ pub fn value_of(e: Event, writer: &[u8; LINKS], pointer: &[u8; LINKS], cells: &[
     }
 }
 
-// What an event that is allowed makes of the parts.
+// What an event that is allowed makes of the parts. It is said where the table of free positions is lent; `arrive` has the reason.
 pub fn do_event(
+    lowest: &[u8; PATTERNS],
     e: Event,
     tasks: usize,
     links: usize,
@@ -66,10 +69,11 @@ pub fn do_event(
     cells: &mut [u32; CELLS],
     pointer: &mut [u8; LINKS],
 )
-    ensures { λ _. ⌜ Becomes e (min tasks (base .tasks)) (min links (base .links)) (now (writer .entry)) (now (reader .entry)) (now (kind .entry)) (now (phase .entry)) (now (newest .entry)) (now (previous .entry)) (now (cells .entry)) (now (pointer .entry)) (now (phase .exit)) (now (newest .exit)) (now (previous .exit)) (now (cells .exit)) (now (pointer .exit)) ⌝ }
+    ensures { λ _. ⌜ (AllLowest (now (lowest .entry)) → Becomes e (min tasks (base .tasks)) (min links (base .links)) (now (writer .entry)) (now (reader .entry)) (now (kind .entry)) (now (phase .entry)) (now (newest .entry)) (now (previous .entry)) (now (cells .entry)) (now (pointer .entry)) (now (phase .exit)) (now (newest .exit)) (now (previous .exit)) (now (cells .exit)) (now (pointer .exit))) ⌝ }
 {
     match e {
         Event::Arrival(set) => arrive(
+            lowest,
             set,
             tasks,
             links,

@@ -17,10 +17,10 @@ set-pointers-requires : tie.Need-set-pointers-requires
 set-pointers-requires c κs = search needs
 
 returns : tie.Need-returns
-returns c =
+returns c right =
     let m = c .before .before .before .before in
     rw (← m .before .before .before .before .before .before .few .ensures, ← m .before .before .before .before .before .few2 .ensures)
-    (record { moved = m .move-tasks .ensures; pointer = c .set-pointers .ensures })
+    (record { moved = m .move-tasks .ensures right; pointer = c .set-pointers .ensures })
 
 pub arrive-spec : {M : Type 1} → statement M
 arrive-spec =

@@ -25,7 +25,7 @@ held-requires : tie.Need-held-requires
 held-requires c κs = search needs
 
 returns : tie.Need-returns
-returns c =
+returns c right =
     let a = c .before .before .before .args in
     let taken : ℕ → Bool = λ (p : ℕ). some (holds ltb (at (a .writer .now)) (at (a .reader .now)) (at (a .pointer .now)) (a .t) p) (a .links) in
     c .before .before .pick .ensures
@@ -41,9 +41,9 @@ lowest-unmarked-requires : tie.Need-lowest-unmarked-requires
 lowest-unmarked-requires c κs = search needs
 
 returns-2 : tie.Need-returns-2
-returns-2 c =
+returns-2 c right =
     let x = c .before .before .before .before .before .before .args .x in
-    c .lowest-unmarked .ensures
+    c .lowest-unmarked .ensures right
     ∙ first-same _ _ 9 1
     (λ p l h. has-or _ _ p
     ∙ ap₂ _||_

@@ -9,7 +9,7 @@ has-requires : tie.Need-has-requires
 has-requires c κs = search needs
 
 returns : tie.Need-returns
-returns c = stays _ (c .before .has .ensures) (c .if1 .taken)
+returns c right = stays _ (c .before .has .ensures) (c .if1 .taken)
 
 element-copy-out-x : tie.Need-element-copy-out-x
 element-copy-out-x c = search needs
@@ -36,8 +36,8 @@ element-write-phase : tie.Need-element-write-phase
 element-write-phase c = search needs
 
 returns-2 : tie.Need-returns-2
-returns-2 c =
-    moves _ (c .before .before .before .before .before .has .ensures) (c .before .before .before .before .if1 .left) (c .before .before .lowest-free .ensures)
+returns-2 c right =
+    moves _ (c .before .before .before .before .before .has .ensures) (c .before .before .before .before .if1 .left) (c .before .before .lowest-free .ensures right)
     (c .decide .ensures)
 
 pub move-task-spec : {M : Type 1} → statement M

@@ -3,20 +3,21 @@
 use Prim.Native.Nat.{_≤_, _-_}
 use native.Mathlib.Omega.{arith}
 use borrow.Author.Needs.{needs}
+use Rattle.mailbox_free.specs.Pattern.{AllLowest}
 use Rattle.mailbox_arrival.specs.Arrives.{Moved}
 use Rattle.mailbox_arrival.proofs.Moves.{moved-none, moved-more, moved-end}
 use Rattle.mailbox_arrival.proofs.move_tasks.Statement.{statement}
 use Rattle.mailbox_arrival.proofs.move_tasks.Tie as tie
 
 abbrev Inv-loop : tie.InvT-loop
-Inv-loop set tasks links writer reader pointer phase₀ newest₀ previous₀ t₀ phase newest previous t =
-    (t ≤ tasks) × Moved set t links writer reader pointer phase₀ newest₀ previous₀ phase newest previous
+Inv-loop lowest set tasks links writer reader pointer phase₀ newest₀ previous₀ t₀ phase newest previous t =
+    (t ≤ tasks) × (AllLowest lowest → Moved set t links writer reader pointer phase₀ newest₀ previous₀ phase newest previous)
 
 abbrev μ-loop : tie.MeasureT-loop
-μ-loop set tasks links writer reader pointer phase₀ newest₀ previous₀ t₀ phase newest previous t = tasks - t
+μ-loop lowest set tasks links writer reader pointer phase₀ newest₀ previous₀ t₀ phase newest previous t = tasks - t
 
 loop-holds : tie.Need-loop-holds Inv-loop μ-loop
-loop-holds c = (omega arith, moved-none)
+loop-holds c = (omega arith, λ right. moved-none)
 
 move-task-requires : tie.Need-move-task-requires Inv-loop μ-loop
 move-task-requires c κs = search needs
@@ -28,10 +29,10 @@ loop-less : tie.Need-loop-less Inv-loop μ-loop
 loop-less c = omega arith
 
 loop-again : tie.Need-loop-again Inv-loop μ-loop
-loop-again c = (omega arith, moved-more (c .before .before .before .before .before .loop .inv .1) (c .move-task .ensures))
+loop-again c = (omega arith, λ right. moved-more (c .before .before .before .before .before .loop .inv .1 right) (c .move-task .ensures right))
 
 returns : tie.Need-returns Inv-loop μ-loop
-returns c = moved-end (c .before .loop .inv .0) (c .loop-test .left) (c .before .loop .inv .1)
+returns c right = moved-end (c .before .loop .inv .0) (c .loop-test .left) (c .before .loop .inv .1 right)
 
 pub move-tasks-spec : {M : Type 1} → statement M
 move-tasks-spec =

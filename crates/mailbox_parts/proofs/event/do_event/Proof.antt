@@ -27,16 +27,16 @@ finish-requires : tie.Need-finish-requires
 finish-requires c κs = search needs
 
 returns : tie.Need-returns
-returns c = becomes-arrival (c .before .before .before .before .before .before .e .given .1) (c .arrive .ensures)
+returns c right = becomes-arrival (c .before .before .before .before .before .before .e .given .1) (c .arrive .ensures right)
 
 returns-2 : tie.Need-returns-2
-returns-2 c = becomes-start (c .before .before .before .e2 .given .1) (c .advance .ensures)
+returns-2 c right = becomes-start (c .before .before .before .e2 .given .1) (c .advance .ensures)
 
 returns-3 : tie.Need-returns-3
-returns-3 c = becomes-read (c .enum-told .given .1)
+returns-3 c right = becomes-read (c .enum-told .given .1)
 
 returns-4 : tie.Need-returns-4
-returns-4 c = becomes-finish (c .before .before .before .before .before .before .e3 .given .1) (c .finish .ensures)
+returns-4 c right = becomes-finish (c .before .before .before .before .before .before .e3 .given .1) (c .finish .ensures)
 
 pub do-event-spec : {M : Type 1} → statement M
 do-event-spec =
