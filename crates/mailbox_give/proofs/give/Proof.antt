@@ -30,21 +30,25 @@ returns-2 c =
 value-of-requires : tie.Need-value-of-requires
 value-of-requires c κs = search needs
 
+lowest-table-requires : tie.Need-lowest-table-requires
+lowest-table-requires c κs = search needs
+
 do-event-requires : tie.Need-do-event-requires
 do-event-requires c κs = search needs
 
 returns-3 : tie.Need-returns-3
 returns-3 c =
-    let v = c .before .before .before .before .before .before in
+    let t = c .before .before .before .before .before .before .before in
+    let v = t .before in
     let j = v .before .before .before in
     let d = j .before .before .before in
     let a = d .before .before .before .before .before .before .args in
     let s = passed (d .before .is-sound .ensures) (d .if1 .left) in
     let room = sound-room _ _ _ _ _ _ _ _ _ _ _ s in
     let k = judged-within room (plain (a .e)) (at (a .reader .now)) (at (a .phase .now)) (j .before .judge .ensures) in
-    given-done s k (j .if2 .left) (v .value-of .ensures) (becomes-within room (c .do-event .ensures))
+    given-done s k (j .if2 .left) (v .value-of .ensures) (becomes-within room (c .do-event .ensures (t .lowest-table .ensures)))
 
 pub give-spec : {M : Type 1} → statement M
 give-spec =
     tie.close
-    (tie.spec is-sound-requires returns judge-requires returns-2 value-of-requires do-event-requires returns-3)
+    (tie.spec is-sound-requires returns judge-requires returns-2 value-of-requires lowest-table-requires do-event-requires returns-3)
