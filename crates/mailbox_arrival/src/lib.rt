@@ -211,7 +211,7 @@ fn set_pointers(
 }
 
 // An arrival that is allowed. The order matters: the readers' part comes after the writers'. Counts above the room are taken as the room.
-// `lowest` is the table of free positions, lent because a constant would be filled anew at each use; of any other array nothing is said.
+// `lowest` is the table of free positions, which is lent so that it is not made anew at each arrival; of any other array nothing is said.
 pub fn arrive(
     lowest: &[u8; PATTERNS],
     set: u32,

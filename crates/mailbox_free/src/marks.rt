@@ -31,7 +31,7 @@ pub fn mark(b: bool, p: u8) -> u16
 }
 
 // The lowest position without a mark; the tenth where the nine before it have one, whether it has or not. Bit `p` of the marks is bit
-// `p` - 1 of the pattern. What is lent is the table; of any other array only a number is promised.
+// `p` - 1 of the pattern. `lowest` is the table of free positions; of any other array that may be lent nothing is said.
 pub fn lowest_unmarked(lowest: &[u8; PATTERNS], marks: u16) -> u8
     ensures { λ r. ⌜ (AllLowest (now (lowest .entry)) → r ≡ first (has marks) 9 1) ⌝ }
 {
