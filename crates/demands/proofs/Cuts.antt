@@ -1,7 +1,7 @@
 -- The power cut, and that the replay's contract allows one answer.
 -- Assumes nothing.
 use mathlib.Core.Path.{_≡_, sym, ap, subst, _∙_}
-use mathlib.Core.List.{List}
+use mathlib.Core.List.{List, [], _∷_, append-nil}
 use Prim.Native.Nat.{ℕ, _+_, _≤_, _<_}
 use native.Mathlib.Omega.{arith}
 use lib.Dec.{ltb}
@@ -20,13 +20,18 @@ use Rattle.recording.specs.Answers.{replied}
 use Rattle.recording.specs.declared.Answer.{Answer}
 use Rattle.recording_demands.specs.Ensured.{Replays}
 use Rattle.recording_demands.proofs.Demands.{after-cut, as-whole}
-use Rattle.demands.specs.Recordings.{Genuine, countsOf}
+use Rattle.demands.specs.Recordings.{eventBytes, Genuine}
 use Rattle.demands.specs.Demands.{CutShort}
 use Rattle.demands.proofs.Genuine.{genuine-core, exactly}
 use Rattle.demands.proofs.Only.{reply-parts}
 
 pub one-answer : {s out list list′ : List ℕ} {a a′ : Answer} → Replays s out a list → Replays s out a′ list′ → (a ≡ a′) × (list ≡ list′)
 one-answer said said′ = reply-parts (said .answer ∙ sym (said′ .answer))
+
+-- the bytes of one event
+one-event : (e : Event ℕ) → length (eventBytes (e ∷ [])) ≡ length (events .encode e)
+unfolding encodes
+one-event e = ap length (append-nil (events .encode e))
 
 module _ {s out after ds : List ℕ} {ls : List Link} {es : List (Event ℕ)} {b : Answer} {m : ℕ} (g : Genuine s out ds ls es) (said : Replays (take m s) out b after) where
   pub power-cut : throughE ds ls ≤ m → m < length s → CutShort s out ds ls es m b after
@@ -39,7 +44,7 @@ module _ {s out after ds : List ℕ} {ls : List Link} {es : List (Event ℕ)} {b
         gone = c .gone;
         all = c .all;
         from = p;
-        inside = (omega (arith, c .from), omega (arith, c .inside));
+        inside = (omega (arith, c .from), omega (arith, c .inside, one-event (c .partly)));
         refusal = ap (λ (x : Verdict Playing). x .refusal) (c .says);
         as-whole = λ {c = d} {list} whole.
             let e = as-whole (genuine-core g) m said through lost whole in (

@@ -9,8 +9,8 @@ use borrow.Author.Tests.{eqb-true}
 use lib.Dec.{eqb, ltb}
 use Rattle.protocol.specs.Event.{Event}
 use Rattle.protocol.specs.Table.{Table}
-use Rattle.protocol_state.specs.Saved.{base, at, table}
-use Rattle.protocol_state.specs.Sound.{isSound, Sound}
+use Rattle.protocol_state.specs.Saved.{base, at}
+use Rattle.protocol_state.specs.Sound.{isSound}
 use Rattle.protocol_state.specs.Fresh as state
 use Rattle.protocol_state.specs.Fresh.{made}
 use Rattle.protocol_state.specs.Rules.{judgedTable}
@@ -25,8 +25,9 @@ use Rattle.mailbox.specs.declared.State.{State}
 use Rattle.mailbox.specs.declared.Step.{Step}
 use Rattle.mailbox.specs.declared.Made.{Made}
 use Rattle.demands.specs.Station.{Keeps, tasksOf, linksOf}
+use Rattle.demands.specs.States.{IsSound, tableIn, standingIn}
 use Rattle.demands.specs.Calls.{Makes, Gives, Calls}
-use Rattle.demands.specs.Refusals.{Earns, TableEarns, EventBreaks, byHistory, byPhases}
+use Rattle.demands.specs.Refusals.{Earns, TableEarns, EventBreaks, byHistory}
 use Rattle.demands.specs.Refusals as refusals
 use Rattle.demands.specs.Contracts.{AsksNothing, Tells}
 use Rattle.demands.specs.Demands.{asLent, Demand1, Demand2, Demand3, Recordings}
@@ -96,10 +97,10 @@ module _ (T L : ℕ) (D W R K : List ℕ) (m : Made) (said : Makes T L D W R K m
 
 -- ---- an event given to any state
 module _ (q : State) (e : Event ℕ) (r : Step) (call : Gives q e r) where
-  event-number : Sound ltb base (saved q) → (n : ℕ) → (r .answer .refusal ≡ n) ↔ Earns (EventBreaks (table ltb (saved q)) (byPhases (saved q)) e) n
+  event-number : IsSound q → (n : ℕ) → (r .answer .refusal ≡ n) ↔ Earns (EventBreaks (tableIn q) (standingIn q) e) n
   event-number S = earns-exactly (ap (λ (x : Step). x .answer .refusal) call ∙ give-refusal ltb base (saved q) e (says-sound ltb base (saved q) S)) (phases-earned (saved q) S e)
 
-  unknown-state : (Sound ltb base (saved q) → ⊥) → r ≡ asLent q 19
+  unknown-state : (IsSound q → ⊥) → r ≡ asLent q 19
   unknown-state n = call ∙ ap stepOf (give-unsound ltb base (saved q) e (go (isSound ltb base (saved q)) refl))
     where
       go : (b : Bool) → isSound ltb base (saved q) ≡ b → isSound ltb base (saved q) ≡ false

@@ -25,7 +25,7 @@ use Rattle.protocol_state.proofs.Decision.{decided-rule}
 use Rattle.protocol_state.proofs.Places.{every-none-fails}
 use Rattle.recording_core.specs.Playing.{full, noRoom, thenRoom}
 use Rattle.recording_core.specs.Promise.{refusedBy}
-use Rattle.demands.specs.Refusals.{Earns, none, lowest, Standing, byHistory, byPhases, EventBreaks, RecordBreaks, nobody, aStranger, startsNoTask, readsNoLink, finishesNoTask, arrivesAgain, startsNotWaiting, readsNotRunning, finishesNotRunning, startsOutOfTurn, readsOutOfTurn, finishesOutOfTurn}
+use Rattle.demands.specs.Refusals.{Earns, none, lowest, Standing, byHistory, EventBreaks, RecordBreaks, nobody, aStranger, startsNoTask, readsNoLink, finishesNoTask, arrivesAgain, startsNotWaiting, readsNotRunning, finishesNotRunning, startsOutOfTurn, readsOutOfTurn, finishesOutOfTurn}
 use Rattle.demands.specs.Refusals as refusals
 use Rattle.demands.proofs.Bits.{high-bit}
 use Rattle.demands.proofs.Links.{either, or-first, or-second, found, some-at}
@@ -183,7 +183,10 @@ module _ (T : Table ℕ) (h : List (Event ℕ)) where
             (sym (ap (λ (x : ℕ). thenRoom x e (full out (reads h))) i ∙ rw (ne-eqb r 0 (λ z. omega (arith, between e b .0)))))
             (lowest (refusals.rule b) (λ n k c. before e (between e b .1) k (λ d. f n k d) c))
 
--- by the phases of a sound state
+-- by the phases of a sound state: 0 idle, 1 waiting, 2 running
+abbrev pub phasesOf : Saved → Standing
+phasesOf q = record { active = busy q; waiting = λ t. eqb (at (q .phase) t) 1; running = λ t. eqb (at (q .phase) t) 2 }
+
 -- a decision that is the next phase d or the refusal n
 chosen : (x : ℕ) (b : Bool) (d n y : ℕ) → allows d ≡ true → allows n ≡ false → x ≡ cond b d n → cond (allows x) y x ≡ cond b y n
 chosen x true d n y i j e = rw (e, i)
@@ -208,23 +211,23 @@ module _ (q : Saved) (S : Sound ltb base q) where
   -- an event by task t of the table
   task-refusal : (k t b n : ℕ) → k < 4 → t < q .tasks → (d : ℕ) → allows d ≡ true → allows n ≡ false → rule k (at (q .phase) t) ≡ cond (eqb (at (q .phase) t) b) d n
       → cond (allows (decided k (at (q .phase) t))) (cond (preempted ltb t (q .tasks) (at (q .phase))) 16 0) (decided k (at (q .phase) t))
-      ≡ cond (not (eqb (at (q .phase) t) b)) n (cond (heldBack T (byPhases q) t) 16 0)
+      ≡ cond (not (eqb (at (q .phase) t) b)) n (cond (heldBack T (phasesOf q) t) 16 0)
   task-refusal k t b n hk l d i j e =
-      chosen (decided k (at (q .phase) t)) (eqb (at (q .phase) t) b) d n (cond (heldBack T (byPhases q) t) 16 0) i j (decided-rule k (at (q .phase) t) hk (S .phase t l) ∙ e)
-      ∙ turn-held (eqb (at (q .phase) t) b) (heldBack T (byPhases q) t) n
+      chosen (decided k (at (q .phase) t)) (eqb (at (q .phase) t) b) d n (cond (heldBack T (phasesOf q) t) 16 0) i j (decided-rule k (at (q .phase) t) hk (S .phase t l) ∙ e)
+      ∙ turn-held (eqb (at (q .phase) t) b) (heldBack T (phasesOf q) t) n
 
   judged-task : (k t b n : ℕ) → k < 4 → (d : ℕ) → allows d ≡ true → allows n ≡ false → rule k (at (q .phase) t) ≡ cond (eqb (at (q .phase) t) b) d n
-      → judgedTask ltb k t (q .tasks) (at (q .phase)) ≡ cond (leb (q .tasks) t) 12 (cond (not (eqb (at (q .phase) t) b)) n (cond (heldBack T (byPhases q) t) 16 0))
+      → judgedTask ltb k t (q .tasks) (at (q .phase)) ≡ cond (leb (q .tasks) t) 12 (cond (not (eqb (at (q .phase) t) b)) n (cond (heldBack T (phasesOf q) t) 16 0))
   unfolding judgedTask
   judged-task k t b n hk d i j e = go (leb (q .tasks) t) refl
     where
       go : (c : Bool) → leb (q .tasks) t ≡ c
           → cond c 12 (cond (allows (decided k (at (q .phase) t))) (cond (preempted ltb t (q .tasks) (at (q .phase))) 16 0) (decided k (at (q .phase) t)))
-          ≡ cond c 12 (cond (not (eqb (at (q .phase) t) b)) n (cond (heldBack T (byPhases q) t) 16 0))
+          ≡ cond c 12 (cond (not (eqb (at (q .phase) t) b)) n (cond (heldBack T (phasesOf q) t) 16 0))
       go true u = refl
       go false u = task-refusal k t b n hk (omega (arith, leb-false (q .tasks) t u)) d i j e
 
-  phases-chain : (e : Event ℕ) → judgedOn ltb q e ≡ chain (tests T (byPhases q) e)
+  phases-chain : (e : Event ℕ) → judgedOn ltb q e ≡ chain (tests T (phasesOf q) e)
   unfolding judgedArrival judgedRead
   phases-chain (arrival m) =
       ap (λ (b : Bool). cond (eqb m 0 || leb (2 ^ (q .tasks)) m) 12 (cond b 0 13)) (every-none-fails (mayArrive m (at (q .phase))) (λ t. has m t && busy q t) (q .tasks) (may-arrive m))
@@ -233,7 +236,7 @@ module _ (q : Saved) (S : Sound ltb base q) where
   phases-chain (read l) = go (leb (q .links) l) refl
     where
       go : (c : Bool) → leb (q .links) l ≡ c → cond c 12 (judgedTask ltb 2 (at (q .reader) l) (q .tasks) (at (q .phase)))
-          ≡ cond c 12 (cond (not (eqb (at (q .phase) (at (q .reader) l)) 2)) 15 (cond (heldBack T (byPhases q) (at (q .reader) l)) 16 0))
+          ≡ cond c 12 (cond (not (eqb (at (q .phase) (at (q .reader) l)) 2)) 15 (cond (heldBack T (phasesOf q) (at (q .reader) l)) 16 0))
       go true u = refl
       go false u =
           judged-task 2 (at (q .reader) l) 2 15 (omega arith) 2 refl refl refl
@@ -241,5 +244,5 @@ module _ (q : Saved) (S : Sound ltb base q) where
           (rules.obeyed ltb (q .tasks) (at (q .writer)) (at (q .reader)) (at (q .kind)) base (q .links) (S .rules) l (omega (arith, leb-false (q .links) l u)) .reader)) refl
   phases-chain (finish t v) = judged-task 3 t 2 15 (omega arith) 0 refl refl refl
 
-  pub phases-earned : (e : Event ℕ) → Earns (EventBreaks T (byPhases q) e) (judgedOn ltb q e)
-  phases-earned e = subst (λ (n : ℕ). Earns (EventBreaks T (byPhases q) e) n) (sym (phases-chain e)) (chain-earned T (byPhases q) e)
+  pub phases-earned : (e : Event ℕ) → Earns (EventBreaks T (phasesOf q) e) (judgedOn ltb q e)
+  phases-earned e = subst (λ (n : ℕ). Earns (EventBreaks T (phasesOf q) e) n) (sym (phases-chain e)) (chain-earned T (phasesOf q) e)

@@ -2,14 +2,18 @@
 -- Assumes nothing.
 use mathlib.Core.Path.{_≡_, refl, sym, ap, subst, _∙_}
 use mathlib.Core.Logic.{_≢_}
-use mathlib.Core.Bool.{not, true≢false, Bool, true, false, cond, _&&_, _||_}
+use mathlib.Core.Bool.{Bool, true, false, cond, _&&_, _||_}
+use mathlib.Core.List.{List}
 use Prim.Native.Nat.{ℕ, zero, suc, _+_, _≤_, _<_}
 use native.Mathlib.Decide.{ℕ-discrete}
 use native.Mathlib.Omega.{arith}
 use borrow.Author.Tests.{eqb-true, ne-eqb, eq-eqb}
 use lib.Dec.{eqb, ltb}
 use Rattle.lists.specs.Lists.{some, count}
-use Rattle.protocol.specs.Table.{behinds, N}
+use Rattle.protocol.specs.Event.{Event}
+use Rattle.protocol.specs.Table.{Table, behinds, N}
+use Rattle.protocol.specs.Published.{Boxes}
+use Rattle.protocol.specs.Ranges.{Ranged}
 use Rattle.protocol_state.specs.Saved.{Saved, base, at, table}
 use Rattle.protocol_state.specs.Rules.{joins}
 use Rattle.protocol_state.specs.Sound.{Sound}
@@ -37,10 +41,10 @@ count-more f g k (suc m) l a b law = go (ℕ-discrete m k) (λ l. count-more f g
         both true j = ap (λ (n : ℕ). n + 1) j
         both false j = j
 
-module _ (W R : ℕ → ℕ) (w T L : ℕ) (inside : (l : ℕ) → l < L → R l < T) (single : (j l : ℕ) → j < l → l < L → W j ≡ W l → R j ≢ R l) where
+module _ (ahead : ℕ → ℕ → Bool) (W R : ℕ → ℕ) (w T L : ℕ) (inside : (l : ℕ) → l < L → R l < T) (single : (j l : ℕ) → j < l → l < L → W j ≡ W l → R j ≢ R l) where
   -- r is behind w, and reads from it by one of the first n links
   abbrev behindBy : ℕ → ℕ → Bool
-  behindBy n r = ltb w r && some (joins W R w r) n
+  behindBy n r = ahead w r && some (joins W R w r) n
 
   -- no earlier link joins the two
   not-yet : (k l : ℕ) → k ≤ l → l < L → W l ≡ w → some (joins W R w (R l)) k ≡ false
@@ -52,41 +56,51 @@ module _ (W R : ℕ → ℕ) (w T L : ℕ) (inside : (l : ℕ) → l < L → R l
       go true i = rw (ne-eqb (R k) (R l) (single k l (omega arith) h (eqb-true (W k) w i ∙ sym e)))
       go false i = refl
 
-  links-readers : (n : ℕ) → n ≤ L → behinds ltb W R w n ≡ count (behindBy n) T
+  links-readers : (n : ℕ) → n ≤ L → behinds ahead W R w n ≡ count (behindBy n) T
   unfolding count some
-  links-readers zero h = sym (count-none (λ r. ltb w r && false) T (λ r. never (ltb w r)))
+  links-readers zero h = sym (count-none (λ r. ahead w r && false) T (λ r. never (ahead w r)))
     where
       never : (b : Bool) → (b && false) ≡ false
       never true = refl
       never false = refl
-  links-readers (suc n) h = go (links-readers n (omega arith)) (eqb (W n) w) (ltb w (R n)) refl refl
+  links-readers (suc n) h = go (links-readers n (omega arith)) (eqb (W n) w) (ahead w (R n)) refl refl
     where
       -- a link to a reader ahead makes no reader behind
-      ahead : (r : ℕ) → ltb w (R n) ≡ false → (b x : Bool) → eqb (R n) r ≡ b → (ltb w r && x) ≡ (ltb w r && (b || x))
-      ahead r ec true x e = rw (subst (λ (k : ℕ). ltb w k ≡ false) (eqb-true (R n) r e) ec)
-      ahead r ec false x e = refl
+      none-behind : (r : ℕ) → ahead w (R n) ≡ false → (b x : Bool) → eqb (R n) r ≡ b → (ahead w r && x) ≡ (ahead w r && (b || x))
+      none-behind r ec true x e = rw (subst (λ (k : ℕ). ahead w k ≡ false) (eqb-true (R n) r e) ec)
+      none-behind r ec false x e = refl
 
-      go : behinds ltb W R w n ≡ count (behindBy n) T → (b c : Bool) → eqb (W n) w ≡ b → ltb w (R n) ≡ c
-          → cond (b && c) (behinds ltb W R w n + 1) (behinds ltb W R w n) ≡ count (λ r. ltb w r && (eqb (W n) w && eqb (R n) r || some (joins W R w r) n)) T
+      go : behinds ahead W R w n ≡ count (behindBy n) T → (b c : Bool) → eqb (W n) w ≡ b → ahead w (R n) ≡ c
+          → cond (b && c) (behinds ahead W R w n + 1) (behinds ahead W R w n) ≡ count (λ r. ahead w r && (eqb (W n) w && eqb (R n) r || some (joins W R w r) n)) T
       go i true true eb ec =
-          i' ∙ sym (count-more (behindBy n) (λ r. ltb w r && (eqb (W n) w && eqb (R n) r || some (joins W R w r) n)) (R n) T (inside n (omega arith))
+          i' ∙ sym (count-more (behindBy n) (λ r. ahead w r && (eqb (W n) w && eqb (R n) r || some (joins W R w r) n)) (R n) T (inside n (omega arith))
           (rw (not-yet n n (omega arith) (omega arith) (eqb-true (W n) w eb), ec)) (rw (ec, eb, eq-eqb (R n) (R n) refl)) (λ r x. rw (eb, ne-eqb (R n) r (λ y. x (sym y)))))
         where
-          i' : behinds ltb W R w n + 1 ≡ count (behindBy n) T + 1
+          i' : behinds ahead W R w n + 1 ≡ count (behindBy n) T + 1
           i' = ap (λ (k : ℕ). k + 1) i
-      go i true false eb ec = i ∙ count-same (behindBy n) (λ r. ltb w r && (eqb (W n) w && eqb (R n) r || some (joins W R w r) n)) T (λ r l. rw eb (ahead r ec (eqb (R n) r) (some (joins W R w r) n) refl))
-      go i false c eb ec = i ∙ count-same (behindBy n) (λ r. ltb w r && (eqb (W n) w && eqb (R n) r || some (joins W R w r) n)) T (λ r l. rw eb)
+      go i true false eb ec = i ∙ count-same (behindBy n) (λ r. ahead w r && (eqb (W n) w && eqb (R n) r || some (joins W R w r) n)) T (λ r l. rw eb (none-behind r ec (eqb (R n) r) (some (joins W R w r) n) refl))
+      go i false c eb ec = i ∙ count-same (behindBy n) (λ r. ahead w r && (eqb (W n) w && eqb (R n) r || some (joins W R w r) n)) T (λ r l. rw eb)
 
--- a sound state's positions and pointers are among its mailboxes
-pub sound-mailboxes : (q : Saved) → Sound ltb base q → Mailboxes (table ltb q) q
-unfolding lessUrgentReaders
-sound-mailboxes q S =
+-- what the rules say of a table: its readers are tasks, and no writer has two links to one reader
+pub record Apart (T : Table ℕ) : Type 0 where
+  pub inside : (l : ℕ) → l < T .links → T .reader l < T .tasks
+  pub single : (j l : ℕ) → j < l → l < T .links → T .writer j ≡ T .writer l → T .reader j ≢ T .reader l
+
+-- the table of a sound state
+pub sound-apart : (q : Saved) → Sound ltb base q → Apart (table ltb q)
+sound-apart q S =
     let ob = rules.obeyed ltb (q .tasks) (at (q .writer)) (at (q .reader)) (at (q .kind)) base (q .links) (S .rules) in
-    let same : (w : ℕ) → N (table ltb q) w ≡ lessUrgentReaders (table ltb q) w =
-    λ w. links-readers (at (q .writer)) (at (q .reader)) w (q .tasks) (q .links) (λ l h. ob l h .reader) (λ j l i h. ob l h .single j i) (q .links) (omega arith) in
+    record { inside = λ l h. ob l h .reader; single = λ j l i h. ob l h .single j i }
+
+-- positions and pointers in range are among the mailboxes
+pub ranged-mailboxes : {T : Table ℕ} {h : List (Event ℕ)} {s : Boxes ℕ} → Apart T → Ranged T h s → Mailboxes T h s
+unfolding lessUrgentReaders
+ranged-mailboxes {T} {h} {s} A r =
+    let same : (w : ℕ) → N T w ≡ lessUrgentReaders T w =
+    λ w. links-readers (T .ahead) (T .writer) (T .reader) w (T .tasks) (T .links) (A .inside) (A .single) (T .links) (omega arith) in
     record {
-      newest = λ t l. subst (λ (n : ℕ). (1 ≤ at (q .newest) t) × (at (q .newest) t ≤ n + 2)) (same t) (S .newest t l);
-      previous = λ t l. subst (λ (n : ℕ). (1 ≤ at (q .previous) t) × (at (q .previous) t ≤ n + 2)) (same t) (S .previous t l);
-      pointer = λ l h. subst (λ (n : ℕ). at (q .pointer) l ≤ n + 2) (same (at (q .writer) l)) (S .pointer l h);
-      present = λ l h e. S .present l h (λ z. true≢false (sym (subst (λ (k : ℕ). not (eqb k 0) ≡ true) z e)));
+      newest = λ t l. subst (λ (n : ℕ). (1 ≤ s .newest t) × (s .newest t ≤ n + 2)) (same t) (r .newest t);
+      previous = λ t l. subst (λ (n : ℕ). (1 ≤ s .previous t) × (s .previous t ≤ n + 2)) (same t) (r .previous t);
+      pointer = λ l k. subst (λ (n : ℕ). s .pointer l ≤ n + 2) (same (T .writer l)) (r .pointer l k);
+      present = r .present;
     }

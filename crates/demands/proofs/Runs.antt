@@ -17,7 +17,8 @@ use Rattle.protocol.specs.Answering.{ReadsNothing}
 use Rattle.protocol.specs.Published.{number}
 use Rattle.protocol.specs.Instant.{upward, zeroRun, find, looked, theres}
 use Rattle.protocol.proofs.Schedule.{urgent-fair, judged-possible, possible-judged}
-use Rattle.protocol.proofs.Theorem.{lowest-only, finished-then, zero-time, ideals-there, ideals-count}
+use Rattle.protocol.proofs.Ranges.{ranged}
+use Rattle.protocol.proofs.Theorem.{lowest-only, weaken, finished-then, zero-time, ideals-there, ideals-count}
 use Rattle.protocol.proofs.Unique.{runs-same}
 use Rattle.protocol.proofs.Upward.{upward-order}
 use Rattle.protocol_state.specs.Saved.{base, table, boxes}
@@ -33,10 +34,10 @@ use Rattle.mailbox.specs.declared.State.{State}
 use Rattle.mailbox.specs.declared.Step.{Step}
 use Rattle.demands.specs.Order.{EachRead, turned}
 use Rattle.demands.specs.Calls.{Gives, Calls, fresh, accepted, refused}
-use Rattle.demands.specs.Mailboxes.{Mailboxes, Published}
+use Rattle.demands.specs.Mailboxes.{Published}
 use Rattle.demands.specs.Outputs.{Output}
 use Rattle.demands.proofs.Orders.{part-possible, each-more, each-read, each-so, looked-each}
-use Rattle.demands.proofs.Readers.{sound-mailboxes}
+use Rattle.demands.proofs.Readers.{Apart, sound-apart, ranged-mailboxes}
 use Rattle.demands.proofs.Outputs.{due-output}
 use Rattle.demands.proofs.Calls.{Come, comes}
 
@@ -70,7 +71,8 @@ module _ {T : Table ℕ} {es : List (Event ℕ)} {ns : List ℕ} {q : State} (c 
     run = C .reached .run;
     only = λ s r. runs-same T₀ (C .reached .run) r;
     numbers = C .turns ∙ ap turned (C .reached .read);
-    mailboxes = subst (λ (t : Table ℕ). Mailboxes t (saved q)) (C .reached .same) (sound-mailboxes (saved q) (C .reached .sound));
+    mailboxes = ranged-mailboxes (subst (λ (t : Table ℕ). Apart t) (C .reached .same) (sound-apart (saved q) (C .reached .sound)))
+        (ranged T₀ (urgent T₀) (weaken T₀ (urgent T₀) (lowest-only T₀) (C .reached .run)));
   }
 
   -- demand 2: the published protocol's

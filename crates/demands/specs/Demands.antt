@@ -2,45 +2,35 @@
 -- learns of a call (`Tells`), and beside soundness no more. Here a reader begins; proofs/Demands.antt has `demand-1`, `demand-2` and `demand-3`.
 -- Assumes nothing.
 use mathlib.Core.Path.{_≡_}
-use mathlib.Core.Logic.{_≢_, _⊎_, _↔_}
-use mathlib.Core.Bool.{Bool, true, false, _&&_}
+use mathlib.Core.Logic.{_≢_, _↔_}
+use mathlib.Core.Bool.{true, false}
 use mathlib.Core.List.{List, [], _∷_, _++_}
 use Prim.Native.Nat.{ℕ, pred, _+_, _≤_, _<_}
-use lib.Dec.{eqb, ltb}
 use lib.ListN.{length, take, getD}
-use Rattle.lists.specs.Lists.{some, count}
+use Rattle.lists.specs.Lists.{count}
 use Rattle.protocol.specs.Event.{Event}
 use Rattle.protocol.specs.Table.{Table}
 use Rattle.protocol.specs.History.{arrivals, finishes}
 use Rattle.protocol.specs.Schedule.{urgent, Possible}
-use Rattle.protocol.specs.Published.{Boxes, Same, Lowest, Run}
-use Rattle.protocol.specs.Published as published
 use Rattle.protocol.specs.ZeroTime.{runOf, had}
 use Rattle.protocol.specs.Given.{there}
-use Rattle.protocol.specs.Instant.{upward, zeroRun, find}
-use Rattle.protocol_state.specs.Saved.{Saved, base, at, busy, table, boxes}
-use Rattle.protocol_state.specs.Sound.{Sound}
-use Rattle.byte_format.specs.Number.{bytesOf}
-use Rattle.byte_format.specs.Format.{encodes, encodeSection}
-use Rattle.recording_format.specs.Task.{tasks}
+use Rattle.protocol.specs.Instant.{zeroRun, find}
 use Rattle.recording_format.specs.Link.{Link, linkAt}
-use Rattle.recording_format.specs.Event.{events}
-use Rattle.recording_format.specs.Recording.{encodeRecording, throughE}
 use Rattle.recording_core.specs.Promise.{past}
-use Rattle.mailbox.specs.States.{saved}
 use Rattle.mailbox.specs.declared.State.{State}
 use Rattle.mailbox.specs.declared.Step.{Step}
 use Rattle.mailbox.specs.declared.Made.{Made}
 use Rattle.recording.specs.declared.Answer.{Answer}
 use Rattle.recording_demands.specs.Ensured.{Replays}
-use Rattle.demands.specs.Station.{station, Keeps, tasksOf, linksOf}
-use Rattle.demands.specs.Order.{EachRead, turned}
+use Rattle.demands.specs.Station.{station, mostUrgentFirst, Keeps, tasksOf, linksOf}
+use Rattle.demands.specs.Refusals.{Earns, TableEarns, LinkBreaks, EventBreaks, byHistory}
+use Rattle.demands.specs.States.{IsSound, tableIn, activeIn, standingIn}
+use Rattle.demands.specs.Order.{EachRead}
 use Rattle.demands.specs.Calls.{Makes, Gives, Calls}
-use Rattle.demands.specs.Refusals.{Earns, TableEarns, LinkBreaks, EventBreaks, byHistory, byPhases}
-use Rattle.demands.specs.Recordings.{Genuine, LinksBegun, EventsBegun, KindOf, countsOf, Listed, AtEvents, Explained}
-use Rattle.demands.specs.Contracts.{AsksNothing, Tells}
-use Rattle.demands.specs.Outputs.{Output}
+use Rattle.demands.specs.Recordings.{recordingBytes, eventBytes, throughCount, Genuine, LinksBegun, EventsBegun, KindOf, countsOf, Listed, AtEvents, Explained}
 use Rattle.demands.specs.Mailboxes.{Published}
+use Rattle.demands.specs.Outputs.{Output}
+use Rattle.demands.specs.Contracts.{AsksNothing, Tells}
 
 -- ---- demand 1
 
@@ -52,10 +42,10 @@ pub record Demand1 : Type 0 where
   -- "Whatever bytes, events or saved state are handed over, an answer comes back."
   pub asks : AsksNothing
   -- "Nothing unknown ever becomes a default.": a state that is not sound, whatever is wrong in it, is answered 19;
-  pub unknown-state : (q : State) (e : Event ℕ) (r : Step) → Gives q e r → (Sound ltb base (saved q) → ⊥) → r ≡ asLent q 19
+  pub unknown-state : (q : State) (e : Event ℕ) (r : Step) → Gives q e r → (IsSound q → ⊥) → r ≡ asLent q 19
   -- a byte that is no kind of event, where an event is due, 11 at its place;
   pub unknown-event : {s out list ds : List ℕ} {a : Answer} {ls : List Link} {es : List (Event ℕ)} {E p : ℕ} → Replays s out a list →
-      Genuine (encodeRecording ds ls es) out ds ls es → EventsBegun s ds ls E es p → length es < E → p < length s → ((n : ℕ) → KindOf (getD s p 0) n → ⊥) →
+      Genuine (recordingBytes ds ls es) out ds ls es → EventsBegun s ds ls E es p → length es < E → p < length s → ((n : ℕ) → KindOf (getD s p 0) n → ⊥) →
       (a .refusal ≡ 11) × (a .place ≡ p)
   -- a link of an unknown kind is refused at its place, 6 unless it breaks rule 4 or 5 as well, and so is a table that holds one
   pub unknown-link : {s out list ds : List ℕ} {a : Answer} {ls : List Link} {L p : ℕ} → Replays s out a list →
@@ -63,8 +53,8 @@ pub record Demand1 : Type 0 where
       Earns (LinkBreaks ds ls (linkAt s p)) (a .refusal) × ((4 ≤ a .refusal) × (a .refusal ≤ 6)) × (a .place ≡ p)
   -- "Each refusal has its number": of a table; of an event given to a sound state, by its phases; and after any calls by the accepted events alone
   pub table-number : (T L : ℕ) (D W R K : List ℕ) (m : Made) → Makes T L D W R K m → (n : ℕ) → (m .refusal ≡ n) ↔ TableEarns (tasksOf T D) (linksOf L W R K) n
-  pub event-number : (q : State) (e : Event ℕ) (r : Step) → Gives q e r → Sound ltb base (saved q) →
-      (n : ℕ) → (r .answer .refusal ≡ n) ↔ Earns (EventBreaks (table ltb (saved q)) (byPhases (saved q)) e) n
+  pub event-number : (q : State) (e : Event ℕ) (r : Step) → Gives q e r → IsSound q →
+      (n : ℕ) → (r .answer .refusal ≡ n) ↔ Earns (EventBreaks (tableIn q) (standingIn q) e) n
   pub number-there : {T : Table ℕ} {es : List (Event ℕ)} {ns : List ℕ} {q : State} → Calls T es ns q → (e : Event ℕ) (r : Step) → Gives q e r →
       (n : ℕ) → (r .answer .refusal ≡ n) ↔ Earns (EventBreaks T (byHistory (past [] es)) e) n
   -- "in a recording its place too": every answer is that of the first fault of the bytes, or of there being none; and no other answer is
@@ -105,7 +95,7 @@ pub record Demand3 : Type 0 where
   pub recordings : {s out list : List ℕ} {a : Answer} → Replays s out a list → Explained s out a list
   -- "each number read is the one from a run where tasks take no time: at each arrival all arrived tasks run whole, most urgent first."
   pub no-time : {T : Table ℕ} {es : List (Event ℕ)} {ns : List ℕ} {q : State} → Calls T es ns q →
-      EachRead (λ h l n. find l (arrivals h (T .reader l)) (zeroRun T (upward 0 (T .tasks)) (past [] es)) ≡ there n) [] es ns
+      EachRead (λ h l n. find l (arrivals h (T .reader l)) (zeroRun T (mostUrgentFirst T) (past [] es)) ≡ there n) [] es ns
   -- "A direct link gives the output of the writer's last arrival up to and including the reader's own;"
   pub direct : {T : Table ℕ} {es : List (Event ℕ)} {ns : List ℕ} {q : State} → Calls T es ns q →
       EachRead (λ h l n. T .delayed l ≡ false → Output T h (T .writer l) (had T h l) n) [] es ns
@@ -126,19 +116,19 @@ pub record CutShort (s out : List ℕ) (ds : List ℕ) (ls : List Link) (es : Li
   pub gone : List (Event ℕ)
   pub all : es ≡ whole ++ (partly ∷ gone)
   -- the first record that isn't whole
-  pub from : b .place ≡ throughE ds ls + length (encodes events whole)
-  pub inside : (b .place ≤ m) × (m < b .place + length (events .encode partly))
+  pub from : b .place ≡ throughCount ds ls + length (eventBytes whole)
+  pub inside : (b .place ≤ m) × (m < b .place + length (eventBytes (partly ∷ [])))
   pub refusal : b .refusal ≡ 1
   -- the answer of the whole records alone
-  pub as-whole : {c : Answer} {list : List ℕ} → Replays (encodeRecording ds ls whole) out c list →
+  pub as-whole : {c : Answer} {list : List ℕ} → Replays (recordingBytes ds ls whole) out c list →
       (c .refusal ≡ 0) × (b .state ≡ c .state) × (countsOf b ≡ countsOf c) × (after ≡ list)
 
 pub record Recordings : Type 0 where
   -- "In every answer with a table, arrivals counted task by task equal finishes plus tasks still active."
-  pub totals : {s out list : List ℕ} {a : Answer} (x : AtEvents s out a list) → a .arrivals ≡ a .finishes + count (busy (saved (a .state))) (length (x .ds))
+  pub totals : {s out list : List ℕ} {a : Answer} (x : AtEvents s out a list) → a .arrivals ≡ a .finishes + count (activeIn (a .state)) (length (x .ds))
   -- "A power cut"
   pub power-cut : {s out after ds : List ℕ} {ls : List Link} {es : List (Event ℕ)} {b : Answer} {m : ℕ} → Genuine s out ds ls es →
-      Replays (take m s) out b after → throughE ds ls ≤ m → m < length s → CutShort s out ds ls es m b after
+      Replays (take m s) out b after → throughCount ds ls ≤ m → m < length s → CutShort s out ds ls es m b after
   -- "unless nothing was lost"
   pub nothing-lost : {s out list after ds : List ℕ} {ls : List Link} {es : List (Event ℕ)} {a b : Answer} {m : ℕ} → Genuine s out ds ls es →
       Replays s out a list → Replays (take m s) out b after → length s ≤ m → (b .refusal ≡ 0) × (b ≡ a) × (after ≡ list)

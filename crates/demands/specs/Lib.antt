@@ -1,11 +1,12 @@
 -- The three demands. A reader begins at Demands; what stands above it here is what its sentences are made of.
 -- a table
 pub mod Station
--- events in order, and the calls
-pub mod Order
-pub mod Calls
 -- the table of refusals
 pub mod Refusals
+-- the code's state, events in order, and the calls
+pub mod States
+pub mod Order
+pub mod Calls
 -- whole recordings
 pub mod Recordings
 -- the published protocol, and the run where tasks take no time

@@ -8,13 +8,13 @@ use lib.Dec.{eqb}
 use Rattle.lists.specs.Lists.{some, count}
 use Rattle.protocol.specs.Event.{Event}
 use Rattle.protocol.specs.Table.{Table}
+use Rattle.protocol.specs.History.{active}
 use Rattle.protocol.specs.Schedule.{urgent}
 use Rattle.protocol.specs.Published.{Boxes, Same, Lowest, Run}
 use Rattle.protocol.specs.Published as published
-use Rattle.protocol_state.specs.Saved.{Saved, at, busy, boxes}
 use Rattle.recording_core.specs.Promise.{past}
-use Rattle.mailbox.specs.States.{saved}
 use Rattle.mailbox.specs.declared.State.{State}
+use Rattle.demands.specs.States.{boxesIn}
 use Rattle.demands.specs.Order.{turned}
 
 -- task r reads from task w
@@ -25,21 +25,21 @@ readsFrom T w r = some (λ l. eqb (T .writer l) w && eqb (T .reader l) r) (T .li
 unfoldable pub lessUrgentReaders : Table ℕ → ℕ → ℕ
 lessUrgentReaders T w = count (λ r. T .ahead w r && readsFrom T w r) (T .tasks)
 
--- "at most two mailboxes more than a writer has less urgent readers": every position and every pointer is one of them; 0 is an absent pointer, of an idle
--- reader only
-pub record Mailboxes (T : Table ℕ) (q : Saved) : Type 0 where
-  pub newest : (t : ℕ) → t < T .tasks → (1 ≤ at (q .newest) t) × (at (q .newest) t ≤ lessUrgentReaders T t + 2)
-  pub previous : (t : ℕ) → t < T .tasks → (1 ≤ at (q .previous) t) × (at (q .previous) t ≤ lessUrgentReaders T t + 2)
-  pub pointer : (l : ℕ) → l < T .links → at (q .pointer) l ≤ lessUrgentReaders T (T .writer l) + 2
-  pub present : (l : ℕ) → l < T .links → busy q (T .reader l) ≡ true → 1 ≤ at (q .pointer) l
+-- "at most two mailboxes more than a writer has less urgent readers": after the history h every position and every pointer is one of them; 0 is an absent
+-- pointer, and no active reader has one
+pub record Mailboxes (T : Table ℕ) (h : List (Event ℕ)) (s : Boxes ℕ) : Type 0 where
+  pub newest : (t : ℕ) → t < T .tasks → (1 ≤ s .newest t) × (s .newest t ≤ lessUrgentReaders T t + 2)
+  pub previous : (t : ℕ) → t < T .tasks → (1 ≤ s .previous t) × (s .previous t ≤ lessUrgentReaders T t + 2)
+  pub pointer : (l : ℕ) → l < T .links → s .pointer l ≤ lessUrgentReaders T (T .writer l) + 2
+  pub present : (l : ℕ) → l < T .links → active h (T .reader l) ≡ true → 1 ≤ s .pointer l
 
 -- state q and numbers ns are what the published protocol gives for the events es
 pub record Published (T : Table ℕ) (es : List (Event ℕ)) (ns : List ℕ) (q : State) : Type 0 where
   -- "Every pointer, mailbox": by a run of the protocol over these events
-  pub run : Run T (urgent T) (Lowest T) (boxes (saved q)) (past [] es)
+  pub run : Run T (urgent T) (Lowest T) (boxesIn q) (past [] es)
   -- "is .. the one": no run of the protocol, with the lowest free position taken, gives others
-  pub only : (s : Boxes ℕ) → Run T (urgent T) (Lowest T) s (past [] es) → Same (boxes (saved q)) s
+  pub only : (s : Boxes ℕ) → Run T (urgent T) (Lowest T) s (past [] es) → Same (boxesIn q) s
   -- "and number read"
   pub numbers : ns ≡ turned (published.numbers T run)
   -- "with at most two mailboxes more than a writer has less urgent readers"
-  pub mailboxes : Mailboxes T (saved q)
+  pub mailboxes : Mailboxes T (past [] es) (boxesIn q)

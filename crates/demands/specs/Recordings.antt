@@ -14,21 +14,30 @@ use Rattle.byte_format.specs.Format.{FitEach, encodes, encodeSection}
 use Rattle.recording_format.specs.Task.{tasks}
 use Rattle.recording_format.specs.Link.{Link, links, linkAt}
 use Rattle.recording_format.specs.Event.{events, encodeEvent, EventFits}
-use Rattle.recording_format.specs.Recording.{encodeRecording}
+use Rattle.recording_format.specs.Recording.{encodeRecording, throughE}
 use Rattle.recording_core.specs.Promise.{past}
-use Rattle.mailbox.specs.declared.State.{State}
 use Rattle.recording.specs.declared.Answer.{Answer}
 use Rattle.demands.specs.Station.{station, Keeps}
 use Rattle.demands.specs.Order.{Happen}
 use Rattle.demands.specs.Calls.{Makes, Calls}
 use Rattle.demands.specs.Refusals.{Earns, LinkBreaks, RecordBreaks}
 
+-- the bytes of a recording, of its events, and through its count of events
+abbrev pub recordingBytes : List ℕ → List Link → List (Event ℕ) → List ℕ
+recordingBytes ds ls es = encodeRecording ds ls es
+
+abbrev pub eventBytes : List (Event ℕ) → List ℕ
+eventBytes es = encodes events es
+
+abbrev pub throughCount : List ℕ → List Link → ℕ
+throughCount ds ls = throughE ds ls
+
 -- the bytes s are the tasks ds, the links ls and the events es, within every limit, and could happen
 pub record Genuine (s out : List ℕ) (ds : List ℕ) (ls : List Link) (es : List (Event ℕ)) : Type 0 where
   -- "its links obey the published rules"
   pub keeps : Keeps ds ls
   -- "its bytes .. the stated limits"
-  pub bytes : s ≡ encodeRecording ds ls es
+  pub bytes : s ≡ recordingBytes ds ls es
   pub fits : FitEach tasks ds × (FitEach links ls × FitEach events es)
   pub few : length es ≤ 10000
   -- "and list room"

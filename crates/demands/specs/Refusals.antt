@@ -5,13 +5,12 @@ use mathlib.Core.Logic.{_≢_, _⊎_}
 use mathlib.Core.Bool.{Bool, true, false}
 use mathlib.Core.List.{List, _∷_, _++_}
 use Prim.Native.Nat.{ℕ, _≤_, _<_}
-use lib.Dec.{eqb}
 use lib.ListN.{length}
 use Rattle.protocol.specs.Event.{Event, arrival, start, read, finish, has}
 use Rattle.protocol.specs.Table.{Table, behinds}
 use Rattle.protocol.specs.History as history
 use Rattle.protocol.specs.History.{reads}
-use Rattle.protocol_state.specs.Saved.{Saved, at, busy}
+use Rattle.protocol_state.specs.Saved.{at}
 use Rattle.recording_format.specs.Link.{Link}
 use Rattle.demands.specs.Station.{ahead, writers, readers, Keeps}
 
@@ -58,10 +57,6 @@ pub record Standing : Type 0 where
 -- "By history: active when its accepted arrivals outnumber its accepted finishes"
 abbrev pub byHistory : List (Event ℕ) → Standing
 byHistory h = record { active = history.active h; waiting = history.waiting h; running = history.running h }
-
--- by the phases of a saved state: 0 idle, 1 waiting, 2 running
-abbrev pub byPhases : Saved → Standing
-byPhases q = record { active = busy q; waiting = λ t. eqb (at (q .phase) t) 1; running = λ t. eqb (at (q .phase) t) 2 }
 
 pub data EventBreaks (T : Table ℕ) (stands : Standing) : Event ℕ → ℕ → Type 0 where
   -- 12: "an empty arrival set, or a task or link not in the table"
