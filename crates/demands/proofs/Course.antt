@@ -7,7 +7,7 @@ use mathlib.Core.List.{List, [], _∷_, _++_}
 use Prim.Native.Nat.{ℕ, _≤_, _<_}
 use native.Mathlib.Omega.{arith}
 use native.Mathlib.Decide.{decLe}
-use borrow.Author.Tests.{eqb-true, eqb-false, eq-eqb, ne-eqb}
+use borrow.Author.Tests.{eqb-true, eqb-false}
 use lib.Dec.{eqb, ltb}
 use lib.ListN.{replicate}
 use lib.Seq.{ext-getD}
@@ -27,9 +27,7 @@ use Rattle.byte_format.specs.Play.{finally}
 use Rattle.mailbox.specs.States.{saved, stateOf}
 use Rattle.mailbox.specs.declared.State.{State}
 use Rattle.mailbox.specs.declared.Step.{Step}
-use Rattle.mailbox.specs.declared.Made.{Made}
-use Rattle.demands.specs.Station.{station, tasksOf, linksOf}
-use Rattle.demands.specs.Calls.{Makes, Gives, Calls, fresh, accepted, refused}
+use Rattle.demands.specs.Calls.{Gives, Calls, fresh, accepted, refused}
 use Rattle.demands.proofs.Tables.{Firsts, firsts-copied, fresh-station}
 use Rattle.demands.proofs.Calls.{made-is, same-state}
 use Rattle.demands.proofs.Runs.{calls-ideals}

@@ -1,6 +1,6 @@
 -- The power cut, and that the replay's contract allows one answer.
 -- Assumes nothing.
-use mathlib.Core.Path.{_≡_, sym, ap, subst, _∙_}
+use mathlib.Core.Path.{_≡_, sym, ap, _∙_}
 use mathlib.Core.List.{List, [], _∷_, append-nil}
 use Prim.Native.Nat.{ℕ, _+_, _≤_, _<_}
 use native.Mathlib.Omega.{arith}
@@ -13,7 +13,7 @@ use Rattle.byte_format.specs.Format.{encodes}
 use Rattle.byte_format.specs.Play.{Verdict, Cut}
 use Rattle.recording_format.specs.Link.{Link, listed}
 use Rattle.recording_format.specs.Event.{events}
-use Rattle.recording_format.specs.Recording.{encodeRecording, throughE}
+use Rattle.recording_format.specs.Recording.{throughE}
 use Rattle.recording_core.specs.Playing.{Playing, coreOf, steppedIn}
 use Rattle.mailbox.specs.States.{stateOf}
 use Rattle.recording.specs.Answers.{replied}

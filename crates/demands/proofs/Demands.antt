@@ -19,7 +19,8 @@ use Rattle.protocol_state.proofs.Sound.{sound-says, says-sound}
 use Rattle.protocol_state.proofs.Give.{give-refusal, give-unsound, refused-same}
 use Rattle.recording_core.specs.Promise.{past}
 use Rattle.recording_demands.proofs.Contract.{learnt-ensured}
-use Rattle.mailbox_demands.proofs.Contract.{fresh-learnt, arrival-learnt, start-learnt, read-learnt, finish-learnt, event-learnt}
+use Rattle.recording_demands.proofs.Rest.{unread}
+use Rattle.demands.proofs.Contract.{fresh-learnt, arrival-learnt, start-learnt, read-learnt, finish-learnt, event-learnt}
 use Rattle.mailbox.specs.States.{saved, stateOf, stepOf}
 use Rattle.mailbox.specs.declared.State.{State}
 use Rattle.mailbox.specs.declared.Step.{Step}
@@ -151,4 +152,4 @@ pub demand-3 : Demand3
 demand-3 = record { recordings = every-answer; no-time = calls-no-time; direct = calls-direct; delayed = calls-delayed; finished = calls-finished }
 
 pub recordings : Recordings
-recordings = record { totals = totals; power-cut = power-cut; nothing-lost = λ g a b all. nothing-lost g b a all; one-answer = one-answer }
+recordings = record { totals = totals; power-cut = power-cut; nothing-lost = λ g a b all. nothing-lost g b a all; rest = λ said. unread said refl; one-answer = one-answer }

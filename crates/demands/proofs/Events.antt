@@ -4,18 +4,18 @@ use mathlib.Core.Path.{_≡_, refl, sym, ap, subst, _∙_}
 use mathlib.Core.Logic.{_≢_, _⊎_, inl, inr}
 use mathlib.Core.Bool.{Bool, true, false, cond, not, _&&_, _||_, true≢false}
 use mathlib.Core.List.{List, [], _∷_}
-use Prim.Native.Nat.{ℕ, zero, suc, _^_, _≤_, _<_}
+use Prim.Native.Nat.{ℕ, _^_, _≤_, _<_}
 use native.Mathlib.Omega.{arith}
-use borrow.Author.Tests.{eqb-true, eq-eqb, ne-eqb, leb-true, leb-false, le-leb, lt-leb, not-true}
+use borrow.Author.Tests.{eqb-true, ne-eqb, leb-true, leb-false, le-leb, lt-leb}
 use lib.Dec.{eqb, ltb, leb, lit<}
 use lib.ListN.{length}
 use Rattle.lists.specs.Lists.{some}
-use Rattle.lists.proofs.Bools.{and-left, and-right, and-both, or-left, or-right}
+use Rattle.lists.proofs.Bools.{and-left, and-right, and-both}
 use Rattle.protocol.specs.Event.{Event, arrival, start, read, finish, has}
 use Rattle.protocol.specs.Table.{Table}
 use Rattle.protocol.specs.History.{reads}
 use Rattle.protocol.specs.Schedule.{urgent, judged}
-use Rattle.protocol.proofs.Schedule.{has-not, has-below}
+use Rattle.protocol.proofs.Schedule.{has-not}
 use Rattle.protocol_state.specs.Saved.{Saved, base, at, busy, table}
 use Rattle.protocol_state.specs.Judge.{allows, mayArrive, preempted, judgedArrival, judgedTask, judgedRead, judgedOn}
 use Rattle.protocol_state.specs.Decision.{decided, rule}
@@ -29,7 +29,7 @@ use Rattle.demands.specs.Refusals.{Earns, none, lowest, Standing, byHist
 use Rattle.demands.specs.Refusals as refusals
 use Rattle.demands.proofs.Bits.{high-bit}
 use Rattle.demands.proofs.Links.{either, or-first, or-second, found, some-at}
-use Rattle.demands.proofs.Earned.{earns-alike, earned-fits, Test, test, chain, Fires, here, later, chain-earns}
+use Rattle.demands.proofs.Earned.{earns-alike, Test, test, chain, Fires, here, later, chain-earns}
 
 not-false : {b : Bool} → not b ≡ true → b ≡ false
 not-false {b} e = go b refl e

@@ -1,22 +1,21 @@
 -- Every answer of the replay is explained by the bytes: by the first fault, or by there being none.
 -- Assumes nothing.
 use mathlib.Core.Path.{_≡_, refl, sym, ap, subst, _∙_}
-use mathlib.Core.Logic.{_≢_, _⊎_, inl, inr}
+use mathlib.Core.Logic.{_≢_, inl, inr}
 use mathlib.Core.List.{List, [], _∷_, _++_}
-use Prim.Native.Nat.{ℕ, _+_, _≤_, _<_}
+use Prim.Native.Nat.{ℕ, _+_, _≤_}
 use native.Mathlib.Omega.{arith}
 use lib.Dec.{ltb}
-use lib.ListN.{length, getD}
+use lib.ListN.{length}
 use Rattle.protocol.specs.Event.{Event}
 use Rattle.protocol.specs.Table.{Table}
-use Rattle.protocol.specs.History.{Counts, counts}
+use Rattle.protocol.specs.History.{counts}
 use Rattle.protocol_state.specs.Saved.{base, at}
-use Rattle.protocol_state.specs.Fresh.{made}
 use Rattle.protocol_state.specs.Fresh as fresh
 use Rattle.protocol_state.proofs.Rules.{ltb-ranks, no-refusal}
 use Rattle.byte_format.specs.Number.{bytesOf}
 use Rattle.byte_format.specs.Stands.{Stands}
-use Rattle.byte_format.specs.Format.{Got, got, stop, FitEach, encodes}
+use Rattle.byte_format.specs.Format.{Got, stop, FitEach, encodes}
 use Rattle.byte_format.specs.Play.{Verdict, verdict, refusalOf}
 use Rattle.byte_format.specs.Section.{Faulty}
 use Rattle.byte_format.proofs.Standing.{stands-join}
@@ -31,20 +30,19 @@ use Rattle.recording_format.proofs.Sizes.{events-within}
 use Rattle.recording_format.proofs.LinkRules.{allowed-judged}
 use Rattle.recording_format.proofs.EventKinds.{byteOf, events-told}
 use Rattle.recording_format.proofs.EventRecords.{events-lawful}
-use Rattle.recording_core.specs.Playing.{Playing, noCounts, coreOf, judgedIn, steppedIn}
+use Rattle.recording_core.specs.Playing.{Playing, coreOf, judgedIn, steppedIn}
 use Rattle.recording_core.specs.Promise.{past, refusedBy, tableOf}
 use Rattle.recording_core.proofs.Promises.{event-refused}
 use Rattle.mailbox.specs.States.{stateOf, madeOf}
 use Rattle.mailbox.specs.declared.State.{State}
-use Rattle.mailbox.specs.declared.Made.{Made}
 use Rattle.recording.specs.Answers.{replied}
 use Rattle.recording.specs.declared.Answer.{Answer}
 use Rattle.recording_demands.specs.Ensured.{Replays}
 use Rattle.recording_demands.proofs.Demands.{answered}
-use Rattle.demands.specs.Station.{station, Keeps}
+use Rattle.demands.specs.Station.{station}
 use Rattle.demands.specs.Calls.{Makes}
 use Rattle.demands.specs.Refusals.{Earns, RecordBreaks}
-use Rattle.demands.specs.Recordings.{EventsBegun, TableFault, countsOf, AtTable, KindOf, anArrival, aStart, aRead, aFinish, Ending, noKind, unknownKind, cutEvent, badEvent, AtEvents, Explained}
+use Rattle.demands.specs.Recordings.{EventsBegun, TableFault, AtTable, KindOf, anArrival, aStart, aRead, aFinish, Ending, noKind, unknownKind, cutEvent, badEvent, AtEvents, Explained}
 use Rattle.demands.specs.Recordings as recordings
 use Rattle.demands.proofs.Events.{record-earned}
 use Rattle.demands.proofs.Replays.{made-ok, Went, went, Fine}

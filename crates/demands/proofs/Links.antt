@@ -2,7 +2,7 @@
 -- Assumes nothing.
 use mathlib.Core.Path.{_≡_, refl, sym, ap, subst, _∙_}
 use mathlib.Core.Logic.{_≢_, _⊎_, inl, inr}
-use mathlib.Core.Bool.{Bool, true, false, cond, _&&_, _||_}
+use mathlib.Core.Bool.{Bool, true, false, _&&_, _||_}
 use mathlib.Core.List.{List, [], _∷_}
 use Prim.Native.Nat.{ℕ, zero, suc, _≤_, _<_}
 use native.Mathlib.Omega.{arith}
@@ -15,10 +15,10 @@ use Rattle.protocol.specs.Table.{behinds}
 use Rattle.protocol_state.specs.Saved.{at}
 use Rattle.protocol_state.specs.Rules.{joins, faultAfter}
 use Rattle.recording_format.specs.Link.{Link, Links, listed, linkFault}
-use Rattle.demands.specs.Station.{writers, readers, kinds}
+use Rattle.demands.specs.Station.{writers, readers}
 use Rattle.demands.specs.Refusals.{Earns, LinkBreaks, noTask, itself, unknownKind, directAhead, twice, ninth}
 use Rattle.demands.proofs.Tables.{listed-columns}
-use Rattle.demands.proofs.Earned.{earns-alike, Test, test, chain, Fires, here, later, chain-earns}
+use Rattle.demands.proofs.Earned.{earns-alike, Test, test, Fires, here, later, chain-earns}
 
 -- one of two tests holds
 pub either : (a b : Bool) → (a || b) ≡ true → (a ≡ true) ⊎ (b ≡ true)

@@ -13,9 +13,7 @@ use Rattle.protocol.specs.History.{counts, reads}
 use Rattle.protocol.specs.ZeroTime.{ideals}
 use Rattle.protocol_state.specs.Saved.{base}
 use Rattle.byte_format.specs.Play.{Verdict, verdict}
-use Rattle.recording_format.specs.Task.{tasks}
 use Rattle.recording_format.specs.Link.{Link, listed}
-use Rattle.recording_format.specs.Event.{events}
 use Rattle.recording_format.specs.Limits.{baseLimits}
 use Rattle.recording_format.specs.Recording.{encodeRecording, stateAfter, recording}
 use Rattle.recording_format.proofs.Decided.{outcome-is}

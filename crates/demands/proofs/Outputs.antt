@@ -1,6 +1,6 @@
 -- What a link is due is the output of a run that has finished, or the default where there was none.
 -- Assumes nothing.
-use mathlib.Core.Path.{_≡_, refl, sym, _∙_}
+use mathlib.Core.Path.{_≡_, refl, sym}
 use mathlib.Core.Bool.{Bool, true, false, cond}
 use mathlib.Core.List.{List, [], _∷_}
 use Prim.Native.Nat.{ℕ, suc}
@@ -8,7 +8,7 @@ use native.Mathlib.Omega.{arith}
 use borrow.Author.Tests.{eqb-true}
 use lib.Dec.{eqb}
 use Rattle.protocol.specs.Event.{Event, arrival, start, read, finish}
-use Rattle.protocol.specs.Given.{Given, there, missing}
+use Rattle.protocol.specs.Given.{there}
 use Rattle.protocol.specs.Table.{Table, startOf}
 use Rattle.protocol.specs.History.{finishes, output}
 use Rattle.protocol.specs.ZeroTime.{wanted, due}

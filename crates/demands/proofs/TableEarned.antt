@@ -1,7 +1,7 @@
 -- The refusal of a table that is handed over whole, in words and as the code computes it.
 -- Assumes nothing.
 use mathlib.Core.Path.{_≡_, refl, sym, ap, subst, _∙_}
-use mathlib.Core.Logic.{_≢_, _⊎_, inl, inr, _↔_}
+use mathlib.Core.Logic.{_≢_, _⊎_, inl, inr}
 use mathlib.Core.Bool.{Bool, true, false, cond, _||_}
 use mathlib.Core.List.{List, [], _∷_, _++_, map}
 use Prim.Native.Nat.{ℕ, zero, suc, _≤_, _<_}
@@ -9,13 +9,13 @@ use native.Mathlib.Omega.{arith}
 use native.Mathlib.Decide.{ℕ-discrete}
 use borrow.Author.Tests.{eqb-true, eqb-false, eq-eqb, ne-eqb, ltb-true, ltb-false, lt-ltb, le-ltb}
 use lib.Dec.{eqb, ltb}
-use lib.ListN.{length, length-map, length-append, take, drop, getD, take-append-drop, List·getD-map, List·getD-append}
+use lib.ListN.{length, length-append, take, drop, getD, take-append-drop, List·getD-map}
 use lib.Seq.{length-take-le, drop-cons, take-at, getD-at}
 use Rattle.lists.specs.Lists.{leading}
 use Rattle.lists.proofs.Bools.{or-left, or-right}
 use Rattle.lists.proofs.Lists.{leading-zero}
 use Rattle.protocol_state.specs.Saved.{base, at}
-use Rattle.protocol_state.specs.Rules.{faultAfter, fault, Obeys, judgedTable}
+use Rattle.protocol_state.specs.Rules.{faultAfter, fault, judgedTable}
 use Rattle.protocol_state.proofs.Rules.{fault-agrees, obeys, no-fault, no-refusal}
 use Rattle.protocol_state.proofs.Places.{leading-same, leading-none-other}
 use Rattle.recording_format.specs.Link.{Link}
@@ -24,7 +24,7 @@ use Rattle.demands.specs.Refusals.{Earns, LinkBreaks, TableEarns}
 use Rattle.demands.specs.Refusals as refusals
 use Rattle.demands.proofs.Tables.{length-numbered, Firsts, column}
 use Rattle.demands.proofs.Earned.{earns-one}
-use Rattle.demands.proofs.Links.{either, or-first, or-second, fault-earned}
+use Rattle.demands.proofs.Links.{either, or-second, fault-earned}
 
 -- ---- the first of some numbers that is not 0
 first-at : (f : ℕ → ℕ) (n : ℕ) → leading f n ≢ 0 → (j : ℕ) × (j < n) × ((i : ℕ) → i < j → f i ≡ 0) × (f j ≡ leading f n)

@@ -3,20 +3,19 @@
 use mathlib.Core.Path.{_≡_, refl, sym, ap, subst, _∙_}
 use mathlib.Core.Logic.{_≢_, _⊎_, inl, inr}
 use mathlib.Core.Bool.{Bool, true, false, cond, _||_}
-use mathlib.Core.List.{List, [], _∷_, _++_}
+use mathlib.Core.List.{List, [], _++_}
 use Prim.Native.Nat.{ℕ, _+_, _-_, _≤_, _<_}
 use native.Mathlib.Omega.{arith}
 use borrow.Author.Tests.{eqb-true, eq-eqb, ne-eqb, ltb-true, lt-ltb, leb-true, leb-false}
 use lib.Dec.{eqb, ltb, leb, lit<}
-use lib.ListN.{length, length-append}
+use lib.ListN.{length}
 use Rattle.protocol_state.specs.Saved.{base}
 use Rattle.byte_format.specs.Number.{bytesOf, numberAt}
 use Rattle.byte_format.specs.Stands.{Stands}
 use Rattle.byte_format.specs.Format.{Got, got, stop, encodes, encodeSection}
-use Rattle.byte_format.specs.Play.{Verdict, verdict, refusalOf, finally}
-use Rattle.byte_format.specs.Section.{countAt, Whole, Faulty}
+use Rattle.byte_format.specs.Play.{verdict, refusalOf, finally}
+use Rattle.byte_format.specs.Section.{countAt, Faulty}
 use Rattle.byte_format.proofs.Counts.{count-missing, count-limited}
-use Rattle.byte_format.proofs.Numbers.{length-bytes}
 use Rattle.byte_format.proofs.Sized.{sized-reads, sized-ends}
 use Rattle.byte_format.proofs.Standing.{stands-join, stands-first, stands-left}
 use Rattle.recording_format.specs.Task.{tasks, anyDefault, andDefault}
@@ -26,7 +25,7 @@ use Rattle.recording_format.specs.Outcome.{TasksTo, TableTo, RecordingOutcome, 
 use Rattle.recording_format.proofs.Sizes.{tasks-within, within-tasks, links-within, within-links, tasks-fit, links-fit}
 use Rattle.recording_format.proofs.LinkRules.{length-listed, no-fault-allowed, allowed-judged}
 use Rattle.recording_format.proofs.Onward.{any-allowed}
-use Rattle.recording_core.specs.Playing.{Playing, coreOf}
+use Rattle.recording_core.specs.Playing.{coreOf}
 use Rattle.protocol_state.proofs.Rules.{no-fault}
 use Rattle.protocol_state.specs.Saved.{at}
 use Rattle.protocol_state.specs.Rules.{fault}

@@ -6,7 +6,7 @@ use mathlib.Core.Logic.{_≢_, _↔_}
 use mathlib.Core.Bool.{true, false}
 use mathlib.Core.List.{List, [], _∷_, _++_}
 use Prim.Native.Nat.{ℕ, pred, _+_, _≤_, _<_}
-use lib.ListN.{length, take, getD}
+use lib.ListN.{length, take, drop, getD}
 use Rattle.lists.specs.Lists.{count}
 use Rattle.protocol.specs.Event.{Event}
 use Rattle.protocol.specs.Table.{Table}
@@ -22,6 +22,7 @@ use Rattle.mailbox.specs.declared.Step.{Step}
 use Rattle.mailbox.specs.declared.Made.{Made}
 use Rattle.recording.specs.declared.Answer.{Answer}
 use Rattle.recording_demands.specs.Ensured.{Replays}
+use Rattle.recording_demands.specs.Rest.{Unread}
 use Rattle.demands.specs.Station.{station, mostUrgentFirst, Keeps, tasksOf, linksOf}
 use Rattle.demands.specs.Refusals.{Earns, TableEarns, LinkBreaks, EventBreaks, byHistory}
 use Rattle.demands.specs.States.{IsSound, tableIn, activeIn, standingIn}
@@ -30,7 +31,7 @@ use Rattle.demands.specs.Calls.{Makes, Gives, Calls}
 use Rattle.demands.specs.Recordings.{recordingBytes, eventBytes, throughCount, Genuine, LinksBegun, EventsBegun, KindOf, countsOf, Listed, AtEvents, Explained}
 use Rattle.demands.specs.Mailboxes.{Published}
 use Rattle.demands.specs.Outputs.{Output}
-use Rattle.demands.specs.Contracts.{AsksNothing, Tells}
+use Rattle.demands.specs.Contracts.{AsksNothing}
 
 -- ---- demand 1
 
@@ -132,5 +133,8 @@ pub record Recordings : Type 0 where
   -- "unless nothing was lost"
   pub nothing-lost : {s out list after ds : List ℕ} {ls : List Link} {es : List (Event ℕ)} {a b : Answer} {m : ℕ} → Genuine s out ds ls es →
       Replays s out a list → Replays (take m s) out b after → length s ≤ m → (b .refusal ≡ 0) × (b ≡ a) × (after ≡ list)
+  -- "On refusal the caller also gets the unread rest, from the place of the refusal to the end, as that part of the lent recording; after acceptance that part
+  -- is empty.": `recording::rest` with the place of the answer gives this part (recording_demands/proofs/Rest `rest-unread`)
+  pub rest : {s out list : List ℕ} {a : Answer} → Replays s out a list → Unread s (a .refusal) (a .place) (drop (a .place) s)
   -- the two clauses of the replay allow one answer to the same bytes and list
   pub one-answer : {s out list list′ : List ℕ} {a a′ : Answer} → Replays s out a list → Replays s out a′ list′ → (a ≡ a′) × (list ≡ list′)

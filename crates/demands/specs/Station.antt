@@ -1,6 +1,5 @@
 -- A station's table, made from numbers: its tasks are their defaults, its links are records of writer, reader and kind.
 -- Assumes nothing.
-use mathlib.Core.Path.{_≡_}
 use mathlib.Core.Bool.{Bool}
 use mathlib.Core.List.{List, map}
 use Prim.Native.Nat.{ℕ, _≤_, _<_}

@@ -28,7 +28,11 @@ use Rattle.recording_format.proofs.NumbersRead.{links-ending, events-ending, nu
 use Rattle.recording_format.proofs.WrittenBytes.{whole-as-written}
 use Rattle.recording_format.proofs.Buffers.{whole-small, Way, refused, short, fits, which-way, buffer-written, buffer-refused}
 use Rattle.recording_core.specs.Playing.{Playing, coreOf, stateCore, alone}
-use Rattle.recording_core.specs.Promise.{past, Genuine}
+use Rattle.recording_core.specs.Promise.{past}
+use Rattle.recording_core.specs.Promise as core
+use Rattle.demands.specs.Recordings.{Genuine}
+use Rattle.demands.proofs.Orders.{past-reads}
+use Rattle.demands.proofs.Genuine.{genuine-core, core-genuine}
 use Rattle.recording_core.proofs.Promises.{recorded-genuine, genuine-recorded}
 use Rattle.recording_core.proofs.Writings.{written-recorded}
 use Rattle.recording_core.proofs.Rooms.{recorded-with-room, recorded-by-state, whole-with-room}
@@ -51,22 +55,27 @@ not-eighteen ds lw ew =
 
 -- a recording that is handed over as what it says is refused nothing
 genuine-weighs :
-    {s out ds : List ℕ} {ls : List Link} {es : List (Event ℕ)} → Genuine ltb baseLimits s out ds ls es →
+    {s out ds : List ℕ} {ls : List Link} {es : List (Event ℕ)} → core.Genuine ltb baseLimits s out ds ls es →
     recordingWeighed ltb baseLimits (stateCore ltb base) ds (handed ls 0) (handed es 0) ≡ verdict 0 (length s) (stateAfter (stateCore ltb base) ds ls es)
 genuine-weighs {s} {out} {ds} {ls} {es} g =
     recorded-whole ltb baseLimits (stateCore ltb base) ds s ls es
     (recorded-by-state ltb baseLimits base out (genuine-recorded ltb-ranks baseLimits out (lit< tt) (lit< tt) (lit< tt) g))
+
+-- as many reads in either order
+pub room-past : (es : List (Event ℕ)) {n : ℕ} → reads es ≤ n → reads (past [] es) ≤ n
+unfolding reads
+room-past es h = omega (arith, past-reads [] es)
 
 -- a list with room for the numbers that the events read
 roomOf : List ℕ → List ℕ
 roomOf ew = replicate (reads (past [] (eventsSaid ew .whole))) 0
 
 -- for it a recording that the numbers say is one
-recording-genuine : {ds lw ew s : List ℕ} → RecordingOf ds lw ew s → Genuine ltb baseLimits s (roomOf ew) ds (linksSaid lw .whole) (eventsSaid ew .whole)
-unfolding roomOf
+recording-genuine : {ds lw ew s : List ℕ} → RecordingOf ds lw ew s → core.Genuine ltb baseLimits s (roomOf ew) ds (linksSaid lw .whole) (eventsSaid ew .whole)
+unfolding roomOf reads
 recording-genuine {ew = ew} r =
     let n = reads (past [] (eventsSaid ew .whole)) in
-    r .genuine (roomOf ew) (omega (arith, length-replicate {A = ℕ} n 0))
+    genuine-core (r .genuine (roomOf ew) (omega (arith, length-replicate {A = ℕ} n 0, past-reads [] (eventsSaid ew .whole))))
 
 -- so it too is refused nothing
 recording-weighs : {ds lw ew s : List ℕ} → RecordingOf ds lw ew s → (weighs ds lw ew .refusal ≡ 0) × (weighs ds lw ew .place ≡ length s)
@@ -145,7 +154,7 @@ module _ {ds lw ew old new : List ℕ} {a : Written} (said : Writes ds lw ew old
     fine =
         let f = whole-fine ltb baseLimits (stateCore ltb base) ds (linksSaid lw) (eventsSaid ew) z in
         let r = written-recorded ltb baseLimits (lit≤ tt) (lit< tt) (lit< tt) ds (linksSaid lw) (eventsSaid ew) (said .numbers .0) (values-said ew (said .numbers .1)) z in
-        record { links-whole = f .0; events-whole = f .1 .0; genuine = λ out l. recorded-genuine ltb-ranks baseLimits out (recorded-with-room ltb baseLimits base out l r) }
+        record { links-whole = f .0; events-whole = f .1 .0; genuine = λ out l. core-genuine (recorded-genuine ltb-ranks baseLimits out (recorded-with-room ltb baseLimits base out (room-past (eventsSaid ew .whole) l) r)) }
 
     -- and its place the length
     long : weighs ds lw ew .place ≡ length (bytes ds lw ew)
@@ -237,17 +246,17 @@ pub recording-as-written : {ds lw ew s : List ℕ} → RecordingOf ds lw ew s �
 recording-as-written {ds} {lw} {ew} r = whole-as-written ds lw ew (r .links-whole) (r .events-whole) ∙ sym (recording-genuine r .bytes)
 
 -- what the reader accepts, handed over as its tasks and the numbers of its links and events, is a recording that these say
-pub genuine-recording : {s out ds : List ℕ} {ls : List Link} {es : List (Event ℕ)} → Genuine ltb baseLimits s out ds ls es → RecordingOf ds (linkWords ls) (eventWords es) s
+pub genuine-recording : {s out ds : List ℕ} {ls : List Link} {es : List (Event ℕ)} → Genuine s out ds ls es → RecordingOf ds (linkWords ls) (eventWords es) s
 genuine-recording {s} {out} {ds} {ls} {es} g =
-    let r = recorded-by-state ltb baseLimits base out (genuine-recorded ltb-ranks baseLimits out (lit< tt) (lit< tt) (lit< tt) g) in
+    let r = recorded-by-state ltb baseLimits base out (genuine-recorded ltb-ranks baseLimits out (lit< tt) (lit< tt) (lit< tt) (genuine-core g)) in
     record {
       links-whole = ap (λ (h : Handed Link). h .ending) (links-said ls);
       events-whole = ap (λ (h : Handed (Event ℕ)). h .ending) (events-said es);
-      genuine = rw (links-said ls, events-said es) (λ (o : List ℕ) (l : reads (past [] es) ≤ length o). recorded-genuine ltb-ranks baseLimits o (recorded-with-room ltb baseLimits base o l r));
+      genuine = rw (links-said ls, events-said es) (λ (o : List ℕ) (l : reads es ≤ length o). core-genuine (recorded-genuine ltb-ranks baseLimits o (recorded-with-room ltb baseLimits base o (room-past es l) r)));
     }
 
 -- so it is written again, byte for byte
 pub accepted-written-again :
-    {s out ds old new : List ℕ} {ls : List Link} {es : List (Event ℕ)} {a : Written} → Genuine ltb baseLimits s out ds ls es →
+    {s out ds old new : List ℕ} {ls : List Link} {es : List (Event ℕ)} {a : Written} → Genuine s out ds ls es →
     Writes ds (linkWords ls) (eventWords es) old a new → length s ≤ length old → (a .refusal ≡ 0) × (a .place ≡ length s) × (take (length s) new ≡ s)
 accepted-written-again g said h = recording-written said (genuine-recording g) h

@@ -1,3 +1,4 @@
+-- The writer's sentences hold: `writer` in Writer; what it rests on is in Demands.
 pub mod Demands
-pub mod Together
 pub mod Contract
+pub mod Writer

@@ -1,14 +1,12 @@
 -- What the writer of recordings ensures, and what it is that numbers say a recording.
 -- Assumes nothing.
 use mathlib.Core.Path.{_≡_}
-use mathlib.Core.List.{List, []}
+use mathlib.Core.List.{List}
 use Prim.Native.Nat.{ℕ, _≤_}
-use lib.Dec.{ltb}
 use lib.ListN.{length}
 use Rattle.protocol.specs.History.{reads}
-use Rattle.recording_format.specs.Limits.{baseLimits}
 use Rattle.recording_format.specs.Words.{Words, linksSaid, eventsSaid}
-use Rattle.recording_core.specs.Promise.{past, Genuine}
+use Rattle.demands.specs.Recordings.{Genuine}
 use Rattle.recording_write.specs.Answers.{replyTo, bufferTo, writtenOf}
 use Rattle.recording_write.specs.declared.Written.{Written}
 
@@ -24,4 +22,4 @@ pub record Writes (ds lw ew old : List ℕ) (a : Written) (new : List ℕ) : Typ
 pub record RecordingOf (ds lw ew s : List ℕ) : Type 0 where
   pub links-whole : linksSaid lw .ending ≡ 0
   pub events-whole : eventsSaid ew .ending ≡ 0
-  pub genuine : (out : List ℕ) → reads (past [] (eventsSaid ew .whole)) ≤ length out → Genuine ltb baseLimits s out ds (linksSaid lw .whole) (eventsSaid ew .whole)
+  pub genuine : (out : List ℕ) → reads (eventsSaid ew .whole) ≤ length out → Genuine s out ds (linksSaid lw .whole) (eventsSaid ew .whole)

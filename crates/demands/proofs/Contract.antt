@@ -1,4 +1,4 @@
--- The calls of the theorems are the code's: what a caller learns from a method's contract in the source is what the theorems take of a call, and beside soundness no more.
+-- The calls of the demands are the code's: what a caller learns from a method's contract in the source is what they take of a call, and beside soundness no more.
 -- `lent` are the arguments of a call, `left` is what they hold after it.
 -- Assumes nothing.
 use mathlib.Core.Path.{_≡_}
@@ -10,12 +10,12 @@ use denote.Triple.Clauses.{AtExit}
 use borrow.Fn.Kinds.{Dens, resT, endedOf}
 use Rattle.protocol.specs.Event as protocol
 use Rattle.protocol_state.specs.Saved.{base}
-use Rattle.protocol_state.specs.Fresh.{made}
 use Rattle.protocol_state.specs.Sound.{isSound}
 use Rattle.mailbox_parts.specs.Plain.{plain}
-use Rattle.mailbox.specs.States.{saved, madeOf, given, StaysSound}
+use Rattle.mailbox.specs.States.{saved, StaysSound}
 use Rattle.mailbox.specs.declared.State.{State}
 use Rattle.mailbox.specs.declared.Step.{Step}
+use Rattle.demands.specs.Calls.{Makes, Gives}
 use Rattle.mailbox.proofs.State.fresh.Kinds as of-fresh
 use Rattle.mailbox.proofs.State.fresh.Reads as fresh
 use Rattle.mailbox.proofs.State.arrival.Kinds as of-arrival
@@ -31,19 +31,18 @@ use Rattle.mailbox.proofs.State.event.Reads as event
 
 -- an event given to a state: the answer is the reply to it, and a sound state stays sound
 abbrev Answers : State → protocol.Event ℕ → Step → Type 0
-Answers q e a = (a ≡ given q e) × StaysSound q a
+Answers q e a = Gives q e a × StaysSound q a
 
 -- a table
 module _ (κs : Lfts 0) (lent : Dens κs of-fresh.ps) (m : resT of-fresh.r κs .Denot) (left : AtExit (endedOf 0 of-fresh.ps of-fresh.r) κs) where
-  abbrev Makes : Type 0
-  Makes =
-      (m ≡ madeOf (made ltb base (lent .0) (lent .1 .0) (lent .1 .1 .0) (lent .1 .1 .1 .0) (lent .1 .1 .1 .1 .0) (lent .1 .1 .1 .1 .1 .0)))
-      × (isSound ltb base (saved (m .state)) ≡ true)
+  abbrev MakesSound : Type 0
+  MakesSound =
+      Makes (lent .0) (lent .1 .0) (lent .1 .1 .0) (lent .1 .1 .1 .0) (lent .1 .1 .1 .1 .0) (lent .1 .1 .1 .1 .1 .0) m × (isSound ltb base (saved (m .state)) ≡ true)
 
-  pub fresh-learnt : fresh.Learnt κs lent m left → Makes
+  pub fresh-learnt : fresh.Learnt κs lent m left → MakesSound
   fresh-learnt learnt = learnt
 
-  pub fresh-told : Makes → fresh.Learnt κs lent m left
+  pub fresh-told : MakesSound → fresh.Learnt κs lent m left
   fresh-told said = said
 
 -- the arrival of a set

@@ -1,0 +1,32 @@
+-- Whatever refuses rightly and follows the published protocol gives each answer that the calls gave: what these two exclude (protocol/proofs/Bites) is no answer of the calls.
+-- Assumes nothing.
+use mathlib.Core.Path.{sym, subst}
+use mathlib.Core.List.{List, []}
+use Prim.Native.Nat.{ℕ}
+use lib.Dec.{ltb}
+use Rattle.protocol.specs.Event.{Event}
+use Rattle.protocol.specs.Table.{Table}
+use Rattle.protocol.specs.Schedule.{urgent}
+use Rattle.protocol.specs.Answering.{Answerer, RefusesRightly, FollowsProtocol}
+use Rattle.protocol_state.specs.Saved.{table}
+use Rattle.protocol_state.specs.Give.{reply}
+use Rattle.protocol_state.specs.Alike.{Alike}
+use Rattle.protocol_state.proofs.Rules.{ltb-ranks}
+use Rattle.protocol_state.proofs.Demanded as state
+use Rattle.recording_core.specs.Promise.{past}
+use Rattle.mailbox.specs.States.{saved}
+use Rattle.mailbox.specs.declared.State.{State}
+use Rattle.mailbox.specs.declared.Step.{Step}
+use Rattle.demands.specs.Calls.{Gives, Calls}
+use Rattle.demands.proofs.Calls.{comes}
+
+-- the answer r is the one that B gives: the same refusal, value, positions, pointers and mailboxes
+abbrev pub AnsweredBy : Answerer ℕ → Table ℕ → List (Event ℕ) → Event ℕ → Step → Type 0
+AnsweredBy B T h e r = Alike (reply (saved (r .state)) (r .answer .refusal) (r .answer .value)) (B .reply T h e)
+
+pub as-answerer : {T : Table ℕ} {es : List (Event ℕ)} {ns : List ℕ} {q : State} → Calls T es ns q → (B : Answerer ℕ) → RefusesRightly B urgent 0 → FollowsProtocol B urgent
+    → (e : Event ℕ) (r : Step) → Gives q e r → AnsweredBy B T (past [] es) e r
+as-answerer {es = es} {q = q} c B D1 D2 e r call =
+    let C = comes c in
+    subst (λ (t : Table ℕ). AnsweredBy B t (past [] es) e r) (C .same)
+    (subst (λ (x : Step). AnsweredBy B (table ltb (C .begin)) (past [] es) e x) (sym call) (state.as-demanded ltb-ranks (C .reached) B D1 D2 e))

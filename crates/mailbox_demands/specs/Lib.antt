@@ -1,2 +1,0 @@
--- What the theorems speak of.
-pub mod Calls
