@@ -37,6 +37,7 @@ use Rattle.demands.proofs.TableEarned.{judged-table-earned, table-earns
 use Rattle.demands.proofs.Events.{phases-earned, judged-earned}
 use Rattle.demands.proofs.Runs.{calls-refusal, calls-event, calls-published, calls-no-time, calls-direct, calls-delayed, calls-finished}
 use Rattle.demands.proofs.Course.{one-course}
+use Rattle.demands.proofs.AnyState.{any-state, any-number}
 use Rattle.demands.proofs.Replays.{keeps-of}
 use Rattle.demands.proofs.Genuine.{one-reading, exactly, accepted-calls}
 use Rattle.demands.proofs.Explained.{every-answer}
@@ -144,6 +145,8 @@ demand-2 = record {
   table = table-kept;
   event = calls-event;
   protocol = calls-published;
+  any-state = any-state;
+  any-number = any-number;
   replayed = accepted-calls;
   one-course = one-course;
 }

@@ -142,7 +142,7 @@ module _ {s out list : List ℕ} {a : Answer} (said : Replays s out a list) wher
           (record-fault t f (w .same) n))
       go (extraBytes ds ls m es p t k h e) =
           let w = went out ds ls es (table-fine t) (k .kept .allowed) in
-          inr (at-events e w (length es) (events-begun t es (length es) p (events-within baseLimits (length es) (k .kept .few)) (k .kept .fits) (k .bytes)) (recordings.extra refl h))
+          inr (at-events e w (length es) (events-begun t es (length es) p (events-within baseLimits (length es) (k .kept .few)) (k .kept .fits) (k .bytes)) (recordings.extra refl (omega arith)))
       go (accepted ds ls m es t k e) =
           let w = went out ds ls es (table-fine t) (k .kept .allowed) in
           inr (at-events e w (length es) (events-begun t es (length es) (length s) (events-within baseLimits (length es) (k .kept .few)) (k .kept .fits) (k .bytes)) (recordings.whole refl refl))

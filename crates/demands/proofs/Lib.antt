@@ -9,6 +9,7 @@ pub mod Outputs
 pub mod Runs
 pub mod Course
 pub mod Answerers
+pub mod AnyState
 -- the refusals in words and as the code computes them
 pub mod Earned
 pub mod Links

@@ -8,10 +8,12 @@ use mathlib.Core.List.{List, [], _∷_, _++_}
 use Prim.Native.Nat.{ℕ, pred, _+_, _≤_, _<_}
 use lib.ListN.{length, take, drop, getD}
 use Rattle.lists.specs.Lists.{count}
-use Rattle.protocol.specs.Event.{Event}
+use Rattle.protocol.specs.Event.{Event, read}
 use Rattle.protocol.specs.Table.{Table}
 use Rattle.protocol.specs.History.{arrivals, finishes}
 use Rattle.protocol.specs.Schedule.{urgent, Possible}
+use Rattle.protocol.specs.Published.{Lowest}
+use Rattle.protocol.specs.Published as published
 use Rattle.protocol.specs.ZeroTime.{runOf, had}
 use Rattle.protocol.specs.Given.{there}
 use Rattle.protocol.specs.Instant.{zeroRun, find}
@@ -25,7 +27,7 @@ use Rattle.recording_demands.specs.Ensured.{Replays}
 use Rattle.recording_demands.specs.Rest.{Unread}
 use Rattle.demands.specs.Station.{station, mostUrgentFirst, Keeps, tasksOf, linksOf}
 use Rattle.demands.specs.Refusals.{Earns, TableEarns, LinkBreaks, EventBreaks, byHistory}
-use Rattle.demands.specs.States.{IsSound, tableIn, activeIn, standingIn}
+use Rattle.demands.specs.States.{IsSound, IsWhole, tableIn, boxesIn, activeIn, standingIn}
 use Rattle.demands.specs.Order.{EachRead}
 use Rattle.demands.specs.Calls.{Makes, Gives, Calls}
 use Rattle.demands.specs.Recordings.{recordingBytes, eventBytes, throughCount, Genuine, LinksBegun, EventsBegun, KindOf, countsOf, Listed, AtEvents, Explained}
@@ -82,6 +84,11 @@ pub record Demand2 : Type 0 where
   -- "Every pointer, mailbox and number read is then the one that the published protocol gives, with at most two mailboxes more than a writer has less urgent
   -- readers.": after any calls, hence after a recording's and after calls that follow it
   pub protocol : {T : Table ℕ} {es : List (Event ℕ)} {ns : List ℕ} {q : State} → Calls T es ns q → Published T es ns q
+  -- and of any sound state, wherever it came from, an accepted event makes what the protocol's step makes of it, and a read gives the protocol's number
+  pub any-state : (q : State) (e : Event ℕ) (r : Step) → Gives q e r → IsWhole q → IsSound q → r .answer .refusal ≡ 0 →
+      published.Step (tableIn q) (Lowest (tableIn q)) e (boxesIn q) (boxesIn (r .state)) × (IsWhole (r .state) × IsSound (r .state))
+  pub any-number : (q : State) (l : ℕ) (r : Step) → Gives q (read l) r → IsWhole q → IsSound q → r .answer .refusal ≡ 0 →
+      r .answer .value ≡ published.number (tableIn q) (boxesIn q) l
   -- an accepted recording is a sequence of calls in which all its events were accepted; its list is their numbers and the untouched rest
   pub replayed : {s out list ds : List ℕ} {a : Answer} {ls : List Link} {es : List (Event ℕ)} → Replays s out a list → Genuine s out ds ls es →
       (ns : List ℕ) × Calls (station ds ls) es ns (a .state) × Listed ns out list × (a .place ≡ length s)
