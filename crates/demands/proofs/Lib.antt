@@ -28,3 +28,4 @@ pub mod Cuts
 -- the theorems, over the contracts in the source
 pub mod Contract
 pub mod Demands
+pub mod Example
