@@ -1,7 +1,9 @@
 // A recording written into the lent bytes.
+ghost use Rattle.recording_format.specs.Words.{Words};
 ghost use Rattle.exports.specs.Wrote.{Wrote};
 
-// Writes a recording from numbers: the refusal, 0 for none, and its place; for none, how many bytes were written.
+// Writes a recording from numbers: the refusal, 0 for none, and its place; for none, how many bytes were written. Each number has 32 bits:
+// `numbers` hands that fact on, as the writer's does.
 #[no_mangle]
 pub extern "C" fn parnusild_write(
     defaults: &[u32],
@@ -10,7 +12,8 @@ pub extern "C" fn parnusild_write(
     bytes: &mut [u8],
     place: &mut usize,
 ) -> u8
-    ensures { λ r. ⌜ Wrote (now (defaults .entry)) (now (links .entry)) (now (events .entry)) (now (bytes .entry)) r (now (place .exit)) (now (bytes .exit)) ⌝ }
+    ensures answer { λ r. ⌜ Wrote (now (defaults .entry)) (now (links .entry)) (now (events .entry)) (now (bytes .entry)) r (now (place .exit)) (now (bytes .exit)) ⌝ }
+    ensures numbers { λ r. ⌜ Words (now (defaults .entry)) × Words (now (events .entry)) ⌝ }
 {
     let written = recording_write::write(defaults, links, events, bytes);
     *place = written.place;

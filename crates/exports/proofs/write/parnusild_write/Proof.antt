@@ -15,7 +15,7 @@ same-length c = search needs
 returns : tie.Need-returns
 returns c =
     let w = c .before .before .write .ensures in
-    record { refusal = ap (λ (x : Written). x .refusal) (w .0); place = ap (λ (x : Written). x .place) (w .0); bytes = w .1 .0 }
+    (record { refusal = ap (λ (x : Written). x .refusal) (w .0); place = ap (λ (x : Written). x .place) (w .0); bytes = w .1 .0 }, w .1 .1)
 
 pub parnusild-write-spec : {M : Type 1} → statement M
 parnusild-write-spec = tie.close (tie.spec write-requires same-length returns)
