@@ -9,8 +9,8 @@ use borrow.Author.Tests.{eqb-true}
 use lib.Dec.{eqb, ltb}
 use Rattle.protocol.specs.Event.{Event}
 use Rattle.protocol.specs.Table.{Table}
-use Rattle.protocol_state.specs.Saved.{base, at}
-use Rattle.protocol_state.specs.Sound.{isSound}
+use Rattle.protocol_state.specs.Saved.{Saved, base, at}
+use Rattle.protocol_state.specs.Sound.{isSound, Sound}
 use Rattle.protocol_state.specs.Fresh as state
 use Rattle.protocol_state.specs.Fresh.{made}
 use Rattle.protocol_state.specs.Rules.{judgedTable}
@@ -98,16 +98,21 @@ module _ (T L : ℕ) (D W R K : List ℕ) (m : Made) (said : Makes T L D W R K m
   )
 
 -- ---- an event given to any state
+
+-- a state that is not sound fails the test
+pub not-sound : (q : Saved) → (Sound ltb base q → ⊥) → isSound ltb base q ≡ false
+not-sound q n = go (isSound ltb base q) refl
+  where
+    go : (b : Bool) → isSound ltb base q ≡ b → isSound ltb base q ≡ false
+    go true i = absurd (n (sound-says ltb base q i))
+    go false i = i
+
 module _ (q : State) (e : Event ℕ) (r : Step) (call : Gives q e r) where
   event-number : IsSound q → (n : ℕ) → (r .answer .refusal ≡ n) ↔ Earns (EventBreaks (tableIn q) (standingIn q) e) n
   event-number S = earns-exactly (ap (λ (x : Step). x .answer .refusal) call ∙ give-refusal ltb base (saved q) e (says-sound ltb base (saved q) S)) (phases-earned (saved q) S e)
 
   unknown-state : (IsSound q → ⊥) → r ≡ asLent q 19
-  unknown-state n = call ∙ ap stepOf (give-unsound ltb base (saved q) e (go (isSound ltb base (saved q)) refl))
-    where
-      go : (b : Bool) → isSound ltb base (saved q) ≡ b → isSound ltb base (saved q) ≡ false
-      go true i = absurd (n (sound-says ltb base (saved q) i))
-      go false i = i
+  unknown-state n = call ∙ ap stepOf (give-unsound ltb base (saved q) e (not-sound (saved q) n))
 
   unchanged : r .answer .refusal ≢ 0 → r ≡ asLent q (r .answer .refusal)
   unchanged n =

@@ -1,0 +1,116 @@
+-- The calls of hosts are the calls that the demands speak of.
+-- Assumes nothing.
+use mathlib.Core.Path.{_≡_, refl, ap, _∙_}
+use mathlib.Core.List.{List}
+use Prim.Native.Nat.{ℕ, _-_, _≤_}
+use native.Mathlib.Omega.{arith}
+use borrow.Author.Tests.{ne-eqb}
+use lib.Dec.{ltb}
+use lib.ListN.{length, drop, length-drop}
+use Rattle.protocol.specs.Event.{Event, arrival, start, read, finish}
+use Rattle.protocol_state.specs.Saved.{Saved, base, at}
+use Rattle.protocol_state.specs.Sound.{isSound, Sound}
+use Rattle.protocol_state.specs.Give.{reply, settled}
+use Rattle.protocol_state.proofs.Sound.{says-sound}
+use Rattle.protocol_state.proofs.Give.{unsound, refused}
+use Rattle.mailbox.specs.States.{stateOf, stepOf, madeOf}
+use Rattle.recording.specs.declared.Answer.{Answer}
+use Rattle.recording_demands.specs.Ensured.{Replays}
+use Rattle.recording_demands.specs.Rest.{Unread}
+use Rattle.recording_demands.proofs.Rest.{unread}
+use Rattle.recording_write_demands.specs.Ensured.{Writes}
+use Rattle.demands.specs.Calls.{Gives}
+use Rattle.demands.proofs.Demands.{not-sound}
+use Rattle.exports.specs.Calls.{Call, known, unknown, called, answered}
+use Rattle.host_demands.specs.Hosts.{HostGives, HostReplays, HostWrites, HostRests, HostAsksNothing, HostTells, Says, anArrival, aStart, aRead, aFinish, answerOf, lastOf, Hosts}
+
+host-asks : HostAsksNothing
+host-asks = record { fresh = λ κs lent. tt; event = λ κs lent. tt; replay = λ κs lent. tt; write = λ κs lent. tt; rest = λ κs lent. tt }
+
+host-tells : HostTells
+host-tells = record {
+  fresh = λ κs lent r left learnt. learnt;
+  event = λ κs lent r left learnt. learnt .call;
+  replay = λ κs lent r left learnt. learnt;
+  write = λ κs lent r left learnt. learnt;
+  rest = λ κs lent n left learnt. learnt;
+}
+
+-- the code's reading of the three numbers
+says-known : {kind which value : ℕ} {e : Event ℕ} → Says kind which value e → called kind which value ≡ known e
+unfolding called
+says-known anArrival = refl
+says-known aStart = refl
+says-known aRead = refl
+says-known aFinish = refl
+
+says-unknown : (kind which value : ℕ) → ((e : Event ℕ) → Says kind which value e → ⊥) → called kind which value ≡ unknown
+unfolding called
+says-unknown kind which value none =
+    rw (
+      ne-eqb kind 1 (λ i. none (arrival which) (rw i anArrival)),
+      ne-eqb kind 2 (λ i. none (start which) (rw i aStart)),
+      ne-eqb kind 3 (λ i. none (read which) (rw i aRead)),
+      ne-eqb kind 4 (λ i. none (finish which value) (rw i aFinish)),
+    )
+
+-- the answer to a kind that is unknown
+unknown-answer : (q q′ : Saved) (r v : ℕ) → reply q′ r v ≡ settled (isSound ltb base q) 11 q q 0
+    → (Sound ltb base q → reply q′ r v ≡ reply q 11 0) × ((Sound ltb base q → ⊥) → reply q′ r v ≡ reply q 19 0)
+unknown-answer q q′ r v e = (
+  λ S. e ∙ refused 11 q q 0 (says-sound ltb base q S) (λ z. omega arith),
+  λ n. e ∙ unsound 11 q q 0 (not-sound q n),
+)
+
+module _ (q q′ : Saved) (kind which value r v : ℕ) (said : HostGives q kind which value r v q′) where
+  answer-is : {c : Call} → called kind which value ≡ c → reply q′ r v ≡ answered q c
+  answer-is i = said ∙ ap (λ (c : Call). answered q c) i
+
+  event-is : (e : Event ℕ) → Says kind which value e → Gives (stateOf q) e (stepOf (reply q′ r v))
+  event-is e s = ap stepOf (answer-is (says-known s))
+
+  unknown-is :
+      ((e : Event ℕ) → Says kind which value e → ⊥) → (Sound ltb base q → reply q′ r v ≡ reply q 11 0) × ((Sound ltb base q → ⊥) → reply q′ r v ≡ reply q 19 0)
+  unknown-is none = unknown-answer q q′ r v (answer-is (says-unknown kind which value none))
+
+-- the parts of a replay's answer
+replay-is : {s out cs list : List ℕ} {r m : ℕ} {q : Saved} → HostReplays s out r m cs q list → Replays s out (answerOf r m cs q) list
+replay-is {s} {out} {cs} (R, b) = record {
+  answer = λ i. record {
+    refusal = R .refusal i;
+    place = R .place i;
+    state = record {
+      state = R .state i;
+      counts = record { arrivals = at (R .counts i) 0; starts = at (R .counts i) 1; reads = at (R .counts i) 2; finishes = at (R .counts i) 3 };
+      list = R .list i;
+    };
+  };
+  bytes = b;
+}
+
+write-is : {ds lw ew old new : List ℕ} {r m : ℕ} → HostWrites ds lw ew old r m new → Writes ds lw ew old (record { refusal = r; place = m }) new
+write-is (W, n) = record { answer = λ i. record { refusal = W .refusal i; place = W .place i }; buffer = W .bytes; numbers = n }
+
+-- a part from a place on is as many of the last bytes
+last-part : (s : List ℕ) (m n : ℕ) → m ≤ length s → n ≡ length (drop m s) → (n ≤ length s) × (lastOf n s ≡ drop m s)
+last-part s m n w e =
+    let k : n ≡ length s - m = e ∙ length-drop m s in
+    let back : length s - n ≡ m = omega arith in
+    (omega arith, ap (λ (x : ℕ). drop x s) back)
+
+rest-is : {s out list : List ℕ} {a : Answer} {n : ℕ} → Replays s out a list → HostRests s (a .place) n → (n ≤ length s) × Unread s (a .refusal) (a .place) (lastOf n s)
+rest-is {s} {out} {list} {a} {n} said e =
+    let p = last-part s (a .place) n (unread said refl .within) e in
+    (p .0, unread said (p .1))
+
+pub hosts : Hosts
+hosts = record {
+  asks = host-asks;
+  tells = host-tells;
+  fresh = λ T L D W R K r q said. ap madeOf said;
+  event = event-is;
+  unknown = unknown-is;
+  replay = replay-is;
+  write = write-is;
+  rest = rest-is;
+}

@@ -1,0 +1,150 @@
+-- What C and Rust hosts link: each of their calls is one that the demands speak of, on a state that the host keeps in its parts. A reader begins at `Hosts`,
+-- the last record here; proofs/Hosts.antt has `hosts`.
+-- Assumes nothing.
+use mathlib.Core.Path.{_≡_}
+use mathlib.Core.List.{List}
+use Prim.Native.Nat.{ℕ, _-_, _≤_}
+use lib.Dec.{ltb}
+use lib.ListN.{length, drop}
+use contract.Lifetimes.{Lfts}
+use denote.Ref.{RefT, now}
+use denote.Triple.Clauses.{AtExit}
+use borrow.Fn.Kinds.{Dens, resT, endedOf}
+use Rattle.protocol.specs.Event.{Event, arrival, start, read, finish}
+use Rattle.protocol_state.specs.Saved.{Saved, base, at}
+use Rattle.protocol_state.specs.Sound.{Sound}
+use Rattle.protocol_state.specs.Fresh.{made}
+use Rattle.protocol_state.specs.Give.{reply}
+use Rattle.byte_format.specs.Number.{Bytes}
+use Rattle.recording_format.specs.Words.{Words}
+use Rattle.mailbox_parts.specs.Becomes.{savedOf}
+use Rattle.mailbox.specs.States.{stateOf, stepOf}
+use Rattle.recording.specs.declared.Answer.{Answer}
+use Rattle.recording_demands.specs.Ensured.{Replays}
+use Rattle.recording_demands.specs.Rest.{Unread}
+use Rattle.recording_write_demands.specs.Ensured.{Writes}
+use Rattle.demands.specs.Calls.{Makes, Gives}
+use Rattle.exports.specs.Calls.{called, answered}
+use Rattle.exports.specs.Replies.{madeAs}
+use Rattle.exports.specs.Replayed.{Replayed}
+use Rattle.exports.specs.Wrote.{Wrote}
+use Rattle.exports.proofs.fresh.parnusild_fresh.Kinds as of-fresh
+use Rattle.exports.proofs.fresh.parnusild_fresh.Reads as on-fresh
+use Rattle.exports.proofs.event.parnusild_event.Kinds as of-event
+use Rattle.exports.proofs.event.parnusild_event.Reads as on-event
+use Rattle.exports.proofs.replay.parnusild_replay.Kinds as of-replay
+use Rattle.exports.proofs.replay.parnusild_replay.Reads as on-replay
+use Rattle.exports.proofs.write.parnusild_write.Kinds as of-write
+use Rattle.exports.proofs.write.parnusild_write.Reads as on-write
+use Rattle.exports.proofs.rest.parnusild_rest.Kinds as of-rest
+use Rattle.exports.proofs.rest.parnusild_rest.Reads as on-rest
+
+-- ---- what the contracts in the source say
+
+-- `parnusild_fresh`, lent a table: it answers r and leaves the state q
+abbrev pub HostMakes : ℕ → ℕ → List ℕ → List ℕ → List ℕ → List ℕ → ℕ → Saved → Type 0
+HostMakes T L D W R K r q = madeAs r q ≡ made ltb base T L D W R K
+
+-- `parnusild_event`, lent the state q: it answers r and the number v, and leaves the state q′
+abbrev pub HostGives : Saved → ℕ → ℕ → ℕ → ℕ → ℕ → Saved → Type 0
+HostGives q kind which value r v q′ = reply q′ r v ≡ answered q (called kind which value)
+
+-- `parnusild_replay`, lent the bytes s and the list out: it answers r at the place m, with the counts cs, and leaves the state q and `list`
+abbrev pub HostReplays : List ℕ → List ℕ → ℕ → ℕ → List ℕ → Saved → List ℕ → Type 0
+HostReplays s out r m cs q list = Replayed s out r m cs q list × Bytes s
+
+-- `parnusild_write`, lent the defaults ds, the numbers lw of links and ew of events, and a buffer that held `old`: it answers r at the place m and leaves `new`
+abbrev pub HostWrites : List ℕ → List ℕ → List ℕ → List ℕ → ℕ → ℕ → List ℕ → Type 0
+HostWrites ds lw ew old r m new = Wrote ds lw ew old r m new × (Words ds × Words ew)
+
+-- `parnusild_rest`, lent the bytes s: it answers n to the place m
+abbrev pub HostRests : List ℕ → ℕ → ℕ → Type 0
+HostRests s m n = n ≡ length (drop m s)
+
+-- "Whatever .. is handed over, an answer comes back": the host's calls ask nothing of what is lent
+pub record HostAsksNothing : Type 0 where
+  pub fresh : (κs : Lfts 15) (lent : Dens κs of-fresh.ps) → on-fresh.Asked κs lent
+  pub event : (κs : Lfts 9) (lent : Dens κs of-event.ps) → on-event.Asked κs lent
+  pub replay : (κs : Lfts 15) (lent : Dens κs of-replay.ps) → on-replay.Asked κs lent
+  pub write : (κs : Lfts 5) (lent : Dens κs of-write.ps) → on-write.Asked κs lent
+  pub rest : (κs : Lfts 1) (lent : Dens κs of-rest.ps) → on-rest.Asked κs lent
+
+-- a lent number, a lent list
+abbrev Number : Type 0
+Number = RefT ℕ
+
+abbrev Numbers : Type 0
+Numbers = RefT (List ℕ)
+
+-- the five parts of a state that events change, lent one after the other: phases, newest, previous, cells, pointers
+abbrev Changing : Type 0
+Changing = Numbers × (Numbers × (Numbers × (Numbers × (Numbers × Unit {0}))))
+
+-- the state that they are part of, with the counts T and L, the defaults D and the links' writers, readers and kinds
+abbrev stateWith : ℕ → ℕ → List ℕ → List ℕ → List ℕ → List ℕ → Changing → Saved
+stateWith T L D W R K (ph, (n, (p, (C, (x, u))))) = savedOf T L D (now ph) (now n) (now p) (now C) W R K (now x)
+
+-- all eleven parts, lent one after the other
+abbrev Parts : Type 0
+Parts = Number × (Number × (Numbers × (Numbers × (Numbers × (Numbers × (Numbers × (Numbers × (Numbers × (Numbers × (Numbers × Unit {0}))))))))))
+
+-- the state in them
+abbrev stateIn : Parts → Saved
+stateIn (T, (L, (D, (ph, (n, (p, (C, (W, (R, (K, (x, u))))))))))) = savedOf (now T) (now L) (now D) (now ph) (now n) (now p) (now C) (now W) (now R) (now K) (now x)
+
+-- the contracts: `lent` are the arguments of a call, in their order, `left` is what the references among them hold after it
+pub record HostTells : Type 0 where
+  pub fresh : (κs : Lfts 15) (lent : Dens κs of-fresh.ps) (r : resT of-fresh.r κs .Denot) (left : AtExit (endedOf 15 of-fresh.ps of-fresh.r) κs) →
+      on-fresh.Learnt κs lent r left →
+      HostMakes (lent .0) (lent .1 .0) (now (lent .1 .1 .0)) (now (lent .1 .1 .1 .0)) (now (lent .1 .1 .1 .1 .0)) (now (lent .1 .1 .1 .1 .1 .0)) r (stateIn (left .1 .1 .1 .1 .1 .1))
+  -- whatever the defaults D of the state are, which are not lent
+  pub event : (κs : Lfts 9) (lent : Dens κs of-event.ps) (r : resT of-event.r κs .Denot) (left : AtExit (endedOf 9 of-event.ps of-event.r) κs) →
+      on-event.Learnt κs lent r left → (D : List ℕ) →
+      let state = stateWith (lent .1 .1 .1 .1 .0) (lent .1 .1 .1 .1 .1 .0) D (now (lent .1 .1 .1 .1 .1 .1 .0)) (now (lent .1 .1 .1 .1 .1 .1 .1 .0)) (now (lent .1 .1 .1 .1 .1 .1 .1 .1 .0)) in
+      HostGives (state (lent .1 .1 .1 .1 .1 .1 .1 .1 .1)) (lent .0) (lent .1 .0) (lent .1 .1 .0) r (now (left .1 .1 .1 .0)) (state (left .1 .1 .1 .1 .1 .1 .1 .1 .1))
+  pub replay : (κs : Lfts 15) (lent : Dens κs of-replay.ps) (r : resT of-replay.r κs .Denot) (left : AtExit (endedOf 15 of-replay.ps of-replay.r) κs) →
+      on-replay.Learnt κs lent r left →
+      HostReplays (now (lent .0)) (now (lent .1 .0)) r (now (left .1 .1 .0)) (now (left .1 .1 .1 .0)) (stateIn (left .1 .1 .1 .1)) (now (left .1 .0))
+  pub write : (κs : Lfts 5) (lent : Dens κs of-write.ps) (r : resT of-write.r κs .Denot) (left : AtExit (endedOf 5 of-write.ps of-write.r) κs) →
+      on-write.Learnt κs lent r left →
+      HostWrites (now (lent .0)) (now (lent .1 .0)) (now (lent .1 .1 .0)) (now (lent .1 .1 .1 .0)) r (now (left .1 .1 .1 .1 .0)) (now (left .1 .1 .1 .0))
+  pub rest : (κs : Lfts 1) (lent : Dens κs of-rest.ps) (n : resT of-rest.r κs .Denot) (left : AtExit (endedOf 1 of-rest.ps of-rest.r) κs) →
+      on-rest.Learnt κs lent n left → HostRests (now (lent .0)) (lent .1 .0) n
+
+-- ---- and these are the calls that the demands speak of
+
+-- the event that the three numbers of `parnusild_event` say; a kind with no line here is none
+pub data Says : ℕ → ℕ → ℕ → Event ℕ → Type 0 where
+  anArrival : {set value : ℕ} → Says 1 set value (arrival set)
+  aStart : {t value : ℕ} → Says 2 t value (start t)
+  aRead : {l value : ℕ} → Says 3 l value (read l)
+  aFinish : {t value : ℕ} → Says 4 t value (finish t value)
+
+-- the answer that a replay's parts are; the counts stand in their order
+abbrev pub answerOf : ℕ → ℕ → List ℕ → Saved → Answer
+answerOf r m cs q = record { refusal = r; place = m; state = stateOf q; arrivals = at cs 0; starts = at cs 1; reads = at cs 2; finishes = at cs 3 }
+
+-- the last n of the bytes s
+abbrev pub lastOf : ℕ → List ℕ → List ℕ
+lastOf n s = drop (length s - n) s
+
+pub record Hosts : Type 0 where
+  -- demand 1, "Whatever bytes, events or saved state are handed over, an answer comes back."
+  pub asks : HostAsksNothing
+  -- below stand the contracts in the source
+  pub tells : HostTells
+  -- a table handed to `parnusild_fresh` makes what it makes by `State::fresh`
+  pub fresh : (T L : ℕ) (D W R K : List ℕ) (r : ℕ) (q : Saved) → HostMakes T L D W R K r q → Makes T L D W R K (record { refusal = r; state = stateOf q })
+  -- an event, kinds 1 to 4, is given to the state by `parnusild_event` as by `State::event`
+  pub event : (q q′ : Saved) (kind which value r v : ℕ) → HostGives q kind which value r v q′ →
+      (e : Event ℕ) → Says kind which value e → Gives (stateOf q) e (stepOf (reply q′ r v))
+  -- "Nothing unknown ever becomes a default.": any other kind is 11 of a sound state and 19 of another, the state as it was, and no number
+  pub unknown : (q q′ : Saved) (kind which value r v : ℕ) → HostGives q kind which value r v q′ →
+      ((e : Event ℕ) → Says kind which value e → ⊥) →
+      (Sound ltb base q → reply q′ r v ≡ reply q 11 0) × ((Sound ltb base q → ⊥) → reply q′ r v ≡ reply q 19 0)
+  -- what `parnusild_replay` answers and leaves is what `recording::replay` does
+  pub replay : {s out cs list : List ℕ} {r m : ℕ} {q : Saved} → HostReplays s out r m cs q list → Replays s out (answerOf r m cs q) list
+  -- what `parnusild_write` answers and leaves is what `recording_write::write` does
+  pub write : {ds lw ew old new : List ℕ} {r m : ℕ} → HostWrites ds lw ew old r m new → Writes ds lw ew old (record { refusal = r; place = m }) new
+  -- "On refusal the caller also gets the unread rest": so many bytes, the last of the recording, as `parnusild_rest` answers to a replay's place
+  pub rest : {s out list : List ℕ} {a : Answer} {n : ℕ} → Replays s out a list → HostRests s (a .place) n → (n ≤ length s) × Unread s (a .refusal) (a .place) (lastOf n s)

@@ -1,0 +1,2 @@
+-- The calls of C and Rust hosts.
+pub mod Hosts
