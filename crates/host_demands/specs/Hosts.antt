@@ -70,26 +70,26 @@ pub record HostAsksNothing : Type 0 where
   pub rest : (κs : Lfts 1) (lent : Dens κs of-rest.ps) → on-rest.Asked κs lent
 
 -- a lent number, a lent list
-abbrev Number : Type 0
+abbrev pub Number : Type 0
 Number = RefT ℕ
 
-abbrev Numbers : Type 0
+abbrev pub Numbers : Type 0
 Numbers = RefT (List ℕ)
 
 -- the five parts of a state that events change, lent one after the other: phases, newest, previous, cells, pointers
-abbrev Changing : Type 0
+abbrev pub Changing : Type 0
 Changing = Numbers × (Numbers × (Numbers × (Numbers × (Numbers × Unit {0}))))
 
 -- the state that they are part of, with the counts T and L, the defaults D and the links' writers, readers and kinds
-abbrev stateWith : ℕ → ℕ → List ℕ → List ℕ → List ℕ → List ℕ → Changing → Saved
+abbrev pub stateWith : ℕ → ℕ → List ℕ → List ℕ → List ℕ → List ℕ → Changing → Saved
 stateWith T L D W R K (ph, (n, (p, (C, (x, u))))) = savedOf T L D (now ph) (now n) (now p) (now C) W R K (now x)
 
 -- all eleven parts, lent one after the other
-abbrev Parts : Type 0
+abbrev pub Parts : Type 0
 Parts = Number × (Number × (Numbers × (Numbers × (Numbers × (Numbers × (Numbers × (Numbers × (Numbers × (Numbers × (Numbers × Unit {0}))))))))))
 
 -- the state in them
-abbrev stateIn : Parts → Saved
+abbrev pub stateIn : Parts → Saved
 stateIn (T, (L, (D, (ph, (n, (p, (C, (W, (R, (K, (x, u))))))))))) = savedOf (now T) (now L) (now D) (now ph) (now n) (now p) (now C) (now W) (now R) (now K) (now x)
 
 -- the contracts: `lent` are the arguments of a call, in their order, `left` is what the references among them hold after it

@@ -1,0 +1,115 @@
+-- Two answers that a contract allows for one input are equal: each contract fixes all that its caller sees, by equations.
+-- Assumes nothing.
+use mathlib.Core.Path.{_≡_, refl, sym, ap, _∙_}
+use mathlib.Core.Bool.{cond}
+use mathlib.Core.List.{[], _∷_}
+use Prim.Native.Nat.{ℕ}
+use lib.Dec.{eqb}
+use Rattle.protocol.specs.Event as protocol
+use Rattle.protocol.specs.Event.{arrival, start, read, finish}
+use Rattle.byte_format.specs.Format.{Got, got, stop}
+use Rattle.recording_format.specs.Event as format
+use Rattle.mailbox_parts.specs.declared.event.Event.{Event}
+use Rattle.mailbox_parts.specs.declared.event.Event.the-variants.{Arrival, Start, Read, Finish}
+use Rattle.mailbox_parts.specs.Plain.{plain}
+use Rattle.recording_read.specs.Next.{plainKind, foundOf, gotOf}
+use Rattle.recording_read.specs.declared.event.Kind.{Kind}
+use Rattle.recording_read.specs.declared.event.Kind.the-variants as kind
+use Rattle.recording_read.specs.declared.event.Found.{Found}
+use Rattle.recording_read.specs.declared.event.Found.the-variants as found
+use Rattle.recording_read.specs.declared.event.Next.{Next}
+use Rattle.recording_read.specs.declared.event.Next.the-variants as next
+use Rattle.demands.proofs.Only.{reply-parts}
+use Rattle.one_answer.specs.OneAnswer.{OneAnswer}
+
+-- what is equal to one thing is equal
+same : {A : Type 0} {x y z : A} → x ≡ z → y ≡ z → x ≡ y
+same p q = p ∙ sym q
+
+-- ---- what reading a record says fixes the code's answer: it can be had back
+
+abbrev eventFrom : protocol.Event ℕ → Event
+eventFrom (arrival s) = Arrival s
+eventFrom (start t) = Start t
+eventFrom (read l) = Read l
+eventFrom (finish t v) = Finish t v
+
+event-back : (e : Event) → eventFrom (plain e) ≡ e
+event-back (Arrival s) = refl
+event-back (Start t) = refl
+event-back (Read l) = refl
+event-back (Finish t v) = refl
+
+abbrev nextFrom : Got (protocol.Event ℕ) → Next
+nextFrom (got e q) = next.Got (eventFrom e) q
+nextFrom (stop n) = cond (eqb n 11) next.Unknown next.Ends
+
+next-back : (n : Next) → nextFrom (gotOf n) ≡ n
+next-back (next.Got e q) = ap (λ (x : Event). next.Got x q) (event-back e)
+next-back next.Unknown = refl
+next-back next.Ends = refl
+
+one-next : (n m : Next) → gotOf n ≡ gotOf m → n ≡ m
+one-next n m e = sym (next-back n) ∙ ap nextFrom e ∙ next-back m
+
+abbrev kindFrom : format.Kind → Kind
+kindFrom format.anArrival = kind.Arrival
+kindFrom format.aStart = kind.Start
+kindFrom format.aRead = kind.Read
+kindFrom format.aFinish = kind.Finish
+
+kind-back : (k : Kind) → kindFrom (plainKind k) ≡ k
+kind-back kind.Arrival = refl
+kind-back kind.Start = refl
+kind-back kind.Read = refl
+kind-back kind.Finish = refl
+
+abbrev foundFrom : Got format.Kind → Found
+foundFrom (got k q) = found.Known (kindFrom k)
+foundFrom (stop n) = cond (eqb n 11) found.Unknown found.Missing
+
+found-back : (f : Found) → foundFrom (foundOf f 0) ≡ f
+found-back (found.Known k) = ap (λ (x : Kind). found.Known x) (kind-back k)
+found-back found.Unknown = refl
+found-back found.Missing = refl
+
+one-found : (f g : Found) → foundOf f 0 ≡ foundOf g 0 → f ≡ g
+one-found f g e = sym (found-back f) ∙ ap foundFrom e ∙ found-back g
+
+-- ---- the theorem
+pub one-answer : OneAnswer
+one-answer = record {
+  fresh = λ κs lent a b left left′ x y. same (x .0) (y .0);
+  arrival = λ κs lent a b left left′ x y. same (x .0) (y .0);
+  start = λ κs lent a b left left′ x y. same (x .0) (y .0);
+  read = λ κs lent a b left left′ x y. same (x .0) (y .0);
+  finish = λ κs lent a b left left′ x y. same (x .0) (y .0);
+  event = λ κs lent a b left left′ x y. same (x .0) (y .0);
+  sound = λ κs lent a b left left′ x y. same x y;
+  single = λ κs lent a b left left′ x y. same x y;
+  replay = λ κs lent a b left left′ x y. let e = reply-parts (same (x .0) (y .0)) in λ i. (e .0 i, e .1 i);
+  rest = λ κs lent a b left left′ x y. same x y;
+  read-event = λ κs lent a b left left′ x y. one-next a b (same x y);
+  kind-of = λ κs lent a b left left′ x y. one-found a b (same (x 0) (y 0));
+  refused = λ κs lent a b left left′ x y. one-next a b (same x y);
+  number-of = λ κs lent a b left left′ x y. same x y;
+  read-table = λ κs lent a b left left′ x y. same x y;
+  new = λ bytes at w w′ x y. λ i. record { bytes = same (x .0) (y .0) i; at = same (x .1) (y .1) i };
+  next = λ w n n′ x y. one-next n n′ (same x y);
+  walk-rest = λ w part part′ x y. same x y;
+  event-at = λ κs lent a b left left′ x y. one-next a b (same x y);
+  write = λ κs lent a b left left′ x y. λ i. (same (x .0) (y .0) i, same (x .1 .0) (y .1 .0) i);
+  migrate = λ κs lent a b left left′ x y. same (x .0) (y .0);
+  write-back = λ κs lent a b left left′ x y. λ i. (same (x .0) (y .0) i, same (x .1 .0) (y .1 .0) i);
+  read-text = λ κs lent a b left left′ x y. λ i. (same (x .0) (y .0) i, (same (x .1 .0) (y .1 .0) i, (same (x .1 .1 .0) (y .1 .1 .0) i, same (x .1 .1 .1) (y .1 .1 .1) i)));
+  line-of = λ κs lent a b left left′ x y. same x y;
+  make-recording = λ κs lent a b left left′ x y. λ i. (same (x .0) (y .0) i, same (x .1) (y .1) i);
+  host-fresh = λ κs lent a b left left′ x y. let e = same x y in λ i. (e i .refusal, e i .state);
+  host-event = λ κs lent a b left left′ x y. let e = same (x .call []) (y .call []) in
+      λ i. (e i .refusal, (e i .value, e i .state .phase ∷ e i .state .newest ∷ e i .state .previous ∷ e i .state .cells ∷ e i .state .pointer ∷ []));
+  host-replay = λ κs lent a b left left′ x y. let p = x .0 in let q = y .0 in
+      λ i. (same (p .refusal) (q .refusal) i, (same (p .place) (q .place) i, (same (p .counts) (q .counts) i, (same (p .state) (q .state) i, same (p .list) (q .list) i))));
+  host-write = λ κs lent a b left left′ x y. let p = x .0 in let q = y .0 in
+      λ i. (same (p .refusal) (q .refusal) i, (same (p .place) (q .place) i, same (p .bytes) (q .bytes) i));
+  host-rest = λ κs lent a b left left′ x y. same x y;
+}

@@ -1,0 +1,131 @@
+-- Two answers that a contract allows for one input are equal: a sentence for each public call, over what its contract in the source tells.
+-- Assumes nothing.
+use mathlib.Core.Path.{_≡_}
+use mathlib.Core.Bool.{Bool}
+use mathlib.Core.List.{List, [], _∷_}
+use Prim.Native.Nat.{ℕ}
+use contract.Lifetimes.{Lfts}
+use denote.Ref.{RefT, now}
+use denote.Triple.Clauses.{AtExit}
+use borrow.Fn.Kinds.{PK, RK, Dens, resT, endedOf, Out}
+use Rattle.protocol_state.specs.Saved.{Saved}
+use Rattle.mailbox.specs.declared.State.{State}
+use Rattle.mailbox.specs.declared.Step.{Step}
+use Rattle.mailbox.specs.declared.Made.{Made}
+use Rattle.recording.specs.declared.Answer.{Answer}
+use Rattle.recording_read.specs.declared.event.Next.{Next}
+use Rattle.recording_read.specs.declared.event.Found.{Found}
+use Rattle.recording_read.specs.declared.table.Table.{Table}
+use Rattle.recording_write.specs.declared.Written as writer
+use Rattle.settings.specs.declared.Migration.{Migration}
+use Rattle.settings.specs.declared.Written as settings
+use Rattle.recording_text.specs.declared.Read.{Read}
+use Rattle.recording_make.specs.declared.Made as make
+use Rattle.recording_walk.specs.declared.Walker.{Walker}
+use Rattle.host_demands.specs.Hosts.{Changing, stateIn}
+use Rattle.mailbox.proofs.State.fresh.Kinds as of-fresh
+use Rattle.mailbox.proofs.State.fresh.Reads as on-fresh
+use Rattle.mailbox.proofs.State.arrival.Kinds as of-arrival
+use Rattle.mailbox.proofs.State.arrival.Reads as on-arrival
+use Rattle.mailbox.proofs.State.start.Kinds as of-start
+use Rattle.mailbox.proofs.State.start.Reads as on-start
+use Rattle.mailbox.proofs.State.read.Kinds as of-read
+use Rattle.mailbox.proofs.State.read.Reads as on-read
+use Rattle.mailbox.proofs.State.finish.Kinds as of-finish
+use Rattle.mailbox.proofs.State.finish.Reads as on-finish
+use Rattle.mailbox.proofs.State.event.Kinds as of-event
+use Rattle.mailbox.proofs.State.event.Reads as on-event
+use Rattle.mailbox.proofs.State.sound.Kinds as of-sound
+use Rattle.mailbox.proofs.State.sound.Reads as on-sound
+use Rattle.mailbox.proofs.State.single.Kinds as of-single
+use Rattle.mailbox.proofs.State.single.Reads as on-single
+use Rattle.recording.proofs.replay.Kinds as of-replay
+use Rattle.recording.proofs.replay.Reads as on-replay
+use Rattle.recording.proofs.rest.Kinds as of-rest
+use Rattle.recording.proofs.rest.Reads as on-rest
+use Rattle.recording_read.proofs.event.read_event.Kinds as of-read-event
+use Rattle.recording_read.proofs.event.read_event.Reads as on-read-event
+use Rattle.recording_read.proofs.event.kind_of.Kinds as of-kind-of
+use Rattle.recording_read.proofs.event.kind_of.Reads as on-kind-of
+use Rattle.recording_read.proofs.event.refused.Kinds as of-refused
+use Rattle.recording_read.proofs.event.refused.Reads as on-refused
+use Rattle.recording_read.proofs.event.number_of.Kinds as of-number-of
+use Rattle.recording_read.proofs.event.number_of.Reads as on-number-of
+use Rattle.recording_read.proofs.table.read_table.Kinds as of-read-table
+use Rattle.recording_read.proofs.table.read_table.Reads as on-read-table
+use Rattle.recording_walk.proofs.event_at.Kinds as of-event-at
+use Rattle.recording_walk.proofs.event_at.Reads as on-event-at
+use Rattle.recording_write.proofs.write.Kinds as of-write
+use Rattle.recording_write.proofs.write.Reads as on-write
+use Rattle.settings.proofs.migrate.Kinds as of-migrate
+use Rattle.settings.proofs.migrate.Reads as on-migrate
+use Rattle.settings.proofs.write_back.Kinds as of-write-back
+use Rattle.settings.proofs.write_back.Reads as on-write-back
+use Rattle.recording_text.proofs.read_text.Kinds as of-read-text
+use Rattle.recording_text.proofs.read_text.Reads as on-read-text
+use Rattle.recording_text.proofs.line_of.Kinds as of-line-of
+use Rattle.recording_text.proofs.line_of.Reads as on-line-of
+use Rattle.recording_make.proofs.make_recording.Kinds as of-make-recording
+use Rattle.recording_make.proofs.make_recording.Reads as on-make-recording
+use Rattle.exports.proofs.fresh.parnusild_fresh.Kinds as of-host-fresh
+use Rattle.exports.proofs.fresh.parnusild_fresh.Reads as on-host-fresh
+use Rattle.exports.proofs.event.parnusild_event.Kinds as of-host-event
+use Rattle.exports.proofs.event.parnusild_event.Reads as on-host-event
+use Rattle.exports.proofs.replay.parnusild_replay.Kinds as of-host-replay
+use Rattle.exports.proofs.replay.parnusild_replay.Reads as on-host-replay
+use Rattle.exports.proofs.write.parnusild_write.Kinds as of-host-write
+use Rattle.exports.proofs.write.parnusild_write.Reads as on-host-write
+use Rattle.exports.proofs.rest.parnusild_rest.Kinds as of-host-rest
+use Rattle.exports.proofs.rest.parnusild_rest.Reads as on-host-rest
+use Rattle.one_answer.specs.Walker.{WalksFrom, WalksTo, WalksLeft}
+
+-- whatever the contract `Learnt` allows for the same arguments, the caller sees the same: of the result, and of what the references then hold that were lent
+-- to be changed
+abbrev pub One : (n : ℕ) (ps : List (PK n)) (r : RK n) → Out n ps r → (Seen : Type 0) → ((κs : Lfts n) → resT r κs .Denot → AtExit (endedOf n ps r) κs → Seen) → Type 0
+One n ps r Learnt Seen sees = (κs : Lfts n) (lent : Dens κs ps) (a b : resT r κs .Denot) (left left′ : AtExit (endedOf n ps r) κs) →
+    Learnt κs lent a left → Learnt κs lent b left′ → sees κs a left ≡ sees κs b left′
+
+-- what the parts hold that events change
+abbrev pub changedIn : Changing → List (List ℕ)
+changedIn (ph, (n, (p, (C, (x, u))))) = now ph ∷ now n ∷ now p ∷ now C ∷ now x ∷ []
+
+pub record OneAnswer : Type 0 where
+  -- `mailbox`: `State::fresh`, `arrival`, `start`, `read`, `finish`, `event`, `sound`, `single`
+  pub fresh : One 0 of-fresh.ps of-fresh.r on-fresh.Learnt Made (λ κs m left. m)
+  pub arrival : One 0 of-arrival.ps of-arrival.r on-arrival.Learnt Step (λ κs s left. s)
+  pub start : One 0 of-start.ps of-start.r on-start.Learnt Step (λ κs s left. s)
+  pub read : One 0 of-read.ps of-read.r on-read.Learnt Step (λ κs s left. s)
+  pub finish : One 0 of-finish.ps of-finish.r on-finish.Learnt Step (λ κs s left. s)
+  pub event : One 0 of-event.ps of-event.r on-event.Learnt Step (λ κs s left. s)
+  pub sound : One 0 of-sound.ps of-sound.r on-sound.Learnt Bool (λ κs b left. b)
+  pub single : One 0 of-single.ps of-single.r on-single.Learnt State (λ κs q left. q)
+  -- `recording`: the answer, and the lent list; a part of the recording by its bytes
+  pub replay : One 2 of-replay.ps of-replay.r on-replay.Learnt (Answer × List ℕ) (λ κs a left. (a, now (left .1 .0)))
+  pub rest : One 1 of-rest.ps of-rest.r on-rest.Learnt (List ℕ) (λ κs part left. now part)
+  -- `recording_read`
+  pub read-event : One 1 of-read-event.ps of-read-event.r on-read-event.Learnt Next (λ κs n left. n)
+  pub kind-of : One 0 of-kind-of.ps of-kind-of.r on-kind-of.Learnt Found (λ κs f left. f)
+  pub refused : One 0 of-refused.ps of-refused.r on-refused.Learnt Next (λ κs n left. n)
+  pub number-of : One 0 of-number-of.ps of-number-of.r on-number-of.Learnt ℕ (λ κs n left. n)
+  pub read-table : One 1 of-read-table.ps of-read-table.r on-read-table.Learnt Table (λ κs t left. t)
+  -- `recording_walk`; `moved` has the clause of `new`, and a walker is equal with its reference
+  pub new : (bytes : RefT (List ℕ)) (at : ℕ) (w w′ : Walker) → WalksFrom bytes at w → WalksFrom bytes at w′ → w ≡ w′
+  pub next : (w : Walker) (n n′ : Next) → WalksTo w n → WalksTo w n′ → n ≡ n′
+  pub walk-rest : (w : Walker) (part part′ : RefT (List ℕ)) → WalksLeft w part → WalksLeft w part′ → now part ≡ now part′
+  pub event-at : One 1 of-event-at.ps of-event-at.r on-event-at.Learnt Next (λ κs n left. n)
+  -- `recording_write`: the answer, and the lent buffer
+  pub write : One 4 of-write.ps of-write.r on-write.Learnt (writer.Written × List ℕ) (λ κs a left. (a, now (left .1 .1 .1 .0)))
+  -- `settings`: the answer, and the lent buffer
+  pub migrate : One 1 of-migrate.ps of-migrate.r on-migrate.Learnt Migration (λ κs m left. m)
+  pub write-back : One 1 of-write-back.ps of-write-back.r on-write-back.Learnt (settings.Written × List ℕ) (λ κs a left. (a, now (left .1 .1 .0)))
+  -- `recording_text`: the answer, and the three lent lists
+  pub read-text : One 4 of-read-text.ps of-read-text.r on-read-text.Learnt (Read × (List ℕ × (List ℕ × List ℕ))) (λ κs a left. (a, (now (left .1 .0), (now (left .1 .1 .0), now (left .1 .1 .1 .0)))))
+  pub line-of : One 1 of-line-of.ps of-line-of.r on-line-of.Learnt ℕ (λ κs n left. n)
+  -- `recording_make`: the answer, and the lent buffer
+  pub make-recording : One 2 of-make-recording.ps of-make-recording.r on-make-recording.Learnt (make.Made × List ℕ) (λ κs a left. (a, now (left .1 .0)))
+  -- what hosts link: the refusal, and all that is lent to be changed
+  pub host-fresh : One 15 of-host-fresh.ps of-host-fresh.r on-host-fresh.Learnt (ℕ × Saved) (λ κs r left. (r, stateIn (left .1 .1 .1 .1 .1 .1)))
+  pub host-event : One 9 of-host-event.ps of-host-event.r on-host-event.Learnt (ℕ × (ℕ × List (List ℕ))) (λ κs r left. (r, (now (left .1 .1 .1 .0), changedIn (left .1 .1 .1 .1 .1 .1 .1 .1 .1))))
+  pub host-replay : One 15 of-host-replay.ps of-host-replay.r on-host-replay.Learnt (ℕ × (ℕ × (List ℕ × (Saved × List ℕ)))) (λ κs r left. (r, (now (left .1 .1 .0), (now (left .1 .1 .1 .0), (stateIn (left .1 .1 .1 .1), now (left .1 .0))))))
+  pub host-write : One 5 of-host-write.ps of-host-write.r on-host-write.Learnt (ℕ × (ℕ × List ℕ)) (λ κs r left. (r, (now (left .1 .1 .1 .1 .0), now (left .1 .1 .1 .0))))
+  pub host-rest : One 1 of-host-rest.ps of-host-rest.r on-host-rest.Learnt ℕ (λ κs n left. n)
