@@ -22,7 +22,7 @@ use Rattle.recording_write_demands.specs.Ensured.{Writes}
 use Rattle.demands.specs.Calls.{Gives}
 use Rattle.demands.proofs.Demands.{not-sound}
 use Rattle.exports.specs.Calls.{Call, known, unknown, called, answered}
-use Rattle.host_demands.specs.Hosts.{HostGives, HostReplays, HostWrites, HostRests, HostAsksNothing, HostTells, Says, anArrival, aStart, aRead, aFinish, answerOf, lastOf, Hosts}
+use Rattle.host_demands.specs.Hosts.{HostGives, HostReplays, HostWrites, HostRests, HostAsksNothing, HostTells, HostSays, anArrival, aStart, aRead, aFinish, hostAnswer, lastOf, Hosts}
 
 host-asks : HostAsksNothing
 host-asks = record { fresh = λ κs lent. tt; event = λ κs lent. tt; replay = λ κs lent. tt; write = λ κs lent. tt; rest = λ κs lent. tt }
@@ -37,14 +37,14 @@ host-tells = record {
 }
 
 -- the code's reading of the three numbers
-says-known : {kind which value : ℕ} {e : Event ℕ} → Says kind which value e → called kind which value ≡ known e
+says-known : {kind which value : ℕ} {e : Event ℕ} → HostSays kind which value e → called kind which value ≡ known e
 unfolding called
 says-known anArrival = refl
 says-known aStart = refl
 says-known aRead = refl
 says-known aFinish = refl
 
-says-unknown : (kind which value : ℕ) → ((e : Event ℕ) → Says kind which value e → ⊥) → called kind which value ≡ unknown
+says-unknown : (kind which value : ℕ) → ((e : Event ℕ) → HostSays kind which value e → ⊥) → called kind which value ≡ unknown
 unfolding called
 says-unknown kind which value none =
     rw (
@@ -66,15 +66,15 @@ module _ (q q′ : Saved) (kind which value r v : ℕ) (said : HostGives q kind 
   answer-is : {c : Call} → called kind which value ≡ c → reply q′ r v ≡ answered q c
   answer-is i = said ∙ ap (λ (c : Call). answered q c) i
 
-  event-is : (e : Event ℕ) → Says kind which value e → Gives (stateOf q) e (stepOf (reply q′ r v))
+  event-is : (e : Event ℕ) → HostSays kind which value e → Gives (stateOf q) e (stepOf (reply q′ r v))
   event-is e s = ap stepOf (answer-is (says-known s))
 
   unknown-is :
-      ((e : Event ℕ) → Says kind which value e → ⊥) → (Sound ltb base q → reply q′ r v ≡ reply q 11 0) × ((Sound ltb base q → ⊥) → reply q′ r v ≡ reply q 19 0)
+      ((e : Event ℕ) → HostSays kind which value e → ⊥) → (Sound ltb base q → reply q′ r v ≡ reply q 11 0) × ((Sound ltb base q → ⊥) → reply q′ r v ≡ reply q 19 0)
   unknown-is none = unknown-answer q q′ r v (answer-is (says-unknown kind which value none))
 
 -- the parts of a replay's answer
-replay-is : {s out cs list : List ℕ} {r m : ℕ} {q : Saved} → HostReplays s out r m cs q list → Replays s out (answerOf r m cs q) list
+replay-is : {s out cs list : List ℕ} {r m : ℕ} {q : Saved} → HostReplays s out r m cs q list → Replays s out (hostAnswer r m cs q) list
 replay-is {s} {out} {cs} (R, b) = record {
   answer = λ i. record {
     refusal = R .refusal i;

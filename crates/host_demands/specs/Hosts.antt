@@ -114,15 +114,15 @@ pub record HostTells : Type 0 where
 -- ---- and these are the calls that the demands speak of
 
 -- the event that the three numbers of `parnusild_event` say; a kind with no line here is none
-pub data Says : ℕ → ℕ → ℕ → Event ℕ → Type 0 where
-  anArrival : {set value : ℕ} → Says 1 set value (arrival set)
-  aStart : {t value : ℕ} → Says 2 t value (start t)
-  aRead : {l value : ℕ} → Says 3 l value (read l)
-  aFinish : {t value : ℕ} → Says 4 t value (finish t value)
+pub data HostSays : ℕ → ℕ → ℕ → Event ℕ → Type 0 where
+  anArrival : {set value : ℕ} → HostSays 1 set value (arrival set)
+  aStart : {t value : ℕ} → HostSays 2 t value (start t)
+  aRead : {l value : ℕ} → HostSays 3 l value (read l)
+  aFinish : {t value : ℕ} → HostSays 4 t value (finish t value)
 
 -- the answer that a replay's parts are; the counts stand in their order
-abbrev pub answerOf : ℕ → ℕ → List ℕ → Saved → Answer
-answerOf r m cs q = record { refusal = r; place = m; state = stateOf q; arrivals = at cs 0; starts = at cs 1; reads = at cs 2; finishes = at cs 3 }
+abbrev pub hostAnswer : ℕ → ℕ → List ℕ → Saved → Answer
+hostAnswer r m cs q = record { refusal = r; place = m; state = stateOf q; arrivals = at cs 0; starts = at cs 1; reads = at cs 2; finishes = at cs 3 }
 
 -- the last n of the bytes s
 abbrev pub lastOf : ℕ → List ℕ → List ℕ
@@ -131,19 +131,19 @@ lastOf n s = drop (length s - n) s
 pub record Hosts : Type 0 where
   -- demand 1, "Whatever bytes, events or saved state are handed over, an answer comes back."
   pub asks : HostAsksNothing
-  -- below stand the contracts in the source
+  -- what the sentences below take of a call is what its contract in the source tells
   pub tells : HostTells
   -- a table handed to `parnusild_fresh` makes what it makes by `State::fresh`
   pub fresh : (T L : ℕ) (D W R K : List ℕ) (r : ℕ) (q : Saved) → HostMakes T L D W R K r q → Makes T L D W R K (record { refusal = r; state = stateOf q })
   -- an event, kinds 1 to 4, is given to the state by `parnusild_event` as by `State::event`
   pub event : (q q′ : Saved) (kind which value r v : ℕ) → HostGives q kind which value r v q′ →
-      (e : Event ℕ) → Says kind which value e → Gives (stateOf q) e (stepOf (reply q′ r v))
+      (e : Event ℕ) → HostSays kind which value e → Gives (stateOf q) e (stepOf (reply q′ r v))
   -- "Nothing unknown ever becomes a default.": any other kind is 11 of a sound state and 19 of another, the state as it was, and no number
   pub unknown : (q q′ : Saved) (kind which value r v : ℕ) → HostGives q kind which value r v q′ →
-      ((e : Event ℕ) → Says kind which value e → ⊥) →
+      ((e : Event ℕ) → HostSays kind which value e → ⊥) →
       (Sound ltb base q → reply q′ r v ≡ reply q 11 0) × ((Sound ltb base q → ⊥) → reply q′ r v ≡ reply q 19 0)
   -- what `parnusild_replay` answers and leaves is what `recording::replay` does
-  pub replay : {s out cs list : List ℕ} {r m : ℕ} {q : Saved} → HostReplays s out r m cs q list → Replays s out (answerOf r m cs q) list
+  pub replay : {s out cs list : List ℕ} {r m : ℕ} {q : Saved} → HostReplays s out r m cs q list → Replays s out (hostAnswer r m cs q) list
   -- what `parnusild_write` answers and leaves is what `recording_write::write` does
   pub write : {ds lw ew old new : List ℕ} {r m : ℕ} → HostWrites ds lw ew old r m new → Writes ds lw ew old (record { refusal = r; place = m }) new
   -- "On refusal the caller also gets the unread rest": so many bytes, the last of the recording, as `parnusild_rest` answers to a replay's place
