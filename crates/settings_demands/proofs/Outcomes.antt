@@ -1,4 +1,4 @@
--- For any bytes: the first fault decides, with its number and its place; and where the outcome is known, the answer is known.
+-- What the reader finds in any bytes: the first fault, with its number and its place; and where the outcome is known, the answer is known.
 -- Assumes nothing.
 use mathlib.Core.Path.{_≡_, refl, sym, ap, _∙_}
 use mathlib.Core.Logic.{_≢_}
@@ -10,8 +10,9 @@ use borrow.Author.Tests.{ltb-true, ltb-false}
 use lib.Dec.{ltb}
 use lib.ListN.{length, length-map}
 use Rattle.byte_format.specs.Number.{Bytes}
+use Rattle.byte_format.specs.Format.{stop}
 use Rattle.byte_format.specs.Play.{Verdict, verdict, finally}
-use Rattle.byte_format.specs.Section.{section}
+use Rattle.byte_format.specs.Section.{section, countAt, Whole, Faulty}
 use Rattle.byte_format.specs.End.{ended}
 use Rattle.byte_format.proofs.Sections.{Answered, countRefused, recordRefused, wholeSection, section-answered, section-refused, whole-section, faulty-section}
 use Rattle.settings.specs.declared.Setting.{Setting}
@@ -20,10 +21,29 @@ use Rattle.settings.specs.Entry.{Entry, entries, settingOf}
 use Rattle.settings.specs.Migration.{countLimit, badFloat, andSetting, listRead, answered, migration, refusedAt}
 use Rattle.settings.proofs.Records.{entries-lawful}
 use Rattle.settings.proofs.Answers.{refused-answer, extra-answer, whole-answer}
-use Rattle.settings_demands.specs.Outcome.{ListTo, holding, MigrationOutcome, badCount, badEntry, extraBytes, accepted}
+use Rattle.settings_demands.specs.OldList.{holding}
+
+-- these entries stand in s after their count, up to m: 1 to 64 of them, and none a bad float
+abbrev pub ListTo : List ℕ → List Entry → ℕ → Type 0
+ListTo s es m = Whole entries countLimit badFloat andSetting s [] 0 es m
+
+-- these entries stand there so, and one more is due at m, whose refusal is r
+abbrev pub FaultAt : List ℕ → List Entry → ℕ → ℕ → Type 0
+FaultAt s es r m = Faulty entries countLimit badFloat andSetting s [] 0 es r m
+
+-- where the reader finds the first fault, or that there is none; what stands before it is right
+pub data MigrationOutcome (s : List ℕ) (m : Migration) : Type 0 where
+  -- at the count
+  badCount : (r : ℕ) → r ≢ 0 → countAt 1 countLimit s 0 ≡ stop r → m ≡ refusedAt r 0 → MigrationOutcome s m
+  -- at an entry
+  badEntry : (es : List Entry) (r p : ℕ) → r ≢ 0 → FaultAt s es r p → m ≡ refusedAt r p → MigrationOutcome s m
+  -- bytes after the last entry
+  extraBytes : (es : List Entry) (p : ℕ) → ListTo s es p → p < length s → m ≡ refusedAt 17 p → MigrationOutcome s m
+  -- none
+  accepted : (es : List Entry) → ListTo s es (length s) → m ≡ holding es (length s) → MigrationOutcome s m
 
 -- entries that are taken one after the other are their settings
-pub settings-taken : (xs : List Setting) (es : List Entry) → finally andSetting xs es ≡ xs ++ map settingOf es
+settings-taken : (xs : List Setting) (es : List Entry) → finally andSetting xs es ≡ xs ++ map settingOf es
 unfolding finally
 settings-taken xs [] = sym (append-nil xs)
 settings-taken xs (e ∷ es) = settings-taken (xs ++ (settingOf e ∷ [])) es ∙ append-assoc xs (settingOf e ∷ []) (map settingOf es)

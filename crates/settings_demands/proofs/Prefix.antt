@@ -26,8 +26,7 @@ use Rattle.settings.specs.Entry.{Entry, codeOf, codes, entries}
 use Rattle.settings.specs.Migration.{countLimit, badFloat, andSetting, migration}
 use Rattle.settings.proofs.Records.{length-entry}
 use Rattle.settings.proofs.Counting.{count-range}
-use Rattle.settings_demands.specs.Outcome.{ListTo, FaultAt, MigrationOutcome, badCount, badEntry, extraBytes, accepted}
-use Rattle.settings_demands.proofs.Outcomes.{migration-outcome, outcome-is}
+use Rattle.settings_demands.proofs.Outcomes.{ListTo, FaultAt, MigrationOutcome, badCount, badEntry, extraBytes, accepted, migration-outcome, outcome-is}
 
 module _ (s : List ℕ) (k : ℕ) (h : 577 < k) (l : k < length s) where
   -- the first k bytes, of which there are more

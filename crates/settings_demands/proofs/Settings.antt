@@ -9,21 +9,23 @@ use Rattle.settings.specs.declared.Setting.{Setting}
 use Rattle.settings.specs.declared.Setting.the-variants.{Margin, Feed, Count}
 use Rattle.settings.specs.declared.code.Code.{Code}
 use Rattle.settings.specs.declared.code.Code.the-variants as code
-use Rattle.settings.specs.Setting.{faultOf, Held}
+use Rattle.settings.specs.Setting.{Held}
 use Rattle.settings.specs.Entry.{Entry, made, settingOf, entryOf}
-use Rattle.settings.proofs.Floats.{good-float, bits-kept}
+use Rattle.settings.proofs.Floats.{bits-kept}
+use Rattle.settings_demands.specs.Values.{Good, goodMargin, goodFeed}
+use Rattle.settings_demands.proofs.Values.{above-zero}
 
--- "Accepted floats keep their bits": an entry without a fault is that of its setting
-pub entry-kept : (e : Entry) → Wide 8 (e .bits) → faultOf (settingOf e) ≡ 0 → entryOf (settingOf e) ≡ e
-entry-kept e w h = go (e .kind) (e .bits) w h
+-- "Accepted floats keep their bits": an entry whose setting is good is that of its setting
+pub entry-kept : (e : Entry) → Wide 8 (e .bits) → Good (settingOf e) → entryOf (settingOf e) ≡ e
+entry-kept e w g = go (e .kind) (e .bits) w g
   where
     entry : Code → ℕ → Entry
     entry k n = record { kind = k; bits = n }
 
-    go : (k : Code) (n : ℕ) → Wide 8 n → faultOf (made k n) ≡ 0 → entryOf (made k n) ≡ entry k n
-    go code.Margin n w h = ap (entry code.Margin) (bits-kept n w (good-float _ h))
-    go code.Feed n w h = ap (entry code.Feed) (bits-kept n w (good-float _ h))
-    go code.Count n w h = refl
+    go : (k : Code) (n : ℕ) → Wide 8 n → Good (made k n) → entryOf (made k n) ≡ entry k n
+    go code.Margin n w (goodMargin f) = ap (entry code.Margin) (bits-kept n w (above-zero f))
+    go code.Feed n w (goodFeed f) = ap (entry code.Feed) (bits-kept n w (above-zero f))
+    go code.Count n w g = refl
 
 -- and a setting is that of its entry
 pub setting-kept : (x : Setting) → Held x → settingOf (entryOf x) ≡ x

@@ -8,14 +8,13 @@ use native.Mathlib.Omega.{arith}
 use lib.ListN.{length, getD, replicate, length-map, length-append, length-replicate, List·getD-append, List·getD-map}
 use lib.Seq.{take-at}
 use Rattle.byte_format.specs.Format.{FitEach}
-use Rattle.byte_format.specs.Play.{Allowed}
 use Rattle.settings.specs.declared.Setting.{Setting}
 use Rattle.settings.specs.declared.Setting.the-variants.{Count}
 use Rattle.settings.specs.declared.Slot.{Slot}
-use Rattle.settings.specs.Setting.{faultOf}
 use Rattle.settings.specs.Entry.{Entry, entries, settingOf, entryOf}
-use Rattle.settings.specs.Migration.{badFloat, andSetting, slot, slots}
+use Rattle.settings.specs.Migration.{slot, slots}
 use Rattle.settings.specs.Writing.{settingAt, entriesOf}
+use Rattle.settings_demands.specs.OldList.{GoodEach}
 use Rattle.settings_demands.proofs.Settings.{entry-kept}
 
 -- an element of the second of two lists
@@ -60,32 +59,26 @@ slots-many xs h =
       length-replicate (64 - length xs) (slot (Count 0)),
     )
 
--- the settings of entries that are allowed have these entries
-entries-again : (xs : List Setting) (es : List Entry) → FitEach entries es → Allowed badFloat andSetting xs es → map (λ s. entryOf (s .setting)) (map slot (map settingOf es)) ≡ es
-unfolding FitEach Allowed
-entries-again xs [] f a = refl
-entries-again xs (e ∷ es) f a =
-    let u : entryOf (settingOf e) ≡ e = entry-kept e (f .0) (a .0) in
-    let v = entries-again (andSetting xs e) es (f .1) (a .1) in
+-- the settings of good entries have these entries
+entries-again : (es : List Entry) → FitEach entries es → GoodEach es → map (λ s. entryOf (s .setting)) (map slot (map settingOf es)) ≡ es
+unfolding FitEach GoodEach
+entries-again [] f g = refl
+entries-again (e ∷ es) f g =
+    let u : entryOf (settingOf e) ≡ e = entry-kept e (f .0) (g .0) in
+    let v = entries-again es (f .1) (g .1) in
     cc
 
 -- and so have the slots
-pub entries-of-slots : (es : List Entry) → FitEach entries es → Allowed badFloat andSetting [] es → entriesOf (slots (map settingOf es)) (length es) ≡ es
+pub entries-of-slots : (es : List Entry) → FitEach entries es → GoodEach es → entriesOf (slots (map settingOf es)) (length es) ≡ es
 unfolding slots
-entries-of-slots es f a =
+entries-of-slots es f g =
     let xs = map settingOf es in
     let l : length (map slot xs) ≡ length es = omega (arith, length-map xs slot, length-map es settingOf) in
-    rw (take-at (map slot xs) (replicate (64 - length xs) (slot (Count 0))) (length es) l) (entries-again [] es f a)
+    rw (take-at (map slot xs) (replicate (64 - length xs) (slot (Count 0))) (length es) l) (entries-again es f g)
 
--- of records that fit and are allowed, each one is
+-- of records that fit, each one does
 pub fit-at : (es : List Entry) (i : ℕ) (d : Entry) → FitEach entries es → i < length es → entries .Fits (getD es i d)
 unfolding FitEach
 fit-at [] i d f h = absurd (omega arith)
 fit-at (e ∷ es) zero d f h = f .0
 fit-at (e ∷ es) (suc i) d f h = fit-at es i d (f .1) (le-of-suc-le-suc h)
-
-pub allowed-at : (xs : List Setting) (es : List Entry) (i : ℕ) (d : Entry) → Allowed badFloat andSetting xs es → i < length es → faultOf (settingOf (getD es i d)) ≡ 0
-unfolding Allowed
-allowed-at xs [] i d a h = absurd (omega arith)
-allowed-at xs (e ∷ es) zero d a h = a .0
-allowed-at xs (e ∷ es) (suc i) d a h = allowed-at (andSetting xs e) es i d (a .1) (le-of-suc-le-suc h)

@@ -7,13 +7,14 @@ use lib.ListN.{getD}
 use Rattle.byte_format.specs.Number.{numberAt}
 use Rattle.byte_format.specs.Stands.{Stands}
 use Rattle.settings.specs.declared.Setting.{Setting}
-use Rattle.settings.specs.Setting.{faultOf}
-use Rattle.settings.specs.Entry.{byteOf, encodeEntry, settingOf, entryOf}
+use Rattle.settings.specs.Entry.{encodeEntry, entryOf}
+use Rattle.settings_demands.specs.Values.{CodeOf}
 
--- x is what entry i of the list s says: its code byte stands there, then exactly its 8 bytes; that code and those bytes say x, and x is no bad float
+-- x is what entry i of the list s says
 pub record FromEntry (s : List ℕ) (i : ℕ) (x : Setting) : Type 0 where
-  pub code : getD s (1 + 9 * i) 0 ≡ byteOf (entryOf x .kind)
-  pub eight : numberAt 8 s (1 + 9 * i + 1) ≡ entryOf x .bits
+  -- "entries of a code byte and 8 bytes": the bytes of entry i are those of x
   pub entry : Stands s (1 + 9 * i) (encodeEntry (entryOf x)) (1 + 9 * (i + 1))
-  pub says : settingOf (entryOf x) ≡ x
-  pub good : faultOf x ≡ 0
+  -- "a margin, a feed rate or a count, each carrying its own value": its code byte says which, its 8 bytes say the value
+  pub say : ℕ → Setting
+  pub code : CodeOf (getD s (1 + 9 * i) 0) say
+  pub value : x ≡ say (numberAt 8 s (1 + 9 * i + 1))
