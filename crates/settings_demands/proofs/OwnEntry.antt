@@ -22,7 +22,7 @@ use Rattle.settings.proofs.Records.{length-entry}
 use Rattle.settings_demands.specs.Ensured.{Migrates}
 use Rattle.settings_demands.specs.Values.{Good}
 use Rattle.settings_demands.specs.FromList.{FromEntry}
-use Rattle.settings_demands.specs.OldList.{OldList, Explained, refused, accepted}
+use Rattle.settings_demands.specs.OldList.{OldList, ListExplained, refused, accepted}
 use Rattle.settings_demands.proofs.Values.{code-known}
 use Rattle.settings_demands.proofs.Settings.{entry-kept}
 use Rattle.settings_demands.proofs.Lists.{old-whole, good-at}
@@ -76,7 +76,7 @@ module _ {s : List ℕ} {m : Migration} (said : Migrates s m) where
   its-entry : (i : ℕ) → i < m .number → Its s i (settingAt (m .settings) i)
   its-entry i h = go (every-answer said)
     where
-      go : Explained s m → Its s i (settingAt (m .settings) i)
+      go : ListExplained s m → Its s i (settingAt (m .settings) i)
       go (refused f e) = let z = ap (λ (x : Migration). x .number) e in absurd (omega arith)
       go (accepted {es} o e) =
           let d : Entry = record { kind = code.Count; bits = 0 } in

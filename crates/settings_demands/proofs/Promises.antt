@@ -11,7 +11,7 @@ use Rattle.settings.specs.declared.Migration.{Migration}
 use Rattle.settings.specs.Entry.{settingOf}
 use Rattle.settings.specs.Writing.{settingAt, AllGood}
 use Rattle.settings_demands.specs.Ensured.{Migrates}
-use Rattle.settings_demands.specs.OldList.{Explained, refused, accepted}
+use Rattle.settings_demands.specs.OldList.{ListExplained, refused, accepted}
 use Rattle.settings_demands.proofs.Values.{good-fine}
 use Rattle.settings_demands.proofs.Slots.{slot-past}
 use Rattle.settings_demands.proofs.Explained.{every-answer}
@@ -22,7 +22,7 @@ module _ {s : List ℕ} {m : Migration} (said : Migrates s m) where
   pub past-the-number : (i : ℕ) → m .number ≤ i → settingAt (m .settings) i ≡ Count 0
   past-the-number i h = go (every-answer said)
     where
-      go : Explained s m → settingAt (m .settings) i ≡ Count 0
+      go : ListExplained s m → settingAt (m .settings) i ≡ Count 0
       go (refused f e) = ap (λ (y : Migration). settingAt (y .settings) i) e ∙ slot-past [] i (omega arith)
       go (accepted {es} o e) =
           let z = ap (λ (x : Migration). x .number) e in
@@ -32,7 +32,7 @@ module _ {s : List ℕ} {m : Migration} (said : Migrates s m) where
   pub refused-empty : m .refusal ≢ 0 → m .number ≡ 0
   refused-empty z = go (every-answer said)
     where
-      go : Explained s m → m .number ≡ 0
+      go : ListExplained s m → m .number ≡ 0
       go (refused f e) = ap (λ (x : Migration). x .number) e
       go (accepted o e) = absurd (z (ap (λ (x : Migration). x .refusal) e))
 
@@ -40,6 +40,6 @@ module _ {s : List ℕ} {m : Migration} (said : Migrates s m) where
   pub few-and-good : (m .number ≤ 64) × AllGood (m .settings) (m .number)
   few-and-good = (few (every-answer said), λ i h. good-fine (good said i h))
     where
-      few : Explained s m → m .number ≤ 64
+      few : ListExplained s m → m .number ≤ 64
       few (refused f e) = let z = ap (λ (x : Migration). x .number) e in omega arith
       few (accepted o e) = let z = ap (λ (x : Migration). x .number) e in omega (arith, o .few .1)

@@ -1,5 +1,5 @@
 -- Request 2026-13, a field for each sentence, over what the contracts of `settings` ensure: `Migrates s m` and `WritesBack ss n old w new` are what a caller
--- learns of a call (`Tells`). Here a reader begins; proofs/Migrator.antt has `migrator`.
+-- learns of a call (`MigratorTells`). Here a reader begins; proofs/Migrator.antt has `migrator`.
 -- "Demands 2 and 3 read nothing of it.": the crate `demands` does not stand on this one, nor on `settings`.
 -- Assumes nothing.
 use mathlib.Core.Path.{_≡_}
@@ -15,17 +15,17 @@ use Rattle.settings.specs.declared.Written.{Written}
 use Rattle.settings.specs.Entry.{Entry, entryOf}
 use Rattle.settings.specs.Writing.{settingAt, entriesOf, answer}
 use Rattle.settings_demands.specs.Ensured.{Migrates, WritesBack}
-use Rattle.settings_demands.specs.Contracts.{AsksNothing, Tells}
+use Rattle.settings_demands.specs.Contracts.{MigratorAsks, MigratorTells}
 use Rattle.settings_demands.specs.Values.{Good}
-use Rattle.settings_demands.specs.OldList.{OldList, holding, Explained}
+use Rattle.settings_demands.specs.OldList.{OldList, holding, ListExplained}
 use Rattle.settings_demands.specs.FromList.{FromEntry}
 use Rattle.settings_demands.specs.WriteFault.{WriteFault}
 use Rattle.settings_demands.specs.Again.{sameSettings}
 
 pub record Migrator : Type 0 where
   -- whatever bytes, settings, number and buffer are handed over, an answer comes back, and this is what is said of it
-  pub asks : AsksNothing
-  pub tells : Tells
+  pub asks : MigratorAsks
+  pub tells : MigratorTells
   -- "An old station's list is a count byte, 1 to 64, then entries of a code byte and 8 bytes, little-endian.": these bytes are accepted, and no others;
   -- they fix the entries
   pub list : {s : List ℕ} {m : Migration} → Migrates s m → (m .refusal ≡ 0) ↔ ((es : List Entry) × OldList s es)
@@ -37,8 +37,8 @@ pub record Migrator : Type 0 where
   pub good : {s : List ℕ} {m : Migration} → Migrates s m → (i : ℕ) → i < m .number → Good (settingAt (m .settings) i)
   -- "Refusals: 1 cut short, 2 count, 11 unknown code, 26 bad float, 17 extra bytes. Order and places are as for document 01's events.": every answer is that of
   -- the first fault of the bytes, or of there being none; and no other answer is
-  pub place : {s : List ℕ} {m : Migration} → Migrates s m → Explained s m
-  pub only : {s : List ℕ} {m m′ : Migration} → Explained s m → Explained s m′ → m ≡ m′
+  pub place : {s : List ℕ} {m : Migration} → Migrates s m → ListExplained s m
+  pub only : {s : List ℕ} {m m′ : Migration} → ListExplained s m → ListExplained s m′ → m ≡ m′
   -- "The answer holds the settings and how many there are;
   pub holds : {s : List ℕ} {m : Migration} {es : List Entry} → Migrates s m → OldList s es → m ≡ holding es (length s)
   -- those past that number are a count of 0,

@@ -60,6 +60,6 @@ abbrev pub holding : List Entry → ℕ → Migration
 holding es p = record { refusal = 0; place = p; number = length es; settings = slots (map settingOf es) }
 
 -- every answer is that of the first fault of the bytes, or of an old list: "On acceptance the place is the length"
-pub data Explained (s : List ℕ) (m : Migration) : Type 0 where
-  refused : {r p : ℕ} → ListFault s r p → m ≡ refusedAt r p → Explained s m
-  accepted : {es : List Entry} → OldList s es → m ≡ holding es (length s) → Explained s m
+pub data ListExplained (s : List ℕ) (m : Migration) : Type 0 where
+  refused : {r p : ℕ} → ListFault s r p → m ≡ refusedAt r p → ListExplained s m
+  accepted : {es : List Entry} → OldList s es → m ≡ holding es (length s) → ListExplained s m
