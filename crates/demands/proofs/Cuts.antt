@@ -34,7 +34,7 @@ unfolding encodes
 one-event e = ap length (append-nil (events .encode e))
 
 module _ {s out after ds : List ℕ} {ls : List Link} {es : List (Event ℕ)} {b : Answer} {m : ℕ} (g : Genuine s out ds ls es) (said : Replays (take m s) out b after) where
-  pub power-cut : throughE ds ls ≤ m → m < length s → CutShort s out ds ls es m b after
+  pub power-cut : throughE ds ls ≤ m → m < length s → CutShort out ds ls es m b after
   power-cut through lost =
       let c : Cut events (steppedIn ltb) (coreOf ltb base out .start ds (listed ls)) es (throughE ds ls) m (replied b after) = after-cut (genuine-core g) m said through lost in
       let p : b .place ≡ throughE ds ls + length (encodes events (c .whole)) = ap (λ (x : Verdict Playing). x .place) (c .says) in

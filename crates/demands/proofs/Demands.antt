@@ -18,9 +18,9 @@ use Rattle.protocol_state.specs.Give.{give}
 use Rattle.protocol_state.proofs.Sound.{sound-says, says-sound}
 use Rattle.protocol_state.proofs.Give.{give-refusal, give-unsound, refused-same}
 use Rattle.recording_core.specs.Promise.{past}
-use Rattle.recording_demands.proofs.Contract.{learnt-ensured}
+use Rattle.recording_demands.proofs.Contract.{learnt-ensured, ensured-learnt}
 use Rattle.recording_demands.proofs.Rest.{unread}
-use Rattle.demands.proofs.Contract.{fresh-learnt, arrival-learnt, start-learnt, read-learnt, finish-learnt, event-learnt}
+use Rattle.demands.proofs.Contract.{fresh-learnt, fresh-told, arrival-learnt, arrival-told, start-learnt, start-told, read-learnt, read-told, finish-learnt, finish-told, event-learnt, event-told}
 use Rattle.mailbox.specs.States.{saved, stateOf, stepOf}
 use Rattle.mailbox.specs.declared.State.{State}
 use Rattle.mailbox.specs.declared.Step.{Step}
@@ -31,7 +31,7 @@ use Rattle.demands.specs.Calls.{Makes, Gives, Calls}
 use Rattle.demands.specs.Refusals.{Earns, TableEarns, EventBreaks, byHistory}
 use Rattle.demands.specs.Refusals as refusals
 use Rattle.demands.specs.Contracts.{AsksNothing, Tells}
-use Rattle.demands.specs.Demands.{asLent, Demand1, Demand2, Demand3, Recordings}
+use Rattle.demands.specs.Demands.{asLent, Demand1, Demand2, Demand3, WholeRecordings}
 use Rattle.demands.proofs.Earned.{earns-exactly}
 use Rattle.demands.proofs.TableEarned.{judged-table-earned, table-earns-one, arrays-judged}
 use Rattle.demands.proofs.Events.{phases-earned, judged-earned}
@@ -57,15 +57,15 @@ asks-nothing = record {
 }
 
 -- what a caller learns of each call is what the demands take of it
-pub tells : Tells
+tells : Tells
 tells = record {
-  replay = λ κs lent a left learnt. learnt-ensured κs lent a left learnt;
-  fresh = λ κs lent m left learnt. fresh-learnt κs lent m left learnt .0;
-  arrival = λ κs lent r left learnt. arrival-learnt κs lent r left learnt .0;
-  start = λ κs lent r left learnt. start-learnt κs lent r left learnt .0;
-  read = λ κs lent r left learnt. read-learnt κs lent r left learnt .0;
-  finish = λ κs lent r left learnt. finish-learnt κs lent r left learnt .0;
-  event = λ κs lent r left learnt. event-learnt κs lent r left learnt .0;
+  replay = λ κs lent a left. (learnt-ensured κs lent a left, ensured-learnt κs lent a left);
+  fresh = λ κs lent m left. (fresh-learnt κs lent m left, fresh-told κs lent m left);
+  arrival = λ κs lent r left. (arrival-learnt κs lent r left, arrival-told κs lent r left);
+  start = λ κs lent r left. (start-learnt κs lent r left, start-told κs lent r left);
+  read = λ κs lent r left. (read-learnt κs lent r left, read-told κs lent r left);
+  finish = λ κs lent r left. (finish-learnt κs lent r left, finish-told κs lent r left);
+  event = λ κs lent r left. (event-learnt κs lent r left, event-told κs lent r left);
 }
 
 -- ---- a table
@@ -132,6 +132,7 @@ number-there {T} {es} c e r call = earns-exactly (calls-refusal c e r call) (jud
 pub demand-1 : Demand1
 demand-1 = record {
   asks = asks-nothing;
+  tells = tells;
   unknown-state = unknown-state;
   unknown-event = unknown-event;
   unknown-link = unknown-link;
@@ -159,5 +160,5 @@ demand-2 = record {
 pub demand-3 : Demand3
 demand-3 = record { recordings = every-answer; no-time = calls-no-time; direct = calls-direct; delayed = calls-delayed; finished = calls-finished }
 
-pub recordings : Recordings
-recordings = record { totals = totals; power-cut = power-cut; nothing-lost = λ g a b all. nothing-lost g b a all; rest = λ said. unread said refl; one-answer = one-answer }
+pub whole-recordings : WholeRecordings
+whole-recordings = record { totals = totals; power-cut = power-cut; nothing-lost = λ g a b all. nothing-lost g b a all; rest = λ said. unread said refl; one-answer = one-answer }

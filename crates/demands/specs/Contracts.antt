@@ -1,10 +1,17 @@
 -- The contracts in the source: what a call asks, and what its caller learns, which is what the demands take of a call.
 -- Assumes nothing.
+use mathlib.Core.Path.{_≡_}
+use mathlib.Core.Logic.{_↔_}
+use mathlib.Core.Bool.{true}
+use lib.Dec.{ltb}
 use contract.Lifetimes.{Lfts}
 use denote.Ref.{now}
 use denote.Triple.Clauses.{AtExit}
 use borrow.Fn.Kinds.{Dens, resT, endedOf}
 use Rattle.protocol.specs.Event.{arrival, start, read, finish}
+use Rattle.protocol_state.specs.Saved.{base}
+use Rattle.protocol_state.specs.Sound.{isSound}
+use Rattle.mailbox.specs.States.{saved, StaysSound}
 use Rattle.mailbox_parts.specs.Plain.{plain}
 use Rattle.recording_demands.specs.Ensured.{Replays}
 use Rattle.recording.proofs.replay.Kinds as of-replay
@@ -33,19 +40,19 @@ pub record AsksNothing : Type 0 where
   pub finish : (κs : Lfts 0) (lent : Dens κs of-finish.ps) → on-finish.Asked κs lent
   pub event : (κs : Lfts 0) (lent : Dens κs of-event.ps) → on-event.Asked κs lent
 
--- `lent` are the arguments of a call, `left` is what they hold after it
+-- `lent` are the arguments of a call, `left` is what they hold after it: a caller learns this, and that sound states stay sound, and no more
 pub record Tells : Type 0 where
   pub replay : (κs : Lfts 2) (lent : Dens κs of-replay.ps) (a : resT of-replay.r κs .Denot) (left : AtExit (endedOf 2 of-replay.ps of-replay.r) κs) →
-      on-replay.Learnt κs lent a left → Replays (now (lent .0)) (now (lent .1 .0)) a (now (left .1 .0))
+      on-replay.Learnt κs lent a left ↔ Replays (now (lent .0)) (now (lent .1 .0)) a (now (left .1 .0))
   pub fresh : (κs : Lfts 0) (lent : Dens κs of-fresh.ps) (m : resT of-fresh.r κs .Denot) (left : AtExit (endedOf 0 of-fresh.ps of-fresh.r) κs) →
-      on-fresh.Learnt κs lent m left → Makes (lent .0) (lent .1 .0) (lent .1 .1 .0) (lent .1 .1 .1 .0) (lent .1 .1 .1 .1 .0) (lent .1 .1 .1 .1 .1 .0) m
+      on-fresh.Learnt κs lent m left ↔ (Makes (lent .0) (lent .1 .0) (lent .1 .1 .0) (lent .1 .1 .1 .0) (lent .1 .1 .1 .1 .0) (lent .1 .1 .1 .1 .1 .0) m × (isSound ltb base (saved (m .state)) ≡ true))
   pub arrival : (κs : Lfts 0) (lent : Dens κs of-arrival.ps) (r : resT of-arrival.r κs .Denot) (left : AtExit (endedOf 0 of-arrival.ps of-arrival.r) κs) →
-      on-arrival.Learnt κs lent r left → Gives (lent .0) (arrival (lent .1 .0)) r
+      on-arrival.Learnt κs lent r left ↔ (Gives (lent .0) (arrival (lent .1 .0)) r × StaysSound (lent .0) r)
   pub start : (κs : Lfts 0) (lent : Dens κs of-start.ps) (r : resT of-start.r κs .Denot) (left : AtExit (endedOf 0 of-start.ps of-start.r) κs) →
-      on-start.Learnt κs lent r left → Gives (lent .0) (start (lent .1 .0)) r
+      on-start.Learnt κs lent r left ↔ (Gives (lent .0) (start (lent .1 .0)) r × StaysSound (lent .0) r)
   pub read : (κs : Lfts 0) (lent : Dens κs of-read.ps) (r : resT of-read.r κs .Denot) (left : AtExit (endedOf 0 of-read.ps of-read.r) κs) →
-      on-read.Learnt κs lent r left → Gives (lent .0) (read (lent .1 .0)) r
+      on-read.Learnt κs lent r left ↔ (Gives (lent .0) (read (lent .1 .0)) r × StaysSound (lent .0) r)
   pub finish : (κs : Lfts 0) (lent : Dens κs of-finish.ps) (r : resT of-finish.r κs .Denot) (left : AtExit (endedOf 0 of-finish.ps of-finish.r) κs) →
-      on-finish.Learnt κs lent r left → Gives (lent .0) (finish (lent .1 .0) (lent .1 .1 .0)) r
+      on-finish.Learnt κs lent r left ↔ (Gives (lent .0) (finish (lent .1 .0) (lent .1 .1 .0)) r × StaysSound (lent .0) r)
   pub event : (κs : Lfts 0) (lent : Dens κs of-event.ps) (r : resT of-event.r κs .Denot) (left : AtExit (endedOf 0 of-event.ps of-event.r) κs) →
-      on-event.Learnt κs lent r left → Gives (lent .0) (plain (lent .1 .0)) r
+      on-event.Learnt κs lent r left ↔ (Gives (lent .0) (plain (lent .1 .0)) r × StaysSound (lent .0) r)

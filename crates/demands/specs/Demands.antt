@@ -33,7 +33,7 @@ use Rattle.demands.specs.Calls.{Makes, Gives, Calls}
 use Rattle.demands.specs.Recordings.{recordingBytes, eventBytes, throughCount, Genuine, LinksBegun, EventsBegun, KindOf, countsOf, Listed, AtEvents, Explained}
 use Rattle.demands.specs.Mailboxes.{Published}
 use Rattle.demands.specs.Outputs.{Output}
-use Rattle.demands.specs.Contracts.{AsksNothing}
+use Rattle.demands.specs.Contracts.{AsksNothing, Tells}
 
 -- ---- demand 1
 
@@ -42,15 +42,16 @@ abbrev pub asLent : State → ℕ → Step
 asLent q n = record { state = q; answer = record { refusal = n; value = 0 } }
 
 pub record Demand1 : Type 0 where
-  -- "Whatever bytes, events or saved state are handed over, an answer comes back."
+  -- "Whatever bytes, events or saved state are handed over, an answer comes back.": no call asks anything, and what it then tells is what is taken of it below
   pub asks : AsksNothing
+  pub tells : Tells
   -- "Nothing unknown ever becomes a default.": a state that is not sound, whatever is wrong in it, is answered 19;
   pub unknown-state : (q : State) (e : Event ℕ) (r : Step) → Gives q e r → (IsSound q → ⊥) → r ≡ asLent q 19
   -- a byte that is no kind of event, where an event is due, 11 at its place;
   pub unknown-event : {s out list ds : List ℕ} {a : Answer} {ls : List Link} {es : List (Event ℕ)} {E p : ℕ} → Replays s out a list →
       Genuine (recordingBytes ds ls es) out ds ls es → EventsBegun s ds ls E es p → length es < E → p < length s → ((n : ℕ) → KindOf (getD s p 0) n → ⊥) →
       (a .refusal ≡ 11) × (a .place ≡ p)
-  -- a link of an unknown kind is refused at its place, 6 unless it breaks rule 4 or 5 as well, and so is a table that holds one
+  -- a link of an unknown kind is refused at its place, with 6 unless it breaks rule 4 or 5 as well (in a table that is handed over whole: `table-number`)
   pub unknown-link : {s out list ds : List ℕ} {a : Answer} {ls : List Link} {L p : ℕ} → Replays s out a list →
       LinksBegun s ds L ls p → length ls < L → p + 3 ≤ length s → 1 < linkAt s p .kind →
       Earns (LinkBreaks ds ls (linkAt s p)) (a .refusal) × ((4 ≤ a .refusal) × (a .refusal ≤ 6)) × (a .place ≡ p)
@@ -118,7 +119,7 @@ pub record Demand3 : Type 0 where
 
 -- "A power cut: take any accepted recording and keep only its first bytes, at least through E. The answer is that of its whole records (state, counts, list),
 -- with refusal 1 at the first record that isn't whole": b and `after` are the answer and the list of the cut recording
-pub record CutShort (s out : List ℕ) (ds : List ℕ) (ls : List Link) (es : List (Event ℕ)) (m : ℕ) (b : Answer) (after : List ℕ) : Type 0 where
+pub record CutShort (out ds : List ℕ) (ls : List Link) (es : List (Event ℕ)) (m : ℕ) (b : Answer) (after : List ℕ) : Type 0 where
   pub whole : List (Event ℕ)
   pub partly : Event ℕ
   pub gone : List (Event ℕ)
@@ -131,12 +132,12 @@ pub record CutShort (s out : List ℕ) (ds : List ℕ) (ls : List Link) (es : Li
   pub as-whole : {c : Answer} {list : List ℕ} → Replays (recordingBytes ds ls whole) out c list →
       (c .refusal ≡ 0) × (b .state ≡ c .state) × (countsOf b ≡ countsOf c) × (after ≡ list)
 
-pub record Recordings : Type 0 where
+pub record WholeRecordings : Type 0 where
   -- "In every answer with a table, arrivals counted task by task equal finishes plus tasks still active."
   pub totals : {s out list : List ℕ} {a : Answer} (x : AtEvents s out a list) → a .arrivals ≡ a .finishes + count (activeIn (a .state)) (length (x .ds))
   -- "A power cut"
   pub power-cut : {s out after ds : List ℕ} {ls : List Link} {es : List (Event ℕ)} {b : Answer} {m : ℕ} → Genuine s out ds ls es →
-      Replays (take m s) out b after → throughCount ds ls ≤ m → m < length s → CutShort s out ds ls es m b after
+      Replays (take m s) out b after → throughCount ds ls ≤ m → m < length s → CutShort out ds ls es m b after
   -- "unless nothing was lost"
   pub nothing-lost : {s out list after ds : List ℕ} {ls : List Link} {es : List (Event ℕ)} {a b : Answer} {m : ℕ} → Genuine s out ds ls es →
       Replays s out a list → Replays (take m s) out b after → length s ≤ m → (b .refusal ≡ 0) × (b ≡ a) × (after ≡ list)
