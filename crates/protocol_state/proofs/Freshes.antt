@@ -63,8 +63,8 @@ module _ (size : Size) (T L : ℕ) (D W R K : List ℕ) where
   fresh-shape = record {
     defaults = copied-length (size .tasks) T D;
     phase = length-replicate {A = ℕ} (size .tasks) 0;
-    newest = length-replicate {A = ℕ} (size .tasks) 1;
-    previous = length-replicate {A = ℕ} (size .tasks) 1;
+    newest = length-replicate {A = ℕ} (size .tasks) _;
+    previous = length-replicate {A = ℕ} (size .tasks) _;
     cells = filled-length (size .tasks) (copied (size .tasks) T D);
     writer = copied-length (size .links) L W;
     reader = copied-length (size .links) L R;

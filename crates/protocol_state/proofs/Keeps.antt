@@ -35,44 +35,6 @@ table-same ahead q (start t) = refl
 table-same ahead q (read l) = refl
 table-same ahead q (finish t v) = refl
 
--- nor the lengths of the lists
-pub next-shape : (ahead : ℕ → ℕ → Bool) {size : Size} {q : Saved} → Shape size q → (e : Event ℕ) → Shape size (next ahead q e)
-unfolding newestAfter previousAfter pointerAfter phaseAfter
-next-shape ahead {size} {q} S (arrival s) = record {
-  defaults = S .defaults;
-  phase = length-upto (phaseAt s) (q .tasks) (q .phase) ∙ S .phase;
-  newest = length-upto (newestAt ahead s (at (q .writer)) (at (q .reader)) (at (q .pointer)) (q .links)) (q .tasks) (q .newest) ∙ S .newest;
-  previous = length-upto (previousAt s (at (q .newest))) (q .tasks) (q .previous) ∙ S .previous;
-  cells = S .cells;
-  writer = S .writer;
-  reader = S .reader;
-  kind = S .kind;
-  pointer = length-upto (pointerAt s (at (q .writer)) (at (q .reader)) (at (q .kind)) (at (newestAfter ahead s q)) (at (previousAfter s q))) (q .links) (q .pointer) ∙ S .pointer;
-}
-next-shape ahead {size} {q} S (start t) = record {
-  defaults = S .defaults;
-  phase = rw length-set (S .phase);
-  newest = S .newest;
-  previous = S .previous;
-  cells = S .cells;
-  writer = S .writer;
-  reader = S .reader;
-  kind = S .kind;
-  pointer = S .pointer;
-}
-next-shape ahead S (read l) = S
-next-shape ahead {size} {q} S (finish t v) = record {
-  defaults = S .defaults;
-  phase = rw length-set (S .phase);
-  newest = S .newest;
-  previous = S .previous;
-  cells = rw length-set (S .cells);
-  writer = S .writer;
-  reader = S .reader;
-  kind = S .kind;
-  pointer = length-upto (freedAt ahead t (at (q .writer)) (at (q .reader))) (q .links) (q .pointer) ∙ S .pointer;
-}
-
 module _ {ahead : ℕ → ℕ → Bool} {size : Size} (q : Saved) (G : Sound ahead size q) where
   -- each link of a sound state obeys the rules
   pub obeys : (l : ℕ) → l < q .links → Obeys ahead (q .tasks) (at (q .writer)) (at (q .reader)) (at (q .kind)) l
@@ -248,3 +210,41 @@ next-sound {q = q} S G (arrival s) ok = arrived-sound q G S s ok
 next-sound {q = q} S G (start t) ok = started-sound q G S t ok
 next-sound S G (read l) ok = G
 next-sound {q = q} S G (finish t v) ok = finished-sound q G S t v ok
+
+-- no event changes the lengths of the lists
+pub next-shape : (ahead : ℕ → ℕ → Bool) {size : Size} {q : Saved} → Shape size q → (e : Event ℕ) → Shape size (next ahead q e)
+unfolding newestAfter previousAfter pointerAfter phaseAfter
+next-shape ahead {size} {q} S (arrival s) = record {
+  defaults = S .defaults;
+  phase = length-upto (phaseAt s) (q .tasks) (q .phase) ∙ S .phase;
+  newest = length-upto (newestAt ahead s (at (q .writer)) (at (q .reader)) (at (q .pointer)) (q .links)) (q .tasks) (q .newest) ∙ S .newest;
+  previous = length-upto (previousAt s (at (q .newest))) (q .tasks) (q .previous) ∙ S .previous;
+  cells = S .cells;
+  writer = S .writer;
+  reader = S .reader;
+  kind = S .kind;
+  pointer = length-upto (pointerAt s (at (q .writer)) (at (q .reader)) (at (q .kind)) (at (newestAfter ahead s q)) (at (previousAfter s q))) (q .links) (q .pointer) ∙ S .pointer;
+}
+next-shape ahead {size} {q} S (start t) = record {
+  defaults = S .defaults;
+  phase = rw length-set (S .phase);
+  newest = S .newest;
+  previous = S .previous;
+  cells = S .cells;
+  writer = S .writer;
+  reader = S .reader;
+  kind = S .kind;
+  pointer = S .pointer;
+}
+next-shape ahead S (read l) = S
+next-shape ahead {size} {q} S (finish t v) = record {
+  defaults = S .defaults;
+  phase = rw length-set (S .phase);
+  newest = S .newest;
+  previous = S .previous;
+  cells = rw length-set (S .cells);
+  writer = S .writer;
+  reader = S .reader;
+  kind = S .kind;
+  pointer = length-upto (freedAt ahead t (at (q .writer)) (at (q .reader))) (q .links) (q .pointer) ∙ S .pointer;
+}

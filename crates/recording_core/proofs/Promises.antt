@@ -6,6 +6,7 @@ use mathlib.Core.Logic.{_⊎_, inl, inr}
 use mathlib.Core.Bool.{Bool}
 use mathlib.Core.List.{List, []}
 use Prim.Native.Nat.{ℕ, _+_, _≤_, _<_}
+use native.Mathlib.Omega.{arith}
 use lib.ListN.{length, take}
 use Rattle.protocol.specs.Event.{Event}
 use Rattle.protocol_state.specs.Saved.{at}
@@ -65,7 +66,7 @@ module _ {ahead : ℕ → ℕ → Bool} (ranks : Ranks ahead) (most : Limits) (o
           few-events = events-within most (length es) (r .played .few);
           rules = λ l k. obeys ahead (length ds) (at (listed ls .writer)) (at (listed ls .reader)) (at (listed ls .kind)) l (allowed-no-fault ahead (length ds) ls (r .linked .allowed) l (rw n k));
           happens = reached-possible (R .reached);
-          room = R .room;
+          room = omega (arith, R .room);
         }
 
   -- demand 2: accepted only if genuine

@@ -1,12 +1,13 @@
 -- `exports::call::start_of` meets its contract: a number above 255 is in no table, any other is a byte.
 -- Assumes nothing.
+use native.Mathlib.Omega.{arith}
 use borrow.Author.Needs.{needs}
 use Rattle.exports.proofs.Far.{start-far}
 use Rattle.exports.proofs.call.start_of.Statement.{statement}
 use Rattle.exports.proofs.call.start_of.Tie as tie
 
 returns : tie.Need-returns
-returns c = λ q. start-far q (c .before .args .which) (c .if1 .taken)
+returns c = λ q. start-far q (c .before .args .which) (omega (arith, c .if1 .taken))
 
 cast-t3 : tie.Need-cast-t3
 cast-t3 c = search needs

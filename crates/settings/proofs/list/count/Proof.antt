@@ -19,7 +19,7 @@ returns-2 : tie.Need-returns-2
 returns-2 c = let test = c .before .before in count-none (test .before .args .s .now) (test .if1 .left) (c .if2 .taken)
 
 returns-3 : tie.Need-returns-3
-returns-3 c = let test = c .before .before .before in count-many (test .before .args .s .now) (test .if1 .left) (c .if3 .taken)
+returns-3 c = let test = c .before .before .before in count-many (test .before .args .s .now) (test .if1 .left) (omega (arith, c .if3 .taken))
 
 returns-4 : tie.Need-returns-4
 returns-4 c = let test = c .before .before .before in count-right (test .before .args .s .now) (test .if1 .left) (c .before .if2 .left) (c .if3 .left)

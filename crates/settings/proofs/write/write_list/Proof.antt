@@ -43,7 +43,7 @@ returns-4 c =
     let many = bad .before in
     let a = many .before .before .before .args in
     left-alone (a .settings) (a .number) (a .out .now) (λ (z : _≡_ {A = ℕ} 18 0). omega arith)
-    (short-buffer (a .settings) (a .number) (a .out .now) (many .before .if1 .left) (many .if2 .left) (bad .first-bad .ensures .0) (c .before .if3 .left) (c .if4 .taken))
+    (short-buffer (a .settings) (a .number) (a .out .now) (many .before .if1 .left) (many .if2 .left) (bad .first-bad .ensures .0) (c .before .if3 .left) (omega (arith, c .if4 .taken)))
 
 put-list-requires : tie.Need-put-list-requires
 put-list-requires c κs =
