@@ -23,7 +23,7 @@ use Rattle.mailbox.specs.States.{saved, stateOf}
 use Rattle.mailbox.specs.declared.State.{State}
 use Rattle.mailbox.specs.declared.Step.{Step}
 use Rattle.mailbox.specs.declared.Made.{Made}
-use Rattle.demands.specs.Station.{station, tasksOf, linksOf}
+use Rattle.demands.specs.Station.{station, firstTasks, firstLinks}
 use Rattle.demands.specs.Calls.{Makes, Gives, numbersOf, Calls, fresh, accepted, refused}
 use Rattle.demands.specs.Order.{turned}
 use Rattle.demands.proofs.Tables.{fresh-station}
@@ -70,7 +70,7 @@ made-is T L D W R K m said ok =
     let i = made-fresh ltb base T L D W R K (ap (λ (x : Made). x .refusal) (sym said) ∙ ok) in
     (i .0, ap (λ (x : Made). x .state) said ∙ ap stateOf (i .1))
 
-come-fresh : (T L : ℕ) (D W R K : List ℕ) (m : Made) → Makes T L D W R K m → m .refusal ≡ 0 → Come (station (tasksOf T D) (linksOf L W R K)) [] [] (m .state)
+come-fresh : (T L : ℕ) (D W R K : List ℕ) (m : Made) → Makes T L D W R K m → m .refusal ≡ 0 → Come (station (firstTasks T D) (firstLinks L W R K)) [] [] (m .state)
 unfolding past turned
 come-fresh T L D W R K m said ok =
     let i = made-is T L D W R K m said ok in

@@ -25,7 +25,7 @@ use Rattle.mailbox.specs.States.{saved, stateOf, stepOf}
 use Rattle.mailbox.specs.declared.State.{State}
 use Rattle.mailbox.specs.declared.Step.{Step}
 use Rattle.mailbox.specs.declared.Made.{Made}
-use Rattle.demands.specs.Station.{Keeps, tasksOf, linksOf}
+use Rattle.demands.specs.Station.{Keeps, firstTasks, firstLinks}
 use Rattle.demands.specs.States.{IsSound, tableIn, standingIn}
 use Rattle.demands.specs.Calls.{Makes, Gives, Calls}
 use Rattle.demands.specs.Refusals.{Earns, TableEarns, EventBreaks, byHistory}
@@ -84,16 +84,16 @@ module _ (T L : ℕ) (D W R K : List ℕ) (m : Made) (said : Makes T L D W R K m
   refusal-is : m .refusal ≡ judgedTable ltb T (at W) (at R) (at K) base L
   refusal-is = ap (λ (x : Made). x .refusal) said ∙ made-refusal T L D W R K
 
-  table-number : (n : ℕ) → (m .refusal ≡ n) ↔ TableEarns (tasksOf T D) (linksOf L W R K) n
+  table-number : (n : ℕ) → (m .refusal ≡ n) ↔ TableEarns (firstTasks T D) (firstLinks L W R K) n
   table-number n =
       let e = refusal-is ∙ arrays-judged T L D W R K in (
-        λ z. subst (λ (k : ℕ). TableEarns (tasksOf T D) (linksOf L W R K) k) (sym e ∙ z) (judged-table-earned (tasksOf T D) (linksOf L W R K)),
-        λ t. e ∙ sym (table-earns-one (tasksOf T D) (linksOf L W R K) t),
+        λ z. subst (λ (k : ℕ). TableEarns (firstTasks T D) (firstLinks L W R K) k) (sym e ∙ z) (judged-table-earned (firstTasks T D) (firstLinks L W R K)),
+        λ t. e ∙ sym (table-earns-one (firstTasks T D) (firstLinks L W R K) t),
       )
 
-  table-kept : (m .refusal ≡ 0) ↔ Keeps (tasksOf T D) (linksOf L W R K)
+  table-kept : (m .refusal ≡ 0) ↔ Keeps (firstTasks T D) (firstLinks L W R K)
   table-kept = (
-    λ z. keeps-of (tasksOf T D) (linksOf L W R K) (sym (arrays-judged T L D W R K) ∙ sym refusal-is ∙ z),
+    λ z. keeps-of (firstTasks T D) (firstLinks L W R K) (sym (arrays-judged T L D W R K) ∙ sym refusal-is ∙ z),
     λ k. table-number 0 .1 (refusals.kept k),
   )
 

@@ -43,7 +43,7 @@ abbrev Ruled : List ℕ → List Link → Links → Type 0
 Ruled ds ls c = (l : ℕ) → l < length ls → Obeys ltb (length ds) (at (c .writer)) (at (c .reader)) (at (c .kind)) l
 
 module _ {s out ds : List ℕ} {ls : List Link} {es : List (Event ℕ)} where
-  pub genuine-core : Genuine s out ds ls es → core.Genuine ltb baseLimits s out ds ls es
+  pub genuine-core : Genuine s out ds ls es → core.CoreGenuine ltb baseLimits s out ds ls es
   unfolding reads AllPossible
   genuine-core g = record {
     bytes = g .bytes;
@@ -57,7 +57,7 @@ module _ {s out ds : List ℕ} {ls : List Link} {es : List (Event ℕ)} where
     room = omega (arith, past-reads [] es, g .room);
   }
 
-  pub core-genuine : core.Genuine ltb baseLimits s out ds ls es → Genuine s out ds ls es
+  pub core-genuine : core.CoreGenuine ltb baseLimits s out ds ls es → Genuine s out ds ls es
   unfolding reads
   core-genuine g = record {
     keeps = record { tasks = g .few-tasks; links = g .few-links; rules = subst (λ (c : Links). Ruled ds ls c) (listed-columns ls) (g .rules) };

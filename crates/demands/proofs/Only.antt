@@ -30,7 +30,7 @@ use Rattle.protocol_state.specs.Fresh.{freshOf}
 use Rattle.recording_core.proofs.Answers.{answer-totals}
 use Rattle.demands.proofs.Found.{went-there, found}
 use Rattle.demands.specs.Station.{station}
-use Rattle.demands.specs.Recordings.{Genuine, countsOf, AtTable, Ending, noKind, unknownKind, cutEvent, badEvent, AtEvents, Explained}
+use Rattle.demands.specs.Recordings.{Genuine, fourCounts, AtTable, Ending, noKind, unknownKind, cutEvent, badEvent, AtEvents, Explained}
 use Rattle.demands.specs.Recordings as recordings
 use Rattle.demands.proofs.Orders.{past-reads, possible-happen, length-turned}
 use Rattle.demands.proofs.Runs.{calls-possible, calls-ideals, calls-count}
@@ -92,7 +92,7 @@ module _ {s out list : List ℕ} {a : Answer} (x : AtEvents s out a list) where
   same-state : a .state ≡ stateOf (stateAfter (coreOf ltb base out) ds ls es .state)
   same-state = one-course (x .calls) (course .calls) .1
 
-  same-counts : countsOf a ≡ stateAfter (coreOf ltb base out) ds ls es .counts
+  same-counts : fourCounts a ≡ stateAfter (coreOf ltb base out) ds ls es .counts
   same-counts = x .counted ∙ sym (course .right .counts ∙ ap (λ (T : Table ℕ). counts T (past [] es)) (course .same))
 
   same-list : list ≡ stateAfter (coreOf ltb base out) ds ls es .list

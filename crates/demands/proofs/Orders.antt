@@ -10,7 +10,7 @@ use Rattle.protocol.specs.Table.{Table}
 use Rattle.protocol.specs.History.{Goes, same, more, arrivals, reads}
 use Rattle.protocol.specs.Schedule.{urgent, AllPossible}
 use Rattle.protocol.specs.ZeroTime.{due, dues}
-use Rattle.protocol.specs.Instant.{Entry, find, looked}
+use Rattle.protocol.specs.Instant.{LogEntry, find, looked}
 use Rattle.protocol.specs.Answering.{ReadsNothing}
 use Rattle.recording_core.specs.Promise.{past, placed}
 use Rattle.demands.specs.Order.{Happen, EachRead, turned}
@@ -93,7 +93,7 @@ each-so Q R h (read l ∷ es) (n ∷ ns) law E = (law h l n (goes (read l ∷ h)
 each-so Q R h (finish t v ∷ es) ns law E = each-so Q R (finish t v ∷ h) es ns law E
 
 -- what is looked up at all reads is looked up at each
-module _ (T : Table ℕ) (log : List (Entry ℕ)) where
+module _ (T : Table ℕ) (log : List (LogEntry ℕ)) where
   onward : (e : Event ℕ) (H : List (Event ℕ)) → dues T (e ∷ H) ≡ looked T log (e ∷ H) → dues T H ≡ looked T log H
   unfolding dues looked
   onward (arrival m) H i = i

@@ -31,7 +31,7 @@ use Rattle.recording_core.proofs.Right.{both-zero, right-fresh, right-finally}
 use Rattle.mailbox.specs.States.{stateOf, madeOf, given}
 use Rattle.mailbox.specs.declared.State.{State}
 use Rattle.mailbox.specs.declared.Made.{Made}
-use Rattle.demands.specs.Station.{station, writers, readers, kinds, Keeps, tasksOf, linksOf}
+use Rattle.demands.specs.Station.{station, writers, readers, kinds, Keeps, firstTasks, firstLinks}
 use Rattle.demands.specs.Calls.{numbersOf, Calls, fresh, accepted}
 use Rattle.demands.specs.Order.{turned}
 use Rattle.demands.specs.Recordings.{Listed}
@@ -46,10 +46,10 @@ unfolding made
 made-ok T L D W R K ok = rw (eq-eqb _ 0 ok)
 
 pub begins : (T L : ℕ) (D W R K : List ℕ) → judgedTable ltb T (at W) (at R) (at K) base L ≡ 0
-    → Calls (station (tasksOf T D) (linksOf L W R K)) [] [] (stateOf (freshOf base T L D W R K))
+    → Calls (station (firstTasks T D) (firstLinks L W R K)) [] [] (stateOf (freshOf base T L D W R K))
 begins T L D W R K ok =
     let i = made-ok T L D W R K ok in
-    subst (λ (m : state.Made). Calls (station (tasksOf T D) (linksOf L W R K)) [] [] (stateOf (m .state))) i
+    subst (λ (m : state.Made). Calls (station (firstTasks T D) (firstLinks L W R K)) [] [] (stateOf (m .state))) i
     (fresh T L D W R K (madeOf (made ltb base T L D W R K)) refl (ap (λ (m : state.Made). m .refusal) i))
 
 -- an event that a replay does is a call that is accepted
@@ -119,7 +119,7 @@ keeps-of ds ls ok =
     record { tasks = (n .0, n .1); links = n .2; rules = rules.obeyed ltb (length ds) (at (writers ls)) (at (readers ls)) (at (kinds ls)) base (length ls) ok }
 
 -- the arrays of a recording's table say it
-itself : (ds : List ℕ) (ls : List Link) → length ds ≤ 16 → length ls ≤ 32 → station (tasksOf (length ds) ds) (linksOf (length ls) (writers ls) (readers ls) (kinds ls)) ≡ station ds ls
+itself : (ds : List ℕ) (ls : List Link) → length ds ≤ 16 → length ls ≤ 32 → station (firstTasks (length ds) ds) (firstLinks (length ls) (writers ls) (readers ls) (kinds ls)) ≡ station ds ls
 itself ds ls few least =
     sym (fresh-station (length ds) (length ls) ds (writers ls) (readers ls) (kinds ls) few least) ∙ ap (λ (q : Saved). table ltb q) (sym (fresh-columns ds ls)) ∙ recorded-station ds ls few least
 

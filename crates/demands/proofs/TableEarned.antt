@@ -19,7 +19,7 @@ use Rattle.protocol_state.specs.Rules.{faultAfter, fault, judgedTable}
 use Rattle.protocol_state.proofs.Rules.{fault-agrees, obeys, no-fault, no-refusal}
 use Rattle.protocol_state.proofs.Places.{leading-same, leading-none-other}
 use Rattle.recording_format.specs.Link.{Link}
-use Rattle.demands.specs.Station.{writers, readers, kinds, Keeps, tasksOf, linksOf}
+use Rattle.demands.specs.Station.{writers, readers, kinds, Keeps, firstTasks, firstLinks}
 use Rattle.demands.specs.Refusals.{Earns, LinkBreaks, TableEarns}
 use Rattle.demands.specs.Refusals as refusals
 use Rattle.demands.proofs.Tables.{length-numbered, Firsts, column}
@@ -188,16 +188,16 @@ table-earns-one ds ls {n} (refusals.link least before l after e k g ne) =
     there = first-is (faults ds ls) (length ls) j inside zero-before (λ z. ne (sym earned ∙ z)) ∙ earned
 
 -- of a table in arrays
-pub arrays-judged : (T L : ℕ) (D W R K : List ℕ) → judgedTable ltb T (at W) (at R) (at K) base L ≡ judgedHere (tasksOf T D) (linksOf L W R K)
+pub arrays-judged : (T L : ℕ) (D W R K : List ℕ) → judgedTable ltb T (at W) (at R) (at K) base L ≡ judgedHere (firstTasks T D) (firstLinks L W R K)
 unfolding judgedTable
 arrays-judged T L D W R K =
     let link : ℕ → Link = λ l. record { writer = at W l; reader = at R l; kind = at K l } in
     let t = length-numbered (at D) 0 T in
     let n = length-numbered link 0 L in
-    let w : Firsts L W (writers (linksOf L W R K)) = column (λ l. l .writer) link W (λ i. refl) L in
-    let r : Firsts L R (readers (linksOf L W R K)) = column (λ l. l .reader) link R (λ i. refl) L in
-    let k : Firsts L K (kinds (linksOf L W R K)) = column (λ l. l .kind) link K (λ i. refl) L in
+    let w : Firsts L W (writers (firstLinks L W R K)) = column (λ l. l .writer) link W (λ i. refl) L in
+    let r : Firsts L R (readers (firstLinks L W R K)) = column (λ l. l .reader) link R (λ i. refl) L in
+    let k : Firsts L K (kinds (firstLinks L W R K)) = column (λ l. l .kind) link K (λ i. refl) L in
     rw (t, n)
     (ap (λ (x : ℕ). cond (eqb T 0 || ltb 16 T) 2 (cond (ltb 32 L) 3 x))
-    (leading-same (fault ltb T (at W) (at R) (at K)) (fault ltb T (at (writers (linksOf L W R K))) (at (readers (linksOf L W R K))) (at (kinds (linksOf L W R K)))) L
-    (λ i h. fault-alike T (at K) (at (kinds (linksOf L W R K))) i (λ j q. sym (w .at-first j (omega arith))) (λ j q. sym (r .at-first j (omega arith))) (sym (k .at-first i h)))))
+    (leading-same (fault ltb T (at W) (at R) (at K)) (fault ltb T (at (writers (firstLinks L W R K))) (at (readers (firstLinks L W R K))) (at (kinds (firstLinks L W R K)))) L
+    (λ i h. fault-alike T (at K) (at (kinds (firstLinks L W R K))) i (λ j q. sym (w .at-first j (omega arith))) (λ j q. sym (r .at-first j (omega arith))) (sym (k .at-first i h)))))

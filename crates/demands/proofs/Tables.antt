@@ -16,7 +16,7 @@ use Rattle.protocol_state.proofs.Places.{zeros}
 use Rattle.byte_format.specs.Play.{finally}
 use Rattle.recording_format.specs.Link.{Link, Links, noLinks, andLink, listed}
 use Rattle.recording_core.specs.Promise.{freshTable}
-use Rattle.demands.specs.Station.{station, writers, readers, kinds, tasksOf, linksOf}
+use Rattle.demands.specs.Station.{station, writers, readers, kinds, firstTasks, firstLinks}
 
 -- the numbers of a list that was made from the numbers k, k + 1, ..
 module _ {A : Type 0} (f : ℕ → A) where
@@ -93,10 +93,10 @@ module _ (T L : ℕ) (D W R K : List ℕ) (few : T ≤ 16) (least : L ≤ 32) (d
   }
 
 -- of a table in arrays
-pub fresh-station : (T L : ℕ) (D W R K : List ℕ) → T ≤ 16 → L ≤ 32 → table ltb (freshOf base T L D W R K) ≡ station (tasksOf T D) (linksOf L W R K)
+pub fresh-station : (T L : ℕ) (D W R K : List ℕ) → T ≤ 16 → L ≤ 32 → table ltb (freshOf base T L D W R K) ≡ station (firstTasks T D) (firstLinks L W R K)
 fresh-station T L D W R K few least =
     let link : ℕ → Link = λ l. record { writer = at W l; reader = at R l; kind = at K l } in
-    fresh-as T L D W R K few least (tasksOf T D) (linksOf L W R K) (length-numbered (at D) 0 T) (length-numbered link 0 L) (firsts-numbered T D)
+    fresh-as T L D W R K few least (firstTasks T D) (firstLinks L W R K) (length-numbered (at D) 0 T) (length-numbered link 0 L) (firsts-numbered T D)
     (column (λ l. l .writer) link W (λ i. refl) L) (column (λ l. l .reader) link R (λ i. refl) L) (column (λ l. l .kind) link K (λ i. refl) L)
 
 -- the columns of link records

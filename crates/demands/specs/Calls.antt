@@ -13,7 +13,7 @@ use Rattle.mailbox.specs.States.{madeOf, given}
 use Rattle.mailbox.specs.declared.State.{State}
 use Rattle.mailbox.specs.declared.Step.{Step}
 use Rattle.mailbox.specs.declared.Made.{Made}
-use Rattle.demands.specs.Station.{station, tasksOf, linksOf}
+use Rattle.demands.specs.Station.{station, firstTasks, firstLinks}
 
 -- `State::fresh` answers m to T tasks with the defaults D and L links with the writers W, the readers R and the kinds K
 abbrev pub Makes : ℕ → ℕ → List ℕ → List ℕ → List ℕ → List ℕ → Made → Type 0
@@ -33,7 +33,7 @@ numbersOf (finish t v) r = []
 -- "every sequence of accepted events from a fresh state, refused ones left aside":
 -- of the table T the events es were accepted, the reads among them gave the numbers ns, and the last call handed back q
 pub data Calls : Table ℕ → List (Event ℕ) → List ℕ → State → Type 0 where
-  fresh : (T L : ℕ) (D W R K : List ℕ) (m : Made) → Makes T L D W R K m → m .refusal ≡ 0 → Calls (station (tasksOf T D) (linksOf L W R K)) [] [] (m .state)
+  fresh : (T L : ℕ) (D W R K : List ℕ) (m : Made) → Makes T L D W R K m → m .refusal ≡ 0 → Calls (station (firstTasks T D) (firstLinks L W R K)) [] [] (m .state)
   accepted : {T : Table ℕ} {es : List (Event ℕ)} {ns : List ℕ} {q : State} → Calls T es ns q →
       (e : Event ℕ) (r : Step) → Gives q e r → r .answer .refusal ≡ 0 → Calls T (es ++ (e ∷ [])) (ns ++ numbersOf e r) (r .state)
   refused : {T : Table ℕ} {es : List (Event ℕ)} {ns : List ℕ} {q : State} → Calls T es ns q →

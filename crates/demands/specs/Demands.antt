@@ -25,12 +25,12 @@ use Rattle.mailbox.specs.declared.Made.{Made}
 use Rattle.recording.specs.declared.Answer.{Answer}
 use Rattle.recording_demands.specs.Ensured.{Replays}
 use Rattle.recording_demands.specs.Rest.{Unread}
-use Rattle.demands.specs.Station.{station, mostUrgentFirst, Keeps, tasksOf, linksOf}
+use Rattle.demands.specs.Station.{station, mostUrgentFirst, Keeps, firstTasks, firstLinks}
 use Rattle.demands.specs.Refusals.{Earns, TableEarns, LinkBreaks, EventBreaks, byHistory}
 use Rattle.demands.specs.States.{IsSound, IsWhole, tableIn, boxesIn, activeIn, standingIn}
 use Rattle.demands.specs.Order.{EachRead}
 use Rattle.demands.specs.Calls.{Makes, Gives, Calls}
-use Rattle.demands.specs.Recordings.{recordingBytes, eventBytes, throughCount, Genuine, LinksBegun, EventsBegun, KindOf, countsOf, Listed, AtEvents, Explained}
+use Rattle.demands.specs.Recordings.{recordingBytes, eventBytes, throughCount, Genuine, LinksBegun, EventsBegun, KindOf, fourCounts, Listed, AtEvents, Explained}
 use Rattle.demands.specs.Mailboxes.{Published}
 use Rattle.demands.specs.Outputs.{Output}
 use Rattle.demands.specs.Contracts.{AsksNothing, Tells}
@@ -56,7 +56,7 @@ pub record Demand1 : Type 0 where
       LinksBegun s ds L ls p → length ls < L → p + 3 ≤ length s → 1 < linkAt s p .kind →
       Earns (LinkBreaks ds ls (linkAt s p)) (a .refusal) × ((4 ≤ a .refusal) × (a .refusal ≤ 6)) × (a .place ≡ p)
   -- "Each refusal has its number": of a table; of an event given to a sound state, by its phases; and after any calls by the accepted events alone
-  pub table-number : (T L : ℕ) (D W R K : List ℕ) (m : Made) → Makes T L D W R K m → (n : ℕ) → (m .refusal ≡ n) ↔ TableEarns (tasksOf T D) (linksOf L W R K) n
+  pub table-number : (T L : ℕ) (D W R K : List ℕ) (m : Made) → Makes T L D W R K m → (n : ℕ) → (m .refusal ≡ n) ↔ TableEarns (firstTasks T D) (firstLinks L W R K) n
   pub event-number : (q : State) (e : Event ℕ) (r : Step) → Gives q e r → IsSound q →
       (n : ℕ) → (r .answer .refusal ≡ n) ↔ Earns (EventBreaks (tableIn q) (standingIn q) e) n
   pub number-there : {T : Table ℕ} {es : List (Event ℕ)} {ns : List ℕ} {q : State} → Calls T es ns q → (e : Event ℕ) (r : Step) → Gives q e r →
@@ -79,7 +79,7 @@ pub record Demand2 : Type 0 where
   pub one-reading : {s out out′ ds ds′ : List ℕ} {ls ls′ : List Link} {es es′ : List (Event ℕ)} → Genuine s out ds ls es → Genuine s out′ ds′ ls′ es′ →
       (ds ≡ ds′) × (ls ≡ ls′) × (es ≡ es′)
   -- the same of a table and of single events
-  pub table : (T L : ℕ) (D W R K : List ℕ) (m : Made) → Makes T L D W R K m → (m .refusal ≡ 0) ↔ Keeps (tasksOf T D) (linksOf L W R K)
+  pub table : (T L : ℕ) (D W R K : List ℕ) (m : Made) → Makes T L D W R K m → (m .refusal ≡ 0) ↔ Keeps (firstTasks T D) (firstLinks L W R K)
   pub event : {T : Table ℕ} {es : List (Event ℕ)} {ns : List ℕ} {q : State} → Calls T es ns q → (e : Event ℕ) (r : Step) → Gives q e r →
       (r .answer .refusal ≡ 0) ↔ Possible T (urgent T) (past [] es) e
   -- "Every pointer, mailbox and number read is then the one that the published protocol gives, with at most two mailboxes more than a writer has less urgent
@@ -130,7 +130,7 @@ pub record CutShort (out ds : List ℕ) (ls : List Link) (es : List (Event ℕ))
   pub refusal : b .refusal ≡ 1
   -- the answer of the whole records alone
   pub as-whole : {c : Answer} {list : List ℕ} → Replays (recordingBytes ds ls whole) out c list →
-      (c .refusal ≡ 0) × (b .state ≡ c .state) × (countsOf b ≡ countsOf c) × (after ≡ list)
+      (c .refusal ≡ 0) × (b .state ≡ c .state) × (fourCounts b ≡ fourCounts c) × (after ≡ list)
 
 pub record WholeRecordings : Type 0 where
   -- "In every answer with a table, arrivals counted task by task equal finishes plus tasks still active."

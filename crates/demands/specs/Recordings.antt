@@ -88,15 +88,15 @@ pub data TableFault (s : List ℕ) : ℕ → ℕ → Type 0 where
   badEventCount : {p : ℕ} {ds : List ℕ} {ls : List Link} → LinksBegun s ds (length ls) ls p → p + 2 ≤ length s → 10000 < numberAt 2 s p → TableFault s 10 p
 
 -- the four counts of an answer
-abbrev pub countsOf : Answer → Counts
-countsOf a = record { arrivals = a .arrivals; starts = a .starts; reads = a .reads; finishes = a .finishes }
+abbrev pub fourCounts : Answer → Counts
+fourCounts a = record { arrivals = a .arrivals; starts = a .starts; reads = a .reads; finishes = a .finishes }
 
 -- "At a refusal whose place is in the tasks, the links or one of the three counts, the state is the fresh one of a single task with default 0 and no links,
 -- all counts are 0, and the list is untouched."
 pub record AtTable (s out : List ℕ) (a : Answer) (list : List ℕ) : Type 0 where
   pub fault : TableFault s (a .refusal) (a .place)
   pub state : Makes 1 0 (0 ∷ []) [] [] [] (record { refusal = 0; state = a .state })
-  pub counted : countsOf a ≡ record { arrivals = 0; starts = 0; reads = 0; finishes = 0 }
+  pub counted : fourCounts a ≡ record { arrivals = 0; starts = 0; reads = 0; finishes = 0 }
   pub listed : list ≡ out
 
 -- ---- all other answers
@@ -138,7 +138,7 @@ pub record AtEvents (s out : List ℕ) (a : Answer) (list : List ℕ) : Type 0 w
   pub total : ℕ
   pub begun : EventsBegun s ds ls total es (a .place)
   pub calls : Calls (station ds ls) es ns (a .state)
-  pub counted : countsOf a ≡ counts (station ds ls) (past [] es)
+  pub counted : fourCounts a ≡ counts (station ds ls) (past [] es)
   pub listed : Listed ns out list
   pub ending : Ending (station ds ls) s out total es (a .place) (a .refusal)
 

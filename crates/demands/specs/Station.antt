@@ -48,9 +48,9 @@ pub record Keeps (ds : List ℕ) (ls : List Link) : Type 0 where
   pub rules : (l : ℕ) → l < length ls → Obeys (ahead ds) (length ds) (at (writers ls)) (at (readers ls)) (at (kinds ls)) l
 
 -- a table handed over in arrays: the first T of the defaults D
-abbrev pub tasksOf : ℕ → List ℕ → List ℕ
-tasksOf T D = map (at D) (upward 0 T)
+abbrev pub firstTasks : ℕ → List ℕ → List ℕ
+firstTasks T D = map (at D) (upward 0 T)
 
 -- and the first L of the writers W, the readers R and the kinds K
-abbrev pub linksOf : ℕ → List ℕ → List ℕ → List ℕ → List Link
-linksOf L W R K = map (λ (l : ℕ). record { writer = at W l; reader = at R l; kind = at K l }) (upward 0 L)
+abbrev pub firstLinks : ℕ → List ℕ → List ℕ → List ℕ → List Link
+firstLinks L W R K = map (λ (l : ℕ). record { writer = at W l; reader = at R l; kind = at K l }) (upward 0 L)

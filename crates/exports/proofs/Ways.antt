@@ -18,14 +18,14 @@ use Rattle.protocol_state.proofs.Give.{unsound, refused, give-unsound}
 use Rattle.mailbox_parts.specs.Becomes.{savedOf}
 use Rattle.mailbox_parts.specs.declared.event.Event.{Event}
 use Rattle.mailbox_give.specs.GivenParts.{GivenParts}
-use Rattle.exports.specs.Calls.{Call, known, unknown, called, answered}
+use Rattle.exports.specs.Calls.{Call, known, unknown, called, callReply}
 use Rattle.exports.specs.Replies.{heard, askedNumber, CallAnswered}
 use Rattle.exports.specs.declared.call.Asked.{Asked}
 use Rattle.exports.specs.declared.call.Asked.the-variants as asked
 use Rattle.exports.proofs.call.Asked as A
 
 -- an unsound state is answered 19, whatever is called
-never : (q : Saved) (c : Call) → isSound ltb base q ≡ false → answered q c ≡ reply q 19 0
+never : (q : Saved) (c : Call) → isSound ltb base q ≡ false → callReply q c ≡ reply q 19 0
 never q (known e) s = give-unsound ltb base q e s
 never q unknown s = unsound 11 q q 0 s
 
@@ -41,7 +41,7 @@ module _ {T L : ℕ} {W R K ph n p C x : List ℕ} where
     pub answered-unsound : {b : Bool} → b ≡ isSound ltb base (savedOf T L [] ph n p C W R K x) → not b ≡ true → CallAnswered kind which value T L W R K ph n p C x ph n p C x 19 0
     answered-unsound {b} test h = record { call = λ D. sym (never (savedOf T L D ph n p C W R K x) (called kind which value) (sym test ∙ not-true b h)) }
 
-    module _ (a : Asked) (says : (q : Saved) → heard q a ≡ answered q (called kind which value)) where
+    module _ (a : Asked) (says : (q : Saved) → heard q a ≡ callReply q (called kind which value)) where
       pub answered-none :
           {b : Bool} {r : ℕ} → b ≡ isSound ltb base (savedOf T L [] ph n p C W R K x) → not b ≡ false → OneOf (1 ∷ 2 ∷ []) (tagOf A.the-type a) → r ≡ askedNumber a →
           CallAnswered kind which value T L W R K ph n p C x ph n p C x r 0

@@ -20,6 +20,6 @@ called kind which value =
     (cond (eqb kind 2) (known (start which)) (cond (eqb kind 3) (known (read which)) (cond (eqb kind 4) (known (finish which value)) unknown)))
 
 -- a known event is given to the state; an unknown kind is 11, after 19, with the state as lent and the value 0
-abbrev pub answered : Saved → Call → Reply
-answered q (known e) = give ltb base q e
-answered q unknown = settled (isSound ltb base q) 11 q q 0
+abbrev pub callReply : Saved → Call → Reply
+callReply q (known e) = give ltb base q e
+callReply q unknown = settled (isSound ltb base q) 11 q q 0

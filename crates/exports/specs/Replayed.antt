@@ -12,8 +12,8 @@ use Rattle.recording_format.specs.Recording.{recording}
 use Rattle.recording_core.specs.Playing.{Playing, coreOf}
 
 -- the recording's reply to the bytes s, with the lent list `out`
-abbrev pub replyTo : List ℕ → List ℕ → Verdict Playing
-replyTo s out = recording ltb baseLimits (coreOf ltb base out) s
+abbrev pub hostReply : List ℕ → List ℕ → Verdict Playing
+hostReply s out = recording ltb baseLimits (coreOf ltb base out) s
 
 -- the four counts in their order
 abbrev pub countsIn : Counts → List ℕ
@@ -21,8 +21,8 @@ countsIn c = c .arrivals ∷ (c .starts ∷ (c .reads ∷ (c .finishes ∷ [])))
 
 -- the refusal r, the place m, the counts cs, the state q and the list out′ are those of the reply
 pub record Replayed (s out : List ℕ) (r m : ℕ) (cs : List ℕ) (q : Saved) (out′ : List ℕ) : Type 0 where
-  pub refusal : r ≡ replyTo s out .refusal
-  pub place : m ≡ replyTo s out .place
-  pub counts : cs ≡ countsIn (replyTo s out .state .counts)
-  pub state : q ≡ replyTo s out .state .state
-  pub list : out′ ≡ replyTo s out .state .list
+  pub refusal : r ≡ hostReply s out .refusal
+  pub place : m ≡ hostReply s out .place
+  pub counts : cs ≡ countsIn (hostReply s out .state .counts)
+  pub state : q ≡ hostReply s out .state .state
+  pub list : out′ ≡ hostReply s out .state .list

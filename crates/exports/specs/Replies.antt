@@ -12,7 +12,7 @@ use Rattle.protocol_state.specs.Give.{Reply, reply, settled, give}
 use Rattle.protocol_state.specs.Fresh.{Made}
 use Rattle.mailbox_parts.specs.Plain.{plain}
 use Rattle.mailbox_parts.specs.Becomes.{savedOf}
-use Rattle.exports.specs.Calls.{called, answered}
+use Rattle.exports.specs.Calls.{called, callReply}
 use Rattle.exports.specs.declared.call.Asked.{Asked}
 use Rattle.exports.specs.declared.call.Asked.the-variants.{Known, Outside, Unknown}
 
@@ -34,4 +34,4 @@ madeAs r q = record { refusal = r; state = q }
 
 -- the parts after, the refusal r and the number v are those of the reply to a call by kind, which and value, whatever the defaults are
 pub record CallAnswered (kind which value T L : ℕ) (W R K ph n p C x ph′ n′ p′ C′ x′ : List ℕ) (r v : ℕ) : Type 0 where
-  pub call : (D : List ℕ) → reply (savedOf T L D ph′ n′ p′ C′ W R K x′) r v ≡ answered (savedOf T L D ph n p C W R K x) (called kind which value)
+  pub call : (D : List ℕ) → reply (savedOf T L D ph′ n′ p′ C′ W R K x′) r v ≡ callReply (savedOf T L D ph n p C W R K x) (called kind which value)

@@ -4,7 +4,7 @@ ghost use lib.Dec.{ltb};
 ghost use Rattle.protocol.specs.Event.{start, read, finish};
 ghost use Rattle.protocol_state.specs.Saved.{Saved, base};
 ghost use Rattle.protocol_state.specs.Give.{give};
-ghost use Rattle.exports.specs.Calls.{called, answered};
+ghost use Rattle.exports.specs.Calls.{called, callReply};
 ghost use Rattle.exports.specs.Replies.{heard, askedNumber};
 use mailbox_parts::event::Event;
 
@@ -50,7 +50,7 @@ fn finish_of(which: u32, value: u32) -> Asked
 
 // What is asked: 1 arrival of a set, 2 start of a task, 3 read by a link, 4 finish of a task with a value, any other kind unknown.
 pub(crate) fn ask(kind: u8, which: u32, value: u32) -> Asked
-    ensures { λ r. ⌜ ((q : Saved) → heard q r ≡ answered q (called kind which value)) ⌝ }
+    ensures { λ r. ⌜ ((q : Saved) → heard q r ≡ callReply q (called kind which value)) ⌝ }
 {
     match kind {
         1 => Asked::Known(Event::Arrival(which)),

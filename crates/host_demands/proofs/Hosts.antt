@@ -21,7 +21,7 @@ use Rattle.recording_demands.proofs.Rest.{unread}
 use Rattle.recording_write_demands.specs.Ensured.{Writes}
 use Rattle.demands.specs.Calls.{Gives}
 use Rattle.demands.proofs.Demands.{not-sound}
-use Rattle.exports.specs.Calls.{Call, known, unknown, called, answered}
+use Rattle.exports.specs.Calls.{Call, known, unknown, called, callReply}
 use Rattle.host_demands.specs.Hosts.{HostGives, HostReplays, HostWrites, HostRests, HostAsksNothing, HostTells, HostSays, anArrival, aStart, aRead, aFinish, hostAnswer, lastOf, Hosts}
 
 host-asks : HostAsksNothing
@@ -63,8 +63,8 @@ unknown-answer q q′ r v e = (
 )
 
 module _ (q q′ : Saved) (kind which value r v : ℕ) (said : HostGives q kind which value r v q′) where
-  answer-is : {c : Call} → called kind which value ≡ c → reply q′ r v ≡ answered q c
-  answer-is i = said ∙ ap (λ (c : Call). answered q c) i
+  answer-is : {c : Call} → called kind which value ≡ c → reply q′ r v ≡ callReply q c
+  answer-is i = said ∙ ap (λ (c : Call). callReply q c) i
 
   event-is : (e : Event ℕ) → HostSays kind which value e → Gives (stateOf q) e (stepOf (reply q′ r v))
   event-is e s = ap stepOf (answer-is (says-known s))

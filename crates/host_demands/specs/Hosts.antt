@@ -24,7 +24,7 @@ use Rattle.recording_demands.specs.Ensured.{Replays}
 use Rattle.recording_demands.specs.Rest.{Unread}
 use Rattle.recording_write_demands.specs.Ensured.{Writes}
 use Rattle.demands.specs.Calls.{Makes, Gives}
-use Rattle.exports.specs.Calls.{called, answered}
+use Rattle.exports.specs.Calls.{called, callReply}
 use Rattle.exports.specs.Replies.{madeAs}
 use Rattle.exports.specs.Replayed.{Replayed}
 use Rattle.exports.specs.Wrote.{Wrote}
@@ -47,7 +47,7 @@ HostMakes T L D W R K r q = madeAs r q ≡ made ltb base T L D W R K
 
 -- `parnusild_event`, lent the state q: it answers r and the number v, and leaves the state q′
 abbrev pub HostGives : Saved → ℕ → ℕ → ℕ → ℕ → ℕ → Saved → Type 0
-HostGives q kind which value r v q′ = reply q′ r v ≡ answered q (called kind which value)
+HostGives q kind which value r v q′ = reply q′ r v ≡ callReply q (called kind which value)
 
 -- `parnusild_replay`, lent the bytes s and the list out: it answers r at the place m, with the counts cs, and leaves the state q and `list`
 abbrev pub HostReplays : List ℕ → List ℕ → ℕ → ℕ → List ℕ → Saved → List ℕ → Type 0

@@ -7,7 +7,7 @@ use native.Mathlib.Omega.{arith}
 use borrow.Author.Tests.{le-leb, lt-leb, lt-ltb, le-ltb, leb-true, leb-false}
 use lib.Dec.{eqb, ltb, leb}
 use Rattle.lists.specs.Lists.{some, every}
-use Rattle.protocol_state.specs.Saved.{active}
+use Rattle.protocol_state.specs.Saved.{activePhase}
 use Rattle.protocol_state.specs.Decision.{decided}
 use Rattle.protocol_state.specs.Judge.{mayArrive, judgedArrival, judgedTask, judgedRead}
 use Rattle.protocol_state.proofs.Places.{some-same}
@@ -43,10 +43,10 @@ module _ (k t T : ℕ) (ph : ℕ → ℕ) where
 
   -- d is the decision, b whether a task before t is active, u what that means for its turn
   pub judged-inside :
-      {d u r : ℕ} {b : Bool} → t < T → d ≡ decided k (ph t) → b ≡ some (λ u. active (ph u)) t → u ≡ cond b 16 0 → r ≡ cond (ltb d 12) u d →
+      {d u r : ℕ} {b : Bool} → t < T → d ≡ decided k (ph t) → b ≡ some (λ u. activePhase (ph u)) t → u ≡ cond b 16 0 → r ≡ cond (ltb d 12) u d →
       r ≡ judgedTask ltb k t T ph
   unfolding judgedTask
-  judged-inside l ed eb eu er = rw (lt-leb T t l, er, eu, eb, ed, some-ahead (λ u. active (ph u)) t T (omega arith))
+  judged-inside l ed eb eu er = rw (lt-leb T t l, er, eu, eb, ed, some-ahead (λ u. activePhase (ph u)) t T (omega arith))
 
 module _ (l T L : ℕ) (R ph : ℕ → ℕ) where
   pub read-outside : L ≤ l → 12 ≡ judgedRead ltb l T L R ph

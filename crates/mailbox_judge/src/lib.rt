@@ -5,7 +5,7 @@ ghost use Prim.Native.Nat.{_≤_, min};
 ghost use lib.Dec.{ltb};
 ghost use Rattle.lists.specs.Lists.{every, some};
 ghost use Rattle.protocol.specs.Event.{has};
-ghost use Rattle.protocol_state.specs.Saved.{at, base, active};
+ghost use Rattle.protocol_state.specs.Saved.{at, base, activePhase};
 ghost use Rattle.protocol_state.specs.Decision.{decided};
 ghost use Rattle.protocol_state.specs.Judge.{allows, mayArrive, judgedArrival, judgedTask, judgedRead};
 use lists::few;
@@ -54,7 +54,7 @@ pub fn judge_arrival(set: u32, tasks: usize, phase: &[u8; TASKS]) -> u8
 
 // Whether a task with this phase is unfinished.
 fn is_active(phase: u8) -> bool
-    ensures { λ r. ⌜ r ≡ active phase ⌝ }
+    ensures { λ r. ⌜ r ≡ activePhase phase ⌝ }
 {
     phase != 0
 }
@@ -62,7 +62,7 @@ fn is_active(phase: u8) -> bool
 // Whether a task before `t`, one ahead of it, is active.
 fn some_before(t: usize, phase: &[u8; TASKS]) -> bool
     requires { ⌜ t ≤ base .tasks ⌝ }
-    ensures { λ r. ⌜ r ≡ some (λ u. active (at (now (phase .entry)) u)) t ⌝ }
+    ensures { λ r. ⌜ r ≡ some (λ u. activePhase (at (now (phase .entry)) u)) t ⌝ }
 {
     let mut found = false;
     let mut u = 0;

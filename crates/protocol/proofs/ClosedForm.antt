@@ -11,7 +11,7 @@ use Rattle.protocol.specs.Given.{Given, there}
 use Rattle.protocol.specs.Table.{Table, startOf}
 use Rattle.protocol.specs.History.{tick}
 use Rattle.protocol.specs.ZeroTime.{runOf, early}
-use Rattle.protocol.specs.Instant.{Entry}
+use Rattle.protocol.specs.Instant.{LogEntry}
 
 -- how often task t arrived, by the arrival sets
 unfoldable pub seen : List ℕ → ℕ → ℕ
@@ -33,20 +33,20 @@ module _ {Val : Type 0} (T : Table Val) (out : ℕ → ℕ → Given Val) where
   told ms l = gives l (seen ms (T .writer l))
 
   -- task t's read by link l after the arrivals ms
-  abbrev pub entry : List ℕ → ℕ → ℕ → Entry Val
+  abbrev pub entry : List ℕ → ℕ → ℕ → LogEntry Val
   entry ms t l = record { job = seen ms t; link = l; given = told ms l }
 
   -- task t reads those of the first n links that are its own
-  unfoldable pub closed-reads : List ℕ → ℕ → ℕ → List (Entry Val) → List (Entry Val)
+  unfoldable pub closed-reads : List ℕ → ℕ → ℕ → List (LogEntry Val) → List (LogEntry Val)
   closed-reads ms t zero es = es
   closed-reads ms t (suc l) es = cond (eqb (T .reader l) t) (entry ms t l ∷ closed-reads ms t l es) (closed-reads ms t l es)
 
   -- of the tasks listed, those of the set m read, one after the other
-  unfoldable pub closed-work : List ℕ → ℕ → List ℕ → List (Entry Val) → List (Entry Val)
+  unfoldable pub closed-work : List ℕ → ℕ → List ℕ → List (LogEntry Val) → List (LogEntry Val)
   closed-work ms m [] es = es
   closed-work ms m (t ∷ ts) es = closed-work ms m ts (cond (has m t) (closed-reads ms t (T .links) es) es)
 
   -- all reads, the last one first
-  unfoldable pub closed : List ℕ → List ℕ → List (Entry Val)
+  unfoldable pub closed : List ℕ → List ℕ → List (LogEntry Val)
   closed order [] = []
   closed order (m ∷ ms) = closed-work (m ∷ ms) m order (closed order ms)

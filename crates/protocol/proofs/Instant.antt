@@ -14,7 +14,7 @@ use Rattle.protocol.specs.Event.{has}
 use Rattle.protocol.specs.Table.{Table, startOf, Lawful}
 use Rattle.protocol.specs.History.{tick}
 use Rattle.protocol.specs.ZeroTime.{runOf, early}
-use Rattle.protocol.specs.Instant.{Entry, Moment, ask, readLinks, runWhole, work, come, carried, mem, Sorted, Order, find, AllThere}
+use Rattle.protocol.specs.Instant.{LogEntry, Moment, ask, readLinks, runWhole, work, come, carried, mem, Sorted, Order, find, AllThere}
 use Rattle.protocol.proofs.Counts.{there-there}
 use Rattle.protocol.proofs.ClosedForm.{seen, Known, gives, told, entry, closed-reads, closed-work, closed}
 
@@ -94,7 +94,7 @@ module _ {Val : Type 0} (T : Table Val) (out : ℕ → ℕ → Given Val) where
       go (no x) = rw (ne-eqb t w x) (D w k p)
 
   -- a task that runs reads what the closed form says
-  reads-closed : (ms : List ℕ) (es : List (Entry Val)) (s : Moment Val) (t : ℕ) → Made s → s .log ≡ es → ((u : ℕ) → s .arrived u ≡ seen ms u)
+  reads-closed : (ms : List ℕ) (es : List (LogEntry Val)) (s : Moment Val) (t : ℕ) → Made s → s .log ≡ es → ((u : ℕ) → s .arrived u ≡ seen ms u)
       → suc (s .runs t) ≡ seen ms t → ((l : ℕ) → l < T .links → T .reader l ≡ t → Ready s l) → (n : ℕ) → n ≤ T .links
       → readLinks T s t n ≡ closed-reads T out ms t n es
   unfolding readLinks closed-reads
@@ -108,7 +108,7 @@ module _ {Val : Type 0} (T : Table Val) (out : ℕ → ℕ → Given Val) where
       go false e i = i
 
   -- after all tasks of a set
-  pub record Done (ms : List ℕ) (es : List (Entry Val)) (s : Moment Val) : Type 0 where
+  pub record Done (ms : List ℕ) (es : List (LogEntry Val)) (s : Moment Val) : Type 0 where
     pub log : s .log ≡ es
     pub arrived : (u : ℕ) → s .arrived u ≡ seen ms u
     pub runs : (u : ℕ) → s .runs u ≡ seen ms u
@@ -135,14 +135,14 @@ module _ {Val : Type 0} (T : Table Val) (out : ℕ → ℕ → Given Val) where
             omega arith
 
     -- the tasks of a set, one after the other, read what the closed form says
-    work-closed : (ms : List ℕ) (m : ℕ) (ts : List ℕ) (es : List (Entry Val)) (s : Moment Val) → Sorted (T .ahead) ts → Mid m ts s → Made s → s .log ≡ es
+    work-closed : (ms : List ℕ) (m : ℕ) (ts : List ℕ) (es : List (LogEntry Val)) (s : Moment Val) → Sorted (T .ahead) ts → Mid m ts s → Made s → s .log ≡ es
         → ((u : ℕ) → s .arrived u ≡ seen ms u) → Done ms (closed-work T out ms m ts es) (work T out m ts s)
     unfolding work closed-work Sorted mem runWhole
     work-closed ms m [] es s S M D g a = record { log = g; arrived = a; runs = λ u. sym (rw (and-false (has m u)) at (M u)) ∙ a u; made = D }
     work-closed ms m (t ∷ ts) es s S M D g a = go (has m t) refl (λ es s. work-closed ms m ts es s (S .2))
       where
         go : (b : Bool) → has m t ≡ b
-            → ((es : List (Entry Val)) (s : Moment Val) → Mid m ts s → Made s → s .log ≡ es → ((u : ℕ) → s .arrived u ≡ seen ms u)
+            → ((es : List (LogEntry Val)) (s : Moment Val) → Mid m ts s → Made s → s .log ≡ es → ((u : ℕ) → s .arrived u ≡ seen ms u)
             → Done ms (closed-work T out ms m ts es) (work T out m ts s))
             → Done ms (closed-work T out ms m ts (cond b (closed-reads T out ms t (T .links) es) es)) (work T out m ts (cond b (runWhole T out t s) s))
         go true e i =
@@ -176,7 +176,7 @@ module _ {Val : Type 0} (T : Table Val) (out : ℕ → ℕ → Given Val) where
         go false = known (T .writer l) (runOf (T .delayed l) n)
 
     -- so nothing is missing in the closed form: in the reads of a task
-    there-reads : (ms : List ℕ) (t : ℕ) (es : List (Entry Val)) → AllThere es → (n : ℕ) → AllThere (closed-reads T out ms t n es)
+    there-reads : (ms : List ℕ) (t : ℕ) (es : List (LogEntry Val)) → AllThere es → (n : ℕ) → AllThere (closed-reads T out ms t n es)
     unfolding closed-reads AllThere
     there-reads ms t es G zero = G
     there-reads ms t es G (suc l) = go (eqb (T .reader l) t) (there-reads ms t es G l)
@@ -186,7 +186,7 @@ module _ {Val : Type 0} (T : Table Val) (out : ℕ → ℕ → Given Val) where
         go false i = i
 
     -- of a set
-    there-work : (ms : List ℕ) (m : ℕ) (ts : List ℕ) (es : List (Entry Val)) → AllThere es → AllThere (closed-work T out ms m ts es)
+    there-work : (ms : List ℕ) (m : ℕ) (ts : List ℕ) (es : List (LogEntry Val)) → AllThere es → AllThere (closed-work T out ms m ts es)
     unfolding closed-work
     there-work ms m [] es G = G
     there-work ms m (t ∷ ts) es G = there-work ms m ts _ (go (has m t))
@@ -206,7 +206,7 @@ module _ {Val : Type 0} (T : Table Val) (out : ℕ → ℕ → Given Val) where
     always-there L order O ms K = rw (carried-closed L order O ms K .log) (there-closed order ms)
 
   -- a task's reads leave what run number j of l's reader read by l, unless they are that run's
-  find-reads : (ms : List ℕ) (t : ℕ) (es : List (Entry Val)) (l j : ℕ) → (T .reader l ≡ t → seen ms t ≡ j → ⊥)
+  find-reads : (ms : List ℕ) (t : ℕ) (es : List (LogEntry Val)) (l j : ℕ) → (T .reader l ≡ t → seen ms t ≡ j → ⊥)
       → (n : ℕ) → find l j (closed-reads T out ms t n es) ≡ find l j es
   unfolding closed-reads find
   find-reads ms t es l j x zero = refl
@@ -222,7 +222,7 @@ module _ {Val : Type 0} (T : Table Val) (out : ℕ → ℕ → Given Val) where
       go false e i = i
 
   -- so do the reads of a set, unless its reader is in the set and that run is its last
-  find-work : (ms : List ℕ) (m : ℕ) (ts : List ℕ) (es : List (Entry Val)) (l j : ℕ) → (has m (T .reader l) ≡ true → seen ms (T .reader l) ≡ j → ⊥)
+  find-work : (ms : List ℕ) (m : ℕ) (ts : List ℕ) (es : List (LogEntry Val)) (l j : ℕ) → (has m (T .reader l) ≡ true → seen ms (T .reader l) ≡ j → ⊥)
       → find l j (closed-work T out ms m ts es) ≡ find l j es
   unfolding closed-work
   find-work ms m [] es l j x = refl
@@ -233,11 +233,11 @@ module _ {Val : Type 0} (T : Table Val) (out : ℕ → ℕ → Given Val) where
       go false e = refl
 
   -- the last run of l's reader read by l what the closed form says
-  abbrev Read : List ℕ → ℕ → List (Entry Val) → Type 0
+  abbrev Read : List ℕ → ℕ → List (LogEntry Val) → Type 0
   Read ms l es = find l (seen ms (T .reader l)) es ≡ told T out ms l
 
   -- the reader's own reads hold it
-  read-own : (ms : List ℕ) (es : List (Entry Val)) (l n : ℕ) → l < n → Read ms l (closed-reads T out ms (T .reader l) n es)
+  read-own : (ms : List ℕ) (es : List (LogEntry Val)) (l n : ℕ) → l < n → Read ms l (closed-reads T out ms (T .reader l) n es)
   unfolding closed-reads find
   read-own ms es l zero q = absurd (omega arith)
   read-own ms es l (suc k) q = go (ℕ-discrete k l) (eqb (T .reader k) (T .reader l)) refl (read-own ms es l k)
@@ -250,7 +250,7 @@ module _ {Val : Type 0} (T : Table Val) (out : ℕ → ℕ → Given Val) where
       go (no y) false e i = i (omega arith)
 
   -- once read, it stays
-  read-kept : (ms : List ℕ) (m : ℕ) (ts : List ℕ) (es : List (Entry Val)) (l : ℕ) → l < T .links → Read ms l es → Read ms l (closed-work T out ms m ts es)
+  read-kept : (ms : List ℕ) (m : ℕ) (ts : List ℕ) (es : List (LogEntry Val)) (l : ℕ) → l < T .links → Read ms l es → Read ms l (closed-work T out ms m ts es)
   unfolding closed-work
   read-kept ms m [] es l q i = i
   read-kept ms m (t ∷ ts) es l q i = read-kept ms m ts _ l q (go (has m t) (ℕ-discrete (T .reader l) t))
@@ -261,7 +261,7 @@ module _ {Val : Type 0} (T : Table Val) (out : ℕ → ℕ → Given Val) where
       go false x = i
 
   -- a set that holds the reader reads it
-  read-in : (ms : List ℕ) (m : ℕ) (ts : List ℕ) (es : List (Entry Val)) (l : ℕ) → l < T .links → has m (T .reader l) ≡ true → mem (T .reader l) ts ≡ true
+  read-in : (ms : List ℕ) (m : ℕ) (ts : List ℕ) (es : List (LogEntry Val)) (l : ℕ) → l < T .links → has m (T .reader l) ≡ true → mem (T .reader l) ts ≡ true
       → Read ms l (closed-work T out ms m ts es)
   unfolding closed-work mem
   read-in ms m [] es l q e f = absurd (true≢false (sym f))

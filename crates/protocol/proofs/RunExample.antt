@@ -9,7 +9,7 @@ use Rattle.protocol.specs.Event.{arrival, has}
 use Rattle.protocol.specs.Given.{Given, there, missing}
 use Rattle.protocol.specs.Table.{Table}
 use Rattle.protocol.specs.History.{output}
-use Rattle.protocol.specs.Instant.{Entry, ask, readLinks, runWhole, work, come, carried, upward, sets, zeroRun}
+use Rattle.protocol.specs.Instant.{LogEntry, ask, readLinks, runWhole, work, come, carried, upward, sets, zeroRun}
 
 -- the station of that example: task 1 writes; task 0, more urgent, reads it delayed; tasks 2 and 3 read it directly
 unfoldable pub four : Table ℕ
@@ -21,7 +21,7 @@ four = record { tasks = 4; links = 3; default = λ t. cond (eqb t 1) 100 0; writ
     reader (suc (suc n)) = 3
 
 -- what each read was given
-unfoldable pub givens : List (Entry ℕ) → List (Given ℕ)
+unfoldable pub givens : List (LogEntry ℕ) → List (Given ℕ)
 givens [] = []
 givens (e ∷ es) = e .given ∷ givens es
 

@@ -12,7 +12,7 @@ use Rattle.protocol.specs.History.{tick, arrivals, output}
 use Rattle.protocol.specs.ZeroTime.{runOf, early}
 
 -- one read: by link `link`, in run number `job` of its reader
-pub record Entry (Val : Type 0) : Type 0 where
+pub record LogEntry (Val : Type 0) : Type 0 where
   pub job : ℕ
   pub link : ℕ
   pub given : Given Val
@@ -22,7 +22,7 @@ pub record Moment (Val : Type 0) : Type 0 where
   pub arrived : ℕ → ℕ
   pub runs : ℕ → ℕ
   pub made : ℕ → ℕ → Given Val
-  pub log : List (Entry Val)
+  pub log : List (LogEntry Val)
 
 -- the tasks of the set m arrive, all at once
 unfoldable pub come : {Val : Type 0} → ℕ → Moment Val → Moment Val
@@ -35,7 +35,7 @@ module _ {Val : Type 0} (T : Table Val) where
       cond (early (T .delayed l) (s .arrived (T .writer l))) (there (startOf T l)) (s .made (T .writer l) (runOf (T .delayed l) (s .arrived (T .writer l))))
 
   -- task t reads those of the first n links that are its own
-  unfoldable pub readLinks : Moment Val → ℕ → ℕ → List (Entry Val)
+  unfoldable pub readLinks : Moment Val → ℕ → ℕ → List (LogEntry Val)
   readLinks s t zero = s .log
   readLinks s t (suc l) =
       cond (eqb (T .reader l) t) (record { job = suc (s .runs t); link = l; given = ask s l } ∷ readLinks s t l) (readLinks s t l)
@@ -90,16 +90,16 @@ sets (read l ∷ h) = sets h
 sets (finish u v ∷ h) = sets h
 
 -- all reads of the run where tasks take no time, with the arrivals and the outputs of a history: what a run gives that the history leaves unfinished is missing
-abbrev pub zeroRun : {Val : Type 0} → Table Val → List ℕ → List (Event Val) → List (Entry Val)
+abbrev pub zeroRun : {Val : Type 0} → Table Val → List ℕ → List (Event Val) → List (LogEntry Val)
 zeroRun T order h = carried T (output h) order (sets h) .log
 
 -- what run number j of link l's reader read by l
-unfoldable pub find : {Val : Type 0} → ℕ → ℕ → List (Entry Val) → Given Val
+unfoldable pub find : {Val : Type 0} → ℕ → ℕ → List (LogEntry Val) → Given Val
 find l j [] = missing
 find l j (e ∷ es) = cond (eqb (e .link) l && eqb (e .job) j) (e .given) (find l j es)
 
 -- at each read of a history, the last one first: what that run of the reader read by that link
-unfoldable pub looked : {Val : Type 0} → Table Val → List (Entry Val) → List (Event Val) → List (Given Val)
+unfoldable pub looked : {Val : Type 0} → Table Val → List (LogEntry Val) → List (Event Val) → List (Given Val)
 looked T es [] = []
 looked T es (arrival m ∷ h) = looked T es h
 looked T es (start u ∷ h) = looked T es h
@@ -107,7 +107,7 @@ looked T es (read l ∷ h) = find l (arrivals h (T .reader l)) es ∷ looked T e
 looked T es (finish u v ∷ h) = looked T es h
 
 -- every read was given an output
-unfoldable pub AllThere : {Val : Type 0} → List (Entry Val) → Type 0
+unfoldable pub AllThere : {Val : Type 0} → List (LogEntry Val) → Type 0
 AllThere [] = Unit {0}
 AllThere (e ∷ es) = (e .given ≡ missing → ⊥) × AllThere es
 

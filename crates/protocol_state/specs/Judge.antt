@@ -13,7 +13,7 @@ use Prim.Native.Nat.{ℕ, _^_}
 use lib.Dec.{eqb, ltb, leb}
 use Rattle.lists.specs.Lists.{some, every}
 use Rattle.protocol.specs.Event.{Event, arrival, start, read, finish, has}
-use Rattle.protocol_state.specs.Saved.{Saved, at, active}
+use Rattle.protocol_state.specs.Saved.{Saved, at, activePhase}
 use Rattle.protocol_state.specs.Decision.{decided}
 
 -- a decision is the next phase (0 to 2), and no refusal (13 to 15)
@@ -31,7 +31,7 @@ judgedArrival s T ph = cond (eqb s 0 || leb (2 ^ T) s) 12 (cond (every (mayArriv
 module _ (ahead : ℕ → ℕ → Bool) where
   -- a task ahead of t is active
   abbrev pub preempted : ℕ → ℕ → (ℕ → ℕ) → Bool
-  preempted t T ph = some (λ u. ahead u t && active (ph u)) T
+  preempted t T ph = some (λ u. ahead u t && activePhase (ph u)) T
 
   -- an event of kind k by task t: 12 for no such task, 14 or 15 as its phase decides, 16 while a more urgent task is active
   unfoldable pub judgedTask : ℕ → ℕ → ℕ → (ℕ → ℕ) → ℕ

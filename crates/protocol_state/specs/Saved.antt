@@ -73,12 +73,12 @@ table ahead q = record {
 }
 
 -- a task in this phase is active: not idle
-abbrev pub active : ℕ → Bool
-active p = not (eqb p 0)
+abbrev pub activePhase : ℕ → Bool
+activePhase p = not (eqb p 0)
 
 -- task t is active in it
 abbrev pub busy : Saved → ℕ → Bool
-busy q t = active (at (q .phase) t)
+busy q t = activePhase (at (q .phase) t)
 
 -- p is one of 1 to m
 abbrev pub oneTo : ℕ → ℕ → Bool

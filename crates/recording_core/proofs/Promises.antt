@@ -31,7 +31,7 @@ use Rattle.recording_format.proofs.Cuts.{recorded-cut}
 use Rattle.recording_format.proofs.WholeRecords.{cut-as-whole}
 use Rattle.recording_format.proofs.Onward.{any-allowed}
 use Rattle.recording_core.specs.Playing.{Playing, coreOf, judgedIn, steppedIn}
-use Rattle.recording_core.specs.Promise.{past, freshTable, refusedBy, tableOf, Genuine}
+use Rattle.recording_core.specs.Promise.{past, freshTable, refusedBy, tableOf, CoreGenuine}
 use Rattle.recording_core.specs.Right.{Right, WithTable}
 use Rattle.recording_core.proofs.Right.{refused-by, right-fresh, right-finally, happens-allowed}
 
@@ -53,7 +53,7 @@ module _ {ahead : ℕ → ℕ → Bool} (ranks : Ranks ahead) (most : Limits) (o
 
   module _ {s ds : List ℕ} {ls : List Link} {es : List (Event ℕ)} where
     -- what the reader accepts as a recording is one by the document's words
-    pub recorded-genuine : Recorded ahead most (coreOf ahead (most .size) out) s ds ls es → Genuine ahead most s out ds ls es
+    pub recorded-genuine : Recorded ahead most (coreOf ahead (most .size) out) s ds ls es → CoreGenuine ahead most s out ds ls es
     recorded-genuine r =
         let n = length-listed ls in
         let ok : Fine ahead most ds ls = recorded-judged ahead most (coreOf ahead (most .size) out) s ds ls es r in
@@ -71,13 +71,13 @@ module _ {ahead : ℕ → ℕ → Bool} (ranks : Ranks ahead) (most : Limits) (o
 
   -- demand 2: accepted only if genuine
   pub accepted-genuine : (s : List ℕ) → Bytes s → recording ahead most (coreOf ahead (most .size) out) s .refusal ≡ 0
-      → (ds : List ℕ) × ((ls : List Link) × ((es : List (Event ℕ)) × Genuine ahead most s out ds ls es))
+      → (ds : List ℕ) × ((ls : List Link) × ((es : List (Event ℕ)) × CoreGenuine ahead most s out ds ls es))
   accepted-genuine s b z =
       let r = accepted-recorded ahead most (coreOf ahead (most .size) out) s b z in
       (r .0, (r .1 .0, (r .1 .1 .0, recorded-genuine (r .1 .1 .1))))
 
   -- and the other way round, where each limit fits the bytes of its count
-  module _ (wt : most .size .tasks < 256) (wl : most .size .links < 256) (we : most .events < 65536) {s ds : List ℕ} {ls : List Link} {es : List (Event ℕ)} (g : Genuine ahead most s out ds ls es) where
+  module _ (wt : most .size .tasks < 256) (wl : most .size .links < 256) (we : most .events < 65536) {s ds : List ℕ} {ls : List Link} {es : List (Event ℕ)} (g : CoreGenuine ahead most s out ds ls es) where
     pub genuine-recorded : Recorded ahead most (coreOf ahead (most .size) out) s ds ls es
     genuine-recorded =
         let n = length-listed ls in

@@ -18,7 +18,7 @@ use Rattle.recording_format.specs.Outcome.{RecordingOutcome}
 use Rattle.recording_format.proofs.Outcomes.{recording-outcome}
 use Rattle.recording_format.proofs.Decided.{outcome-is}
 use Rattle.recording_core.specs.Playing.{Playing, coreOf, steppedIn}
-use Rattle.recording_core.specs.Promise.{past, freshTable, Genuine}
+use Rattle.recording_core.specs.Promise.{past, freshTable, CoreGenuine}
 use Rattle.recording_core.specs.Right.{Right}
 use Rattle.recording_core.proofs.Promises.{accepted-genuine, genuine-accepted, power-cut, cut-whole}
 use Rattle.recording.specs.Answers.{replied}
@@ -36,10 +36,10 @@ module _ {s out list : List ℕ} {a : Answer} (said : Replays s out a list) wher
   only-answer o = outcome-is ltb baseLimits (coreOf ltb base out) s o ∙ sym (said .answer)
 
   -- accepted only if there are a table, links and events whose encoding the bytes are, and so on
-  pub accepted-only : a .refusal ≡ 0 → (ds : List ℕ) × ((ls : List Link) × ((es : List (Event ℕ)) × Genuine ltb baseLimits s out ds ls es))
+  pub accepted-only : a .refusal ≡ 0 → (ds : List ℕ) × ((ls : List Link) × ((es : List (Event ℕ)) × CoreGenuine ltb baseLimits s out ds ls es))
   accepted-only z = accepted-genuine ltb-ranks baseLimits out s (said .bytes) (sym (ap (λ (x : Verdict Playing). x .refusal) (said .answer)) ∙ z)
 
-  module _ {ds : List ℕ} {ls : List Link} {es : List (Event ℕ)} (g : Genuine ltb baseLimits s out ds ls es) where
+  module _ {ds : List ℕ} {ls : List Link} {es : List (Event ℕ)} (g : CoreGenuine ltb baseLimits s out ds ls es) where
     genuine : (q : Playing) × (recording ltb baseLimits (coreOf ltb base out) s ≡ verdict 0 (length s) q) × Right ltb base (freshTable base ds ls) out (past [] es) q
     genuine = genuine-accepted ltb-ranks baseLimits out (lit< tt) (lit< tt) (lit< tt) g
 
@@ -55,7 +55,7 @@ module _ {s out list : List ℕ} {a : Answer} (said : Replays s out a list) wher
     accepted-rest = ap (λ (n : ℕ). drop n s) (accepted-all .1) ∙ drop-length s
 
 -- the power cut: of a recording that is accepted only the first m bytes are kept, at least through E
-module _ {s out list ds : List ℕ} {ls : List Link} {es : List (Event ℕ)} {a : Answer} (g : Genuine ltb baseLimits s out ds ls es) (m : ℕ) (said : Replays (take m s) out a list) where
+module _ {s out list ds : List ℕ} {ls : List Link} {es : List (Event ℕ)} {a : Answer} (g : CoreGenuine ltb baseLimits s out ds ls es) (m : ℕ) (said : Replays (take m s) out a list) where
   module _ (through : throughE ds ls ≤ m) (lost : m < length s) where
     -- 1 at the first record that isn't whole, and the state, the counts and the list after the whole records
     pub after-cut : Cut events (steppedIn ltb) (coreOf ltb base out .start ds (listed ls)) es (throughE ds ls) m (replied a list)

@@ -11,7 +11,7 @@ use Rattle.byte_format.specs.Kinded.{firstByte}
 use Rattle.byte_format.specs.Handed.{atMost, weighed, weighedSection}
 use Rattle.recording_format.specs.Writing.{tableWeighed, recordingWeighed, writing, bufferAfter}
 use Rattle.recording_text.specs.Pieces.{pieces, filled}
-use Rattle.recording_text.specs.Numeral.{allDigits, valueFrom, numberFault, firstFault, values}
+use Rattle.recording_text.specs.Numeral.{allDigits, valueFrom, numberFault, firstFault, fieldValues}
 use Rattle.recording_text.specs.Line.{sort, recordOf, fieldsSay}
 use Rattle.recording_text.specs.Text.{readable, textFault, recordsOf, joined, stored, readOf}
 use Rattle.recording_text.specs.Place.{bytesOf as recordBytes, allBytes, lineAfter, refusalLine}
@@ -19,29 +19,29 @@ use Rattle.recording_make.specs.Made.{lineTold, madeOf, bufferOf}
 
 -- `T 7` in room for nine bytes: the eight of its recording, and the ninth as it was
 one-task : bufferOf (84 ∷ 32 ∷ 55 ∷ []) (9 ∷ 9 ∷ 9 ∷ 9 ∷ 9 ∷ 9 ∷ 9 ∷ 9 ∷ 9 ∷ []) ≡ 1 ∷ 7 ∷ 0 ∷ 0 ∷ 0 ∷ 0 ∷ 0 ∷ 0 ∷ 9 ∷ []
-unfolding pieces filled allDigits valueFrom numberFault firstFault values sort recordOf fieldsSay readable textFault recordsOf joined stored readOf bytesOf encodes atMost weighed weighedSection tableWeighed recordingWeighed writing bufferAfter bufferOf
+unfolding pieces filled allDigits valueFrom numberFault firstFault fieldValues sort recordOf fieldsSay readable textFault recordsOf joined stored readOf bytesOf encodes atMost weighed weighedSection tableWeighed recordingWeighed writing bufferAfter bufferOf
 one-task = refl
 
 -- the answer to it
 accepted : madeOf (84 ∷ 32 ∷ 55 ∷ []) 9 ≡ record { fault = 0; line = 0; refusal = 0; place = 8 }
-unfolding pieces filled allDigits valueFrom numberFault firstFault values sort recordOf fieldsSay readable textFault recordsOf joined stored readOf bytesOf atMost weighed weighedSection tableWeighed recordingWeighed writing lineTold madeOf
+unfolding pieces filled allDigits valueFrom numberFault firstFault fieldValues sort recordOf fieldsSay readable textFault recordsOf joined stored readOf bytesOf atMost weighed weighedSection tableWeighed recordingWeighed writing lineTold madeOf
 accepted = refl
 
 -- no room for its eight bytes: 18, and the line after the last
 no-room : madeOf (84 ∷ 32 ∷ 55 ∷ []) 7 ≡ record { fault = 0; line = 2; refusal = 18; place = 8 }
-unfolding pieces filled allDigits valueFrom numberFault firstFault values sort recordOf fieldsSay readable textFault recordsOf joined stored readOf bytesOf atMost weighed weighedSection tableWeighed recordingWeighed writing refusalLine lineTold madeOf
+unfolding pieces filled allDigits valueFrom numberFault firstFault fieldValues sort recordOf fieldsSay readable textFault recordsOf joined stored readOf bytesOf atMost weighed weighedSection tableWeighed recordingWeighed writing refusalLine lineTold madeOf
 no-room = refl
 
 -- `T 7`, `S 0`: a start of a task that is not waiting
 refused : madeOf (84 ∷ 32 ∷ 55 ∷ 10 ∷ 83 ∷ 32 ∷ 48 ∷ []) 99 ≡ record { fault = 0; line = 2; refusal = 14; place = 8 }
-unfolding pieces filled allDigits valueFrom numberFault firstFault values sort recordOf fieldsSay readable textFault recordsOf joined stored readOf bytesOf firstByte atMost weighed weighedSection tableWeighed recordingWeighed writing freshOf judgedTask decided recordBytes allBytes lineAfter refusalLine lineTold madeOf
+unfolding pieces filled allDigits valueFrom numberFault firstFault fieldValues sort recordOf fieldsSay readable textFault recordsOf joined stored readOf bytesOf firstByte atMost weighed weighedSection tableWeighed recordingWeighed writing freshOf judgedTask decided recordBytes allBytes lineAfter refusalLine lineTold madeOf
 refused = refl
 
 -- `T 7`, `S x`: the task is not written
 unreadable : madeOf (84 ∷ 32 ∷ 55 ∷ 10 ∷ 83 ∷ 32 ∷ 120 ∷ []) 99 ≡ record { fault = 2; line = 2; refusal = 0; place = 0 }
-unfolding pieces filled allDigits valueFrom numberFault firstFault values sort recordOf fieldsSay readable textFault recordsOf joined stored readOf madeOf
+unfolding pieces filled allDigits valueFrom numberFault firstFault fieldValues sort recordOf fieldsSay readable textFault recordsOf joined stored readOf madeOf
 unreadable = refl
 
 untouched : bufferOf (84 ∷ 32 ∷ 55 ∷ 10 ∷ 83 ∷ 32 ∷ 120 ∷ []) (9 ∷ 9 ∷ 9 ∷ 9 ∷ 9 ∷ 9 ∷ 9 ∷ 9 ∷ []) ≡ 9 ∷ 9 ∷ 9 ∷ 9 ∷ 9 ∷ 9 ∷ 9 ∷ 9 ∷ []
-unfolding pieces filled allDigits valueFrom numberFault firstFault values sort recordOf fieldsSay readable textFault recordsOf joined stored readOf bufferOf
+unfolding pieces filled allDigits valueFrom numberFault firstFault fieldValues sort recordOf fieldsSay readable textFault recordsOf joined stored readOf bufferOf
 untouched = refl

@@ -15,7 +15,7 @@ use Rattle.recording_core.specs.Playing.{stateCore}
 use Rattle.recording_text.specs.declared.Read.{Read}
 use Rattle.recording_text.specs.Text.{readOf, over, defaultsOf, linksOf, eventsOf}
 use Rattle.recording_make.specs.declared.Made.{Made}
-use Rattle.recording_make.specs.Made.{unread, replied, madeOf, bufferOf}
+use Rattle.recording_make.specs.Made.{unread, makeReply, madeOf, bufferOf}
 
 -- numbers at the start of a list are cut off again
 over-taken : (ns old : List ℕ) {n : ℕ} {out : List ℕ} → n ≡ length ns → out ≡ over ns old → take n out ≡ ns
@@ -51,7 +51,7 @@ module _ (text : List ℕ) (r : Read) (e : r ≡ readOf text) where
   module _ (z : r .fault ≡ 0) {ds ls es : List ℕ} (d : ds ≡ defaultsOf text) (l : ls ≡ linksOf text) (v : es ≡ eventsOf text) where
     pub made-written :
         (room : ℕ) {x : Made} →
-        x ≡ replied text (writing ltb baseLimits (stateCore ltb base) ds (linksSaid ls) (eventsSaid es) room) → x ≡ madeOf text room
+        x ≡ makeReply text (writing ltb baseLimits (stateCore ltb base) ds (linksSaid ls) (eventsSaid es) room) → x ≡ madeOf text room
     unfolding madeOf
     made-written room h = h ∙ rw (← e, eq-eqb (r .fault) 0 z, d, l, v)
 

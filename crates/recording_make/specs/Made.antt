@@ -20,8 +20,8 @@ unfoldable pub lineTold : List ℕ → ℕ → ℕ → ℕ
 lineTold text refusal place = cond (eqb refusal 0) 0 (lineOf text refusal place)
 
 -- a text that can be read, whose numbers got this reply from the writer
-abbrev pub replied : List ℕ → Verdict Saved → Made
-replied text x = record { fault = 0; line = lineTold text (x .refusal) (x .place); refusal = x .refusal; place = x .place }
+abbrev pub makeReply : List ℕ → Verdict Saved → Made
+makeReply text x = record { fault = 0; line = lineTold text (x .refusal) (x .place); refusal = x .refusal; place = x .place }
 
 -- the reply of the writer to the numbers of a text, with room for so many bytes
 abbrev pub writingOf : List ℕ → ℕ → Verdict Saved
@@ -29,7 +29,7 @@ writingOf text room = replyTo (defaultsOf text) (linksOf text) (eventsOf text) r
 
 -- what is made of a text, with room for so many bytes: a fault of the text comes before a refusal
 unfoldable pub madeOf : List ℕ → ℕ → Made
-madeOf text room = cond (eqb (readOf text .fault) 0) (replied text (writingOf text room)) (unread (readOf text .fault) (readOf text .line))
+madeOf text room = cond (eqb (readOf text .fault) 0) (makeReply text (writingOf text room)) (unread (readOf text .fault) (readOf text .line))
 
 -- the buffer as the writer leaves it
 abbrev pub writtenIn : List ℕ → List ℕ → List ℕ

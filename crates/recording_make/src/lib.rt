@@ -2,7 +2,7 @@
 ghost use mathlib.Core.Path.{_≡_};
 ghost use lib.ListN.{length};
 ghost use Rattle.recording_write.specs.Answers.{replyTo, bufferTo};
-ghost use Rattle.recording_make.specs.Made.{lineTold, replied, madeOf, bufferOf};
+ghost use Rattle.recording_make.specs.Made.{lineTold, makeReply, madeOf, bufferOf};
 use recording_text::EVENTS;
 use recording_text::LINKS;
 use recording_text::TASKS;
@@ -37,7 +37,7 @@ fn make_written(
     events: &[u32],
     out: &mut [u8],
 ) -> Made
-    ensures answer { λ r. ⌜ r ≡ replied (now (text .entry)) (replyTo (now (defaults .entry)) (now (links .entry)) (now (events .entry)) (length (now (out .entry)))) ⌝ }
+    ensures answer { λ r. ⌜ r ≡ makeReply (now (text .entry)) (replyTo (now (defaults .entry)) (now (links .entry)) (now (events .entry)) (length (now (out .entry)))) ⌝ }
     ensures buffer { λ r. ⌜ now (out .exit) ≡ bufferTo (now (defaults .entry)) (now (links .entry)) (now (events .entry)) (now (out .entry)) ⌝ }
 {
     let written = write(defaults, links, events, out);

@@ -11,7 +11,7 @@ use lib.ListN.{length, drop, getD}
 use lib.Seq.{getD-take, getD-drop}
 use Rattle.recording_text.specs.declared.number.Numbers.{Numbers}
 use Rattle.recording_text.specs.Pieces.{separator, fields, between, Ends}
-use Rattle.recording_text.specs.Numeral.{firstFault, values, gathered, numbersWith}
+use Rattle.recording_text.specs.Numeral.{firstFault, fieldValues, gathered, numbersWith}
 use Rattle.recording_text.specs.Line.{Says, nothing, faulty, saying, sort, recordOf, fieldsSay, widest}
 use Rattle.recording_text.proofs.Splits.{fields-some, length-between}
 
@@ -120,8 +120,8 @@ module _ (s : List ℕ) (a e : ℕ) (w : Ends (separator true) s a e) (h : a < e
         where
           go : (t : Bool) → eqb (firstFault rest) 0 ≡ t → r ≡ fieldsSay (between a e s ∷ rest)
           go true q =
-              let x : n ≡ gathered (values rest) = g ∙ rw q in
-              rw (first-byte, ne-eqb (getD s a 0) 35 k, one-byte, ne-eqb (sort (getD s a 0)) 0 z, q) (y (values rest) x)
+              let x : n ≡ gathered (fieldValues rest) = g ∙ rw q in
+              rw (first-byte, ne-eqb (getD s a 0) 35 k, one-byte, ne-eqb (sort (getD s a 0)) 0 z, q) (y (fieldValues rest) x)
           go false q =
               let x : n .fault ≡ firstFault rest = ap (λ (x : Numbers). x .fault) g ∙ rw q in
               absurd (eqb-false (firstFault rest) 0 q (sym x ∙ f))

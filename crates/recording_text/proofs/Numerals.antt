@@ -13,7 +13,7 @@ use lib.Seq.{drop-cons}
 use Rattle.recording_text.specs.declared.number.Number.{Number}
 use Rattle.recording_text.specs.declared.number.Numbers.{Numbers}
 use Rattle.recording_text.specs.Pieces.{separator, fields, between, Ends}
-use Rattle.recording_text.specs.Numeral.{isDigit, allDigits, valueFrom, value, numberFault, fieldNumber, firstFault, values, setWith, setOf, gathered, noNumbers, numbersWith}
+use Rattle.recording_text.specs.Numeral.{isDigit, allDigits, valueFrom, value, numberFault, fieldNumber, firstFault, fieldValues, setWith, setOf, gathered, noNumbers, numbersWith}
 use Rattle.recording_text.proofs.Splits.{fields-some, fields-past}
 
 -- a digit more
@@ -75,8 +75,8 @@ gathered-more ns n = rw (place-more ns n 0, place-more ns n 1, place-more ns n 2
 
 -- a field more: a number, or the fault
 pub numbers-on : (ns : List ℕ) (f : List ℕ) (fs : List (List ℕ)) → numberFault f ≡ 0 → numbersWith ns (f ∷ fs) ≡ numbersWith (ns ++ (value f ∷ [])) fs
-unfolding numbersWith firstFault values
-numbers-on ns f fs e = rw (e, append-assoc ns (value f ∷ []) (values fs))
+unfolding numbersWith firstFault fieldValues
+numbers-on ns f fs e = rw (e, append-assoc ns (value f ∷ []) (fieldValues fs))
 
 pub numbers-stop : (ns : List ℕ) (f : List ℕ) (fs : List (List ℕ)) → (numberFault f ≡ 0 → ⊥) → numbersWith ns (f ∷ fs) ≡ noNumbers (numberFault f)
 unfolding numbersWith firstFault
@@ -104,5 +104,5 @@ module _ (s : List ℕ) (a e : ℕ) (ns : List ℕ) (w : Ends (separator true) s
 
 -- no field more
 pub numbers-end : (s : List ℕ) (a : ℕ) (ns : List ℕ) → length s ≤ a → numbersWith ns (fields (drop a s)) ≡ gathered ns
-unfolding numbersWith firstFault values
+unfolding numbersWith firstFault fieldValues
 numbers-end s a ns h = rw (fields-past s a h, append-nil ns)

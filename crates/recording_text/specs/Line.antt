@@ -7,7 +7,7 @@ use lib.Dec.{eqb, ltb}
 use lib.ListN.{length, take, getD}
 use Rattle.recording_text.specs.declared.line.Said.{Said}
 use Rattle.recording_text.specs.Pieces.{fields}
-use Rattle.recording_text.specs.Numeral.{firstFault, values, setOf}
+use Rattle.recording_text.specs.Numeral.{firstFault, fieldValues, setOf}
 
 -- what a line says: why it cannot be read, 0 where it can; its letter, 0 for none; and the numbers for the writer
 pub record Says : Type 0 where
@@ -36,8 +36,8 @@ unfoldable pub sort : ℕ → ℕ
 sort b = cond (eqb b 84) 1 (cond (eqb b 76) 2 (cond (isEvent b) 3 0))
 
 -- how many numbers are to follow: L 3, F 2, T, S and R 1
-abbrev pub wanted : ℕ → ℕ
-wanted b = cond (eqb b 76) 3 (cond (eqb b 70) 2 1)
+abbrev pub fieldsWanted : ℕ → ℕ
+fieldsWanted b = cond (eqb b 76) 3 (cond (eqb b 70) 2 1)
 
 -- the kind that the writer takes in front of them: S 2, R 3, F 4
 abbrev pub kind : ℕ → List ℕ
@@ -45,7 +45,7 @@ kind b = cond (eqb b 83) (2 ∷ []) (cond (eqb b 82) (3 ∷ []) (cond (eqb b 70)
 
 -- too few numbers, 4, too many, 5, or the record
 abbrev pub countedOut : ℕ → List ℕ → Says
-countedOut b ns = cond (ltb (length ns) (wanted b)) (faulty 4) (cond (ltb (wanted b) (length ns)) (faulty 5) (saying b (kind b ++ ns)))
+countedOut b ns = cond (ltb (length ns) (fieldsWanted b)) (faulty 4) (cond (ltb (fieldsWanted b) (length ns)) (faulty 5) (saying b (kind b ++ ns)))
 
 -- a letter and the numbers behind it: an arrival of any set, or as many numbers as are wanted
 unfoldable pub recordOf : ℕ → List ℕ → Says
@@ -53,7 +53,7 @@ recordOf b ns = cond (eqb b 65) (saying b (1 ∷ setOf ns ∷ [])) (countedOut b
 
 -- a letter and fields behind it: a field that is no number, from the left, comes before a wrong number of them
 abbrev pub lettered : ℕ → List (List ℕ) → Says
-lettered b fs = cond (eqb (firstFault fs) 0) (recordOf b (values fs)) (faulty (firstFault fs))
+lettered b fs = cond (eqb (firstFault fs) 0) (recordOf b (fieldValues fs)) (faulty (firstFault fs))
 
 -- the fields of a line: none, or a first one that begins with `#`, say nothing; the first one is a letter, else 1
 unfoldable pub fieldsSay : List (List ℕ) → Says

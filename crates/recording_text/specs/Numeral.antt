@@ -41,8 +41,8 @@ firstFault [] = 0
 firstFault (f ∷ fs) = cond (eqb (numberFault f) 0) (firstFault fs) (numberFault f)
 
 -- the numbers of fields
-unfoldable pub values : List (List ℕ) → List ℕ
-values fs = map value fs
+unfoldable pub fieldValues : List (List ℕ) → List ℕ
+fieldValues fs = map value fs
 
 -- a set and the tasks of these numbers: bit t is task t; no table has a task 31, which stands for all above
 unfoldable pub setWith : ℕ → List ℕ → ℕ
@@ -63,4 +63,4 @@ noNumbers fault = record { fault = fault; count = 0; first = 0; second = 0; thir
 
 -- numbers and those of fields behind them, or the first fault
 unfoldable pub numbersWith : List ℕ → List (List ℕ) → Numbers
-numbersWith ns fs = cond (eqb (firstFault fs) 0) (gathered (ns ++ values fs)) (noNumbers (firstFault fs))
+numbersWith ns fs = cond (eqb (firstFault fs) 0) (gathered (ns ++ fieldValues fs)) (noNumbers (firstFault fs))

@@ -55,7 +55,7 @@ not-eighteen ds lw ew =
 
 -- a recording that is handed over as what it says is refused nothing
 genuine-weighs :
-    {s out ds : List ℕ} {ls : List Link} {es : List (Event ℕ)} → core.Genuine ltb baseLimits s out ds ls es →
+    {s out ds : List ℕ} {ls : List Link} {es : List (Event ℕ)} → core.CoreGenuine ltb baseLimits s out ds ls es →
     recordingWeighed ltb baseLimits (stateCore ltb base) ds (handed ls 0) (handed es 0) ≡ verdict 0 (length s) (stateAfter (stateCore ltb base) ds ls es)
 genuine-weighs {s} {out} {ds} {ls} {es} g =
     recorded-whole ltb baseLimits (stateCore ltb base) ds s ls es
@@ -71,7 +71,7 @@ roomOf : List ℕ → List ℕ
 roomOf ew = replicate (reads (past [] (eventsSaid ew .whole))) 0
 
 -- for it a recording that the numbers say is one
-recording-genuine : {ds lw ew s : List ℕ} → RecordingOf ds lw ew s → core.Genuine ltb baseLimits s (roomOf ew) ds (linksSaid lw .whole) (eventsSaid ew .whole)
+recording-genuine : {ds lw ew s : List ℕ} → RecordingOf ds lw ew s → core.CoreGenuine ltb baseLimits s (roomOf ew) ds (linksSaid lw .whole) (eventsSaid ew .whole)
 unfolding roomOf reads
 recording-genuine {ew = ew} r =
     let n = reads (past [] (eventsSaid ew .whole)) in

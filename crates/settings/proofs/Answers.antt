@@ -19,7 +19,7 @@ use Rattle.settings.specs.declared.Setting.the-variants.{Count}
 use Rattle.settings.specs.declared.Slot.{Slot}
 use Rattle.settings.specs.declared.Migration.{Migration}
 use Rattle.settings.specs.Entry.{entries}
-use Rattle.settings.specs.Migration.{countLimit, badFloat, andSetting, listRead, slot, slots, refusedAt, answered, migration}
+use Rattle.settings.specs.Migration.{countLimit, badFloat, andSetting, listRead, slot, slots, refusedAt, migrationAnswer, migration}
 
 -- a map of lists joined
 pub map-join : {A B : Type 0} (f : A → B) (xs ys : List A) → map f (xs ++ ys) ≡ map f xs ++ map f ys
@@ -43,23 +43,23 @@ slots-more xs x h =
 -- w is the reply of the entries
 module _ (s : List ℕ) (p : ℕ) (xs : List Setting) {w : Verdict (List Setting)} where
   -- an entry is refused
-  pub refused-answer : {r : ℕ} → r ≢ 0 → verdict r p xs ≡ w → refusedAt r p ≡ answered (ended s w)
-  refused-answer {r} n e = let a : refusedAt r p ≡ answered (verdict r p xs) = sym (rw (ne-eqb r 0 n)) in a ∙ ap answered (sym (ended-refused s n (sym e)))
+  pub refused-answer : {r : ℕ} → r ≢ 0 → verdict r p xs ≡ w → refusedAt r p ≡ migrationAnswer (ended s w)
+  refused-answer {r} n e = let a : refusedAt r p ≡ migrationAnswer (verdict r p xs) = sym (rw (ne-eqb r 0 n)) in a ∙ ap migrationAnswer (sym (ended-refused s n (sym e)))
 
   -- bytes are left
-  pub extra-answer : p < length s → verdict 0 p xs ≡ w → refusedAt 17 p ≡ answered (ended s w)
-  extra-answer h e = ap answered (sym (ended-extra s h (sym e)))
+  pub extra-answer : p < length s → verdict 0 p xs ≡ w → refusedAt 17 p ≡ migrationAnswer (ended s w)
+  extra-answer h e = ap migrationAnswer (sym (ended-extra s h (sym e)))
 
   -- none are
   pub whole-answer :
       {n : ℕ} {ss : List Slot} → length s ≤ p → n ≡ length xs → ss ≡ slots xs → verdict 0 p xs ≡ w →
-      record { refusal = 0; place = p; number = n; settings = ss } ≡ answered (ended s w)
+      record { refusal = 0; place = p; number = n; settings = ss } ≡ migrationAnswer (ended s w)
   whole-answer h a b e = sym (rw (← e, le-ltb p (length s) h, a, b))
 
 -- the whole answer: after the count the entries and the end
-pub list-counted : (s : List ℕ) {n : ℕ} {a : Migration} → got n 1 ≡ countAt 1 countLimit s 0 → a ≡ answered (ended s (play entries badFloat andSetting n [] s 1)) → a ≡ migration s
+pub list-counted : (s : List ℕ) {n : ℕ} {a : Migration} → got n 1 ≡ countAt 1 countLimit s 0 → a ≡ migrationAnswer (ended s (play entries badFloat andSetting n [] s 1)) → a ≡ migration s
 unfolding listRead
-list-counted s e f = f ∙ ap (λ (w : Verdict (List Setting)). answered (ended s w)) (sym (section-counted entries countLimit badFloat andSetting [] [] s 0 (sym e)))
+list-counted s e f = f ∙ ap (λ (w : Verdict (List Setting)). migrationAnswer (ended s w)) (sym (section-counted entries countLimit badFloat andSetting [] [] s 0 (sym e)))
 
 -- or the count's refusal
 pub list-uncounted : (s : List ℕ) {r : ℕ} → r ≢ 0 → stop r ≡ countAt 1 countLimit s 0 → refusedAt r 0 ≡ migration s

@@ -10,27 +10,27 @@ use borrow.Author.Tests.{eqb-true, ne-eqb, lt-ltb, le-ltb}
 use lib.ListN.{length, drop}
 use Rattle.lists.proofs.Search.{first-below}
 use Rattle.settings.specs.declared.Slot.{Slot}
-use Rattle.settings.specs.Setting.{faultOf}
-use Rattle.settings.specs.Writing.{settingAt, goodAt, firstBad, AllGood, listOf, sizeOf, answer, written, bufferAfter}
+use Rattle.settings.specs.Setting.{floatFault}
+use Rattle.settings.specs.Writing.{settingAt, goodAt, firstBad, AllGood, listOf, listSize, answer, written, backBuffer}
 use Rattle.settings.proofs.Counting.{count-fine}
 
 -- where the first bad one lies past them, the first n settings are good
 pub all-good : (ss : List Slot) (n : ℕ) {b : ℕ} → b ≡ firstBad ss n → n ≤ b → AllGood ss n
 all-good ss n e h i l = go (goodAt ss i) refl
   where
-    go : (t : Bool) → goodAt ss i ≡ t → faultOf (settingAt ss i) ≡ 0
+    go : (t : Bool) → goodAt ss i ≡ t → floatFault (settingAt ss i) ≡ 0
     go true t = eqb-true _ 0 t
     go false t = absurd (omega (arith, first-below (goodAt ss) n 0 i (omega arith) t))
 
 module _ (ss : List Slot) (n : ℕ) (old : List ℕ) where
   -- a refusal leaves the buffer as it was, and what holds on acceptance need not hold
-  pub left-alone : {X : Type 0} {r p : ℕ} → r ≢ 0 → answer r p ≡ written ss n (length old) → (answer r p ≡ written ss n (length old)) × ((old ≡ bufferAfter ss n old) × (r ≡ 0 → X))
-  unfolding bufferAfter
+  pub left-alone : {X : Type 0} {r p : ℕ} → r ≢ 0 → answer r p ≡ written ss n (length old) → (answer r p ≡ written ss n (length old)) × ((old ≡ backBuffer ss n old) × (r ≡ 0 → X))
+  unfolding backBuffer
   left-alone {r = r} z e = (e, (sym (rw (← e, ne-eqb r 0 z)), λ y. absurd (z y)))
 
   -- an acceptance puts the list there
-  pub list-there : {p : ℕ} {new : List ℕ} → answer 0 p ≡ written ss n (length old) → new ≡ listOf ss n ++ drop (sizeOf n) old → (answer 0 p ≡ written ss n (length old)) × (new ≡ bufferAfter ss n old)
-  unfolding bufferAfter
+  pub list-there : {p : ℕ} {new : List ℕ} → answer 0 p ≡ written ss n (length old) → new ≡ listOf ss n ++ drop (listSize n) old → (answer 0 p ≡ written ss n (length old)) × (new ≡ backBuffer ss n old)
+  unfolding backBuffer
   list-there e b = (e, b ∙ sym (rw (← e)))
 
   -- no settings
@@ -51,11 +51,11 @@ module _ (ss : List Slot) (n : ℕ) (old : List ℕ) where
 
     module _ (g : n ≤ b) where
       -- a short buffer
-      pub short-buffer : length old < sizeOf n → answer 18 (sizeOf n) ≡ written ss n (length old)
+      pub short-buffer : length old < listSize n → answer 18 (listSize n) ≡ written ss n (length old)
       unfolding written
-      short-buffer l = sym (rw (count-fine n z h, ← e, le-ltb b n g, lt-ltb (length old) (sizeOf n) l))
+      short-buffer l = sym (rw (count-fine n z h, ← e, le-ltb b n g, lt-ltb (length old) (listSize n) l))
 
       -- room enough
-      pub room-enough : sizeOf n ≤ length old → answer 0 (sizeOf n) ≡ written ss n (length old)
+      pub room-enough : listSize n ≤ length old → answer 0 (listSize n) ≡ written ss n (length old)
       unfolding written
-      room-enough l = sym (rw (count-fine n z h, ← e, le-ltb b n g, le-ltb (length old) (sizeOf n) l))
+      room-enough l = sym (rw (count-fine n z h, ← e, le-ltb b n g, le-ltb (length old) (listSize n) l))

@@ -20,10 +20,10 @@ use Rattle.lent_bytes.proofs.Puts.{put-whole, put-behind}
 use Rattle.settings.specs.declared.Setting.{Setting}
 use Rattle.settings.specs.declared.Setting.the-variants.{Count}
 use Rattle.settings.specs.declared.Slot.{Slot}
-use Rattle.settings.specs.Setting.{faultOf, Held}
+use Rattle.settings.specs.Setting.{floatFault, Held}
 use Rattle.settings.specs.Entry.{encodeEntry, entries, entryOf}
 use Rattle.settings.specs.Migration.{slot}
-use Rattle.settings.specs.Writing.{settingAt, goodAt, entriesOf, listOf, sizeOf}
+use Rattle.settings.specs.Writing.{settingAt, goodAt, entriesOf, listOf, listSize}
 use Rattle.settings.proofs.Records.{length-entry}
 use Rattle.settings.proofs.Answers.{map-join}
 
@@ -38,8 +38,8 @@ pub slot-there : (ss : List Slot) (i : ℕ) (d : Slot) → length ss ≡ 64 → 
 slot-there ss i d l h = ap (λ (s : Slot). s .setting) (within ss i d (slot (Count 0)) (omega arith))
 
 -- and whether it is good
-pub good-there : (ss : List Slot) (i : ℕ) (d : Slot) {b : Bool} → length ss ≡ 64 → i < 64 → b ≡ eqb (faultOf (getD ss i d .setting)) 0 → b ≡ goodAt ss i
-good-there ss i d l h e = e ∙ ap (λ (x : Setting). eqb (faultOf x) 0) (slot-there ss i d l h)
+pub good-there : (ss : List Slot) (i : ℕ) (d : Slot) {b : Bool} → length ss ≡ 64 → i < 64 → b ≡ eqb (floatFault (getD ss i d .setting)) 0 → b ≡ goodAt ss i
+good-there ss i d l h e = e ∙ ap (λ (x : Setting). eqb (floatFault x) 0) (slot-there ss i d l h)
 
 -- and that the machine holds it
 pub held-there : (ss : List Slot) (i : ℕ) (d : Slot) → length ss ≡ 64 → i < 64 → Held (getD ss i d .setting) → Held (settingAt ss i)
@@ -91,7 +91,7 @@ module _ (ss : List Slot) (l : length ss ≡ 64) where
   unfolding begun listOf
   list-begun n h = rw (length-entries n h)
 
-  pub length-list : (n : ℕ) → n ≤ 64 → length (listOf ss n) ≡ sizeOf n
+  pub length-list : (n : ℕ) → n ≤ 64 → length (listOf ss n) ≡ listSize n
   length-list n h = rw (← list-begun n h) (length-begun n n h)
 
   -- the count is put first

@@ -41,14 +41,14 @@ abbrev pub entries : Format Entry
 entries = record { width = 1; encode = encodeEntry; Fits = λ e. Wide 8 (e .bits); read = recordAt codes }
 
 -- the setting that a code and 8 bytes say: "both binary64", "a count in 64 bits"
-abbrev pub made : Code → ℕ → Setting
-made code.Margin n = Margin (ofBits binary64 n)
-made code.Feed n = Feed (ofBits binary64 n)
-made code.Count n = Count n
+abbrev pub settingMade : Code → ℕ → Setting
+settingMade code.Margin n = Margin (ofBits binary64 n)
+settingMade code.Feed n = Feed (ofBits binary64 n)
+settingMade code.Count n = Count n
 
 -- the setting of an entry
 abbrev pub settingOf : Entry → Setting
-settingOf e = made (e .kind) (e .bits)
+settingOf e = settingMade (e .kind) (e .bits)
 
 -- and the entry of a setting
 abbrev pub entryOf : Setting → Entry

@@ -14,8 +14,8 @@ use Rattle.settings.specs.declared.entry.Next.{Next}
 use Rattle.settings.specs.declared.entry.Next.the-variants as next
 use Rattle.settings.specs.declared.list.Counted.{Counted}
 use Rattle.settings.specs.declared.list.Counted.the-variants as counted
-use Rattle.settings.specs.Setting.{faultOf}
-use Rattle.settings.specs.Entry.{codes, made}
+use Rattle.settings.specs.Setting.{floatFault}
+use Rattle.settings.specs.Entry.{codes, settingMade}
 
 -- the document's number for what stands where a code is due: why there is none, 0 where there is one
 abbrev pub reasonOf : Found → ℕ
@@ -24,10 +24,10 @@ reasonOf found.Unknown = 11
 reasonOf found.Missing = 1
 
 -- a code and the place after it, or the refusal
-abbrev pub foundOf : Found → ℕ → Got Code
-foundOf (found.Known k) q = got k q
-foundOf found.Unknown q = stop (reasonOf found.Unknown)
-foundOf found.Missing q = stop (reasonOf found.Missing)
+abbrev pub codeFound : Found → ℕ → Got Code
+codeFound (found.Known k) q = got k q
+codeFound found.Unknown q = stop (reasonOf found.Unknown)
+codeFound found.Missing q = stop (reasonOf found.Missing)
 
 -- a setting and the place after its entry, or the refusal
 abbrev pub nextOf : Next → ℕ → Got Setting
@@ -36,7 +36,7 @@ nextOf (next.Refused r) q = stop r
 
 -- the setting of a code and 8 bytes that end at q, judged
 unfoldable pub settingJudged : Code → ℕ → ℕ → Got Setting
-settingJudged k n q = cond (eqb (faultOf (made k n)) 0) (got (made k n) q) (stop (faultOf (made k n)))
+settingJudged k n q = cond (eqb (floatFault (settingMade k n)) 0) (got (settingMade k n) q) (stop (floatFault (settingMade k n)))
 
 -- the setting of the entry at a place, read and judged
 unfoldable pub settingTaken : List ℕ → ℕ → Got Setting

@@ -12,7 +12,7 @@ use Rattle.settings.specs.declared.Setting.{Setting}
 use Rattle.settings.specs.declared.Setting.the-variants.{Count}
 use Rattle.settings.specs.declared.Slot.{Slot}
 use Rattle.settings.specs.declared.Migration.{Migration}
-use Rattle.settings.specs.Setting.{faultOf}
+use Rattle.settings.specs.Setting.{floatFault}
 use Rattle.settings.specs.Entry.{Entry, entries, settingOf}
 
 -- "a count byte, 1 to 64", else "2 count"; 0 is none
@@ -21,7 +21,7 @@ countLimit n = cond (eqb n 0 || ltb 64 n) 2 0
 
 -- an entry is judged by its setting: "26 bad float"
 abbrev pub badFloat : List Setting → Entry → ℕ
-badFloat xs e = faultOf (settingOf e)
+badFloat xs e = floatFault (settingOf e)
 
 -- the settings read so far, and one more
 abbrev pub andSetting : List Setting → Entry → List Setting
@@ -44,12 +44,12 @@ abbrev pub refusedAt : ℕ → ℕ → Migration
 refusedAt r p = record { refusal = r; place = p; number = 0; settings = slots [] }
 
 -- "The answer holds the settings and how many there are"
-abbrev pub answered : Verdict (List Setting) → Migration
-answered r =
+abbrev pub migrationAnswer : Verdict (List Setting) → Migration
+migrationAnswer r =
     cond (eqb (r .refusal) 0)
     (record { refusal = 0; place = r .place; number = length (r .state); settings = slots (r .state) })
     (refusedAt (r .refusal) (r .place))
 
 -- the answer to any bytes
 abbrev pub migration : List ℕ → Migration
-migration s = answered (listRead s)
+migration s = migrationAnswer (listRead s)

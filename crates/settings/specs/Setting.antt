@@ -15,10 +15,10 @@ aboveZero (inf s) = false
 aboveZero (fin s m e) = not s && ltb 0 m
 
 -- "Margin and feed must be finite and above zero", else "26 bad float"; 0 is none
-abbrev pub faultOf : Setting → ℕ
-faultOf (Margin x) = cond (aboveZero x) 0 26
-faultOf (Feed x) = cond (aboveZero x) 0 26
-faultOf (Count n) = 0
+abbrev pub floatFault : Setting → ℕ
+floatFault (Margin x) = cond (aboveZero x) 0 26
+floatFault (Feed x) = cond (aboveZero x) 0 26
+floatFault (Count n) = 0
 
 -- a setting as the machine holds it: a float is a value of binary64, a count one of 64 bits
 abbrev pub Held : Setting → Type 0

@@ -12,7 +12,7 @@ use Rattle.settings.specs.declared.Setting.{Setting}
 use Rattle.settings.specs.declared.Setting.the-variants.{Count}
 use Rattle.settings.specs.declared.Slot.{Slot}
 use Rattle.settings.specs.declared.Written.{Written}
-use Rattle.settings.specs.Setting.{faultOf, Held}
+use Rattle.settings.specs.Setting.{floatFault, Held}
 use Rattle.settings.specs.Entry.{Entry, entries, entryOf}
 use Rattle.settings.specs.Migration.{countLimit, slot}
 
@@ -22,7 +22,7 @@ settingAt ss i = getD ss i (slot (Count 0)) .setting
 
 -- whether it may stand in a list
 abbrev pub goodAt : List Slot → ℕ → Bool
-goodAt ss i = eqb (faultOf (settingAt ss i)) 0
+goodAt ss i = eqb (floatFault (settingAt ss i)) 0
 
 -- the first of n settings that is a bad float, and n where none is
 abbrev pub firstBad : List Slot → ℕ → ℕ
@@ -30,7 +30,7 @@ firstBad ss n = first (goodAt ss) n 0
 
 -- none of the first n is
 abbrev pub AllGood : List Slot → ℕ → Type 0
-AllGood ss n = (i : ℕ) → i < n → faultOf (settingAt ss i) ≡ 0
+AllGood ss n = (i : ℕ) → i < n → floatFault (settingAt ss i) ≡ 0
 
 -- 64 slots, the first n settings as the machine holds them
 pub record HeldSlots (ss : List Slot) (n : ℕ) : Type 0 where
@@ -46,8 +46,8 @@ unfoldable pub listOf : List Slot → ℕ → List ℕ
 listOf ss n = encodeSection entries (entriesOf ss n)
 
 -- how long a list of n settings is
-abbrev pub sizeOf : ℕ → ℕ
-sizeOf n = 1 + 9 * n
+abbrev pub listSize : ℕ → ℕ
+listSize n = 1 + 9 * n
 
 -- an answer with these two
 abbrev pub answer : ℕ → ℕ → Written
@@ -57,9 +57,9 @@ answer r p = record { refusal = r; place = p }
 unfoldable pub written : List Slot → ℕ → ℕ → Written
 written ss n room =
     cond (eqb (countLimit n) 0)
-    (cond (ltb (firstBad ss n) n) (answer 26 (sizeOf (firstBad ss n))) (cond (ltb room (sizeOf n)) (answer 18 (sizeOf n)) (answer 0 (sizeOf n))))
+    (cond (ltb (firstBad ss n) n) (answer 26 (listSize (firstBad ss n))) (cond (ltb room (listSize n)) (answer 18 (listSize n)) (answer 0 (listSize n))))
     (answer 2 0)
 
 -- a refusal leaves the buffer as it was; else the list stands at its start, and no byte after that changes
-unfoldable pub bufferAfter : List Slot → ℕ → List ℕ → List ℕ
-bufferAfter ss n old = cond (eqb (written ss n (length old) .refusal) 0) (listOf ss n ++ drop (sizeOf n) old) old
+unfoldable pub backBuffer : List Slot → ℕ → List ℕ → List ℕ
+backBuffer ss n old = cond (eqb (written ss n (length old) .refusal) 0) (listOf ss n ++ drop (listSize n) old) old

@@ -3,7 +3,7 @@ ghost use mathlib.Core.Path.{_≡_};
 ghost use Prim.Native.Nat.{ℕ, _+_};
 ghost use Rattle.byte_format.specs.Kinded.{firstByte};
 ghost use Rattle.settings.specs.Entry as entry;
-ghost use Rattle.settings.specs.Found.{foundOf, reasonOf};
+ghost use Rattle.settings.specs.Found.{codeFound, reasonOf};
 
 // What a code byte says.
 pub enum Code {
@@ -21,7 +21,7 @@ pub enum Found {
 
 // What a byte says as a code: one of the three, or that it is unknown.
 fn code_of(b: u8) -> Found
-    ensures { λ r. ⌜ ((q : ℕ) → foundOf r q ≡ entry.codeOf b q) ⌝ }
+    ensures { λ r. ⌜ ((q : ℕ) → codeFound r q ≡ entry.codeOf b q) ⌝ }
 {
     match b {
         1 => Found::Known(Code::Margin),
@@ -33,7 +33,7 @@ fn code_of(b: u8) -> Found
 
 // What stands at a place as a code byte.
 pub fn code_at(s: &[u8], at: usize) -> Found
-    ensures { λ r. ⌜ foundOf r (at + 1) ≡ firstByte entry.codeOf (now (s .entry)) at ⌝ }
+    ensures { λ r. ⌜ codeFound r (at + 1) ≡ firstByte entry.codeOf (now (s .entry)) at ⌝ }
 {
     if at < s.len() {
         code_of(s[at])

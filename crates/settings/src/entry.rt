@@ -4,8 +4,8 @@ ghost use mathlib.Core.Bool.{cond};
 ghost use Prim.Native.Nat.{ℕ, _+_};
 ghost use lib.Dec.{eqb};
 ghost use Rattle.byte_format.specs.Format.{stop};
-ghost use Rattle.settings.specs.Setting.{faultOf};
-ghost use Rattle.settings.specs.Entry.{made};
+ghost use Rattle.settings.specs.Setting.{floatFault};
+ghost use Rattle.settings.specs.Entry.{settingMade};
 ghost use Rattle.settings.specs.Found.{nextOf, settingJudged, settingTaken};
 use crate::Setting;
 use crate::code::Code;
@@ -27,7 +27,7 @@ pub enum Next {
 
 // Whether a code and eight bytes may be a setting: a margin and a feed rate only where the bytes are those of a finite number above zero.
 fn is_good(code: Code, bits: u64) -> bool
-    ensures { λ r. ⌜ r ≡ eqb (faultOf (made code bits)) 0 ⌝ }
+    ensures { λ r. ⌜ r ≡ eqb (floatFault (settingMade code bits)) 0 ⌝ }
 {
     match code {
         Code::Margin => bits_above_zero(bits),
@@ -38,8 +38,8 @@ fn is_good(code: Code, bits: u64) -> bool
 
 // The setting of a code and eight bytes that may be one. The bits of a bad float are never made a float.
 fn make(code: Code, bits: u64) -> Setting
-    requires { ⌜ faultOf (made code bits) ≡ 0 ⌝ }
-    ensures { λ r. ⌜ r ≡ made code bits ⌝ }
+    requires { ⌜ floatFault (settingMade code bits) ≡ 0 ⌝ }
+    ensures { λ r. ⌜ r ≡ settingMade code bits ⌝ }
 {
     match code {
         Code::Margin => Setting::Margin(f64::from_bits(bits)),

@@ -5,7 +5,7 @@ ghost use mathlib.Core.Path.{_≡_};
 ghost use lib.ListN.{length};
 ghost use Rattle.byte_format.specs.Number.{Bytes};
 ghost use Rattle.settings.specs.Migration.{migration};
-ghost use Rattle.settings.specs.Writing.{HeldSlots, written, bufferAfter};
+ghost use Rattle.settings.specs.Writing.{HeldSlots, written, backBuffer};
 
 mod code;
 mod entry;
@@ -56,7 +56,7 @@ pub fn migrate(bytes: &[u8]) -> Migration
 // Writes so many settings back into a lent buffer, as an old station's list.
 pub fn write_back(settings: [Slot; SETTINGS], number: usize, out: &mut [u8]) -> Written
     ensures answer { λ r. ⌜ r ≡ written settings number (length (now (out .entry))) ⌝ }
-    ensures buffer { λ r. ⌜ now (out .exit) ≡ bufferAfter settings number (now (out .entry)) ⌝ }
+    ensures buffer { λ r. ⌜ now (out .exit) ≡ backBuffer settings number (now (out .entry)) ⌝ }
     ensures held { λ r. ⌜ (r .refusal ≡ 0 → HeldSlots settings number) ⌝ }
 {
     write::write_list(settings, number, out)

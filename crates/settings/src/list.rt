@@ -7,7 +7,7 @@ ghost use Rattle.byte_format.specs.End.{ended};
 ghost use Rattle.byte_format.specs.Section.{countAt};
 ghost use Rattle.settings.specs.Entry.{entries};
 ghost use Rattle.settings.specs.Found.{countedOf};
-ghost use Rattle.settings.specs.Migration.{countLimit, badFloat, andSetting, slots, refusedAt, answered, migration};
+ghost use Rattle.settings.specs.Migration.{countLimit, badFloat, andSetting, slots, refusedAt, migrationAnswer, migration};
 use crate::Migration;
 use crate::SETTINGS;
 use crate::Setting;
@@ -64,7 +64,7 @@ fn refused(refusal: u8, place: usize) -> Migration
 // So many entries after the count, and the end of the bytes.
 fn read_entries(s: &[u8], n: usize) -> Migration
     requires { ⌜ n ≤ 64 ⌝ }
-    ensures { λ r. ⌜ r ≡ answered (ended (now (s .entry)) (play entries badFloat andSetting n [] (now (s .entry)) 1)) ⌝ }
+    ensures { λ r. ⌜ r ≡ migrationAnswer (ended (now (s .entry)) (play entries badFloat andSetting n [] (now (s .entry)) 1)) ⌝ }
 {
     let mut settings = no_settings();
     let mut at = 1;

@@ -7,9 +7,9 @@ ghost use lib.Dec.{eqb};
 ghost use lib.ListN.{length, drop};
 ghost use Rattle.byte_format.specs.Number.{bytesOf, Wide};
 ghost use Rattle.lent_bytes.specs.Put.{putAt};
-ghost use Rattle.settings.specs.Setting.{faultOf, Held};
+ghost use Rattle.settings.specs.Setting.{floatFault, Held};
 ghost use Rattle.settings.specs.Entry.{entryOf, encodeEntry};
-ghost use Rattle.settings.specs.Writing.{firstBad, AllGood, HeldSlots, listOf, written, bufferAfter};
+ghost use Rattle.settings.specs.Writing.{firstBad, AllGood, HeldSlots, listOf, written, backBuffer};
 use crate::SETTINGS;
 use crate::Setting;
 use crate::Slot;
@@ -28,7 +28,7 @@ fn any_count(n: u64) -> bool
 
 // Whether a setting may stand in a list: a margin and a feed rate only where they are finite and above zero.
 fn is_good(setting: Setting) -> bool
-    ensures answer { λ r. ⌜ r ≡ eqb (faultOf setting) 0 ⌝ }
+    ensures answer { λ r. ⌜ r ≡ eqb (floatFault setting) 0 ⌝ }
     ensures held { λ r. ⌜ Held setting ⌝ }
 {
     match setting {
@@ -67,7 +67,7 @@ fn put_coded(code: u8, bits: u64, out: &mut [u8], at: usize)
 
 // Puts the entry of a setting that may stand in a list.
 fn put_entry(setting: Setting, out: &mut [u8], at: usize)
-    requires { ⌜ (at + 9 ≤ length (now out)) × (faultOf setting ≡ 0) ⌝ }
+    requires { ⌜ (at + 9 ≤ length (now out)) × (floatFault setting ≡ 0) ⌝ }
     ensures { λ _. ⌜ now (out .exit) ≡ putAt (now (out .entry)) at (encodeEntry (entryOf setting)) ⌝ }
 {
     match setting {
@@ -97,7 +97,7 @@ fn put_list(settings: [Slot; SETTINGS], n: usize, out: &mut [u8])
 // Writes so many settings: 2 for a wrong number, then 26 for a bad float, then 18 for a short buffer.
 pub fn write_list(settings: [Slot; SETTINGS], number: usize, out: &mut [u8]) -> Written
     ensures answer { λ r. ⌜ r ≡ written settings number (length (now (out .entry))) ⌝ }
-    ensures buffer { λ r. ⌜ now (out .exit) ≡ bufferAfter settings number (now (out .entry)) ⌝ }
+    ensures buffer { λ r. ⌜ now (out .exit) ≡ backBuffer settings number (now (out .entry)) ⌝ }
     ensures held { λ r. ⌜ (r .refusal ≡ 0 → HeldSlots settings number) ⌝ }
 {
     if number == 0 {

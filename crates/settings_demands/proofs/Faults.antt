@@ -15,8 +15,8 @@ use Rattle.byte_format.specs.Kinded.{recordAt}
 use Rattle.byte_format.specs.Play.{finally, refusalOf}
 use Rattle.byte_format.specs.Section.{countAt}
 use Rattle.byte_format.proofs.Kinded.{Case, missing, strange, short, whole, which, kind-missing, kind-unknown, rest-missing, record-whole}
-use Rattle.settings.specs.Setting.{faultOf}
-use Rattle.settings.specs.Entry.{Entry, byteOf, codes, made}
+use Rattle.settings.specs.Setting.{floatFault}
+use Rattle.settings.specs.Entry.{Entry, byteOf, codes, settingMade}
 use Rattle.settings.specs.Migration.{countLimit, badFloat, andSetting, refusedAt}
 use Rattle.settings.proofs.Counting.{no-count, count-none, count-many, count-right}
 use Rattle.settings.proofs.Records.{codes-told, code-unknown}
@@ -76,8 +76,8 @@ module _ {s : List ℕ} where
       go (strange h n v) = given (number v refl) (unknownCode begun (f .more) h (λ say c. let k = coded c in n (k .kind) (k .byte)))
       go (short k h e l v) = given (number v refl) (cutEntry begun (f .more) h (code-known k e) l)
       go (whole k e h v) =
-          let x = made k (numberAt 8 s (p + 1)) in
-          let u : faultOf x ≡ r = number v refl in
+          let x = settingMade k (numberAt 8 s (p + 1)) in
+          let u : floatFault x ≡ r = number v refl in
           let b = fault-bad x (λ y. z (sym u ∙ y)) in
           given (sym (b .0) ∙ u) (aBadFloat begun (f .more) (code-known k e) (omega arith) (b .1))
 
@@ -89,14 +89,14 @@ module _ {s : List ℕ} where
   fault-found (noCode {p = p} {es = es} b more h) =
       found.badEntry es 1 p (λ y. omega arith) (begun-fault b more (sym (rw (kind-missing codes byteOf codes-told s p (omega arith))))) refl
   fault-found (unknownCode {p = p} {es = es} b more h n) =
-      let u = code-unknown (getD s p 0) (λ k e. n (λ i. made k i) (code-known k e)) in
+      let u = code-unknown (getD s p 0) (λ k e. n (λ i. settingMade k i) (code-known k e)) in
       found.badEntry es 11 p (λ y. omega arith) (begun-fault b more (sym (rw (kind-unknown codes byteOf codes-told s p h u)))) refl
   fault-found (cutEntry {p = p} {es = es} b more h c l) =
       let k = coded c in
       found.badEntry es 1 p (λ y. omega arith) (begun-fault b more (sym (rw (rest-missing codes byteOf codes-told s p (k .kind) h (k .byte) l)))) refl
   fault-found (aBadFloat {p = p} {es = es} b more c h n) =
       let k = coded c in
-      let x = made (k .kind) (numberAt 8 s (p + 1)) in
-      let e : faultOf x ≡ 26 = bad-fault x (rw (k .says (numberAt 8 s (p + 1))) at n) in
+      let x = settingMade (k .kind) (numberAt 8 s (p + 1)) in
+      let e : floatFault x ≡ 26 = bad-fault x (rw (k .says (numberAt 8 s (p + 1))) at n) in
       found.badEntry es 26 p (λ y. omega arith) (begun-fault b more (sym (rw (record-whole codes byteOf codes-told s p (k .kind) (k .byte) h) e))) refl
   fault-found (extraBytes {p = p} {es = es} b h) = found.extraBytes es p (begun-whole b) h refl

@@ -18,7 +18,7 @@ use Rattle.byte_format.proofs.Sections.{Answered, countRefused, recordRefused, 
 use Rattle.settings.specs.declared.Setting.{Setting}
 use Rattle.settings.specs.declared.Migration.{Migration}
 use Rattle.settings.specs.Entry.{Entry, entries, settingOf}
-use Rattle.settings.specs.Migration.{countLimit, badFloat, andSetting, listRead, answered, migration, refusedAt}
+use Rattle.settings.specs.Migration.{countLimit, badFloat, andSetting, listRead, migrationAnswer, migration, refusedAt}
 use Rattle.settings.proofs.Records.{entries-lawful}
 use Rattle.settings.proofs.Answers.{refused-answer, extra-answer, whole-answer}
 use Rattle.settings_demands.specs.OldList.{holding}
@@ -56,7 +56,7 @@ module _ (s : List ℕ) where
   read : Verdict (List Setting)
   read = section entries countLimit badFloat andSetting [] [] s 0
 
-  answer-is : migration s ≡ answered (ended s read)
+  answer-is : migration s ≡ migrationAnswer (ended s read)
   unfolding listRead read
   answer-is = refl
 

@@ -16,7 +16,7 @@ use Rattle.settings.specs.declared.Setting.{Setting}
 use Rattle.settings.specs.declared.Setting.the-variants.{Count}
 use Rattle.settings.specs.declared.code.Code.the-variants as code
 use Rattle.settings.specs.declared.Migration.{Migration}
-use Rattle.settings.specs.Entry.{Entry, byteOf, encodeEntry, entries, made, settingOf, entryOf}
+use Rattle.settings.specs.Entry.{Entry, byteOf, encodeEntry, entries, settingMade, settingOf, entryOf}
 use Rattle.settings.specs.Writing.{settingAt}
 use Rattle.settings.proofs.Records.{length-entry}
 use Rattle.settings_demands.specs.Ensured.{Migrates}
@@ -66,7 +66,7 @@ module _ {s : List ℕ} {i : ℕ} {x : Setting} (its : Its s i x) where
   from-entry : FromEntry s i x
   from-entry = record {
     entry = rw kept (its .stands);
-    say = λ n. made (its .entry .kind) n;
+    say = λ n. settingMade (its .entry .kind) n;
     code = code-known (its .entry .kind) (byte-stands (stands-first (byteOf (its .entry .kind) ∷ []) (bytesOf 8 (its .entry .bits)) (its .stands)));
     value = its .setting ∙ sym (rw its-number);
   }

@@ -12,7 +12,7 @@ use Rattle.settings.specs.declared.Migration.{Migration}
 use Rattle.settings.specs.declared.Written.{Written}
 use Rattle.settings.specs.Entry.{Entry, entries, settingOf}
 use Rattle.settings.specs.Migration.{slots}
-use Rattle.settings.specs.Writing.{listOf, sizeOf, answer}
+use Rattle.settings.specs.Writing.{listOf, listSize, answer}
 use Rattle.settings.proofs.Writing.{length-list}
 use Rattle.settings_demands.specs.Ensured.{Migrates, WritesBack}
 use Rattle.settings_demands.specs.OldList.{OldList}
@@ -39,7 +39,7 @@ module _ {s : List ℕ} (es : List Entry) (o : OldList s es) where
   unfolding listOf
   same-list = ap (encodeSection entries) (entries-of-slots es (o .fits) (o .good)) ∙ sym (o .bytes)
 
-  same-size : sizeOf (length es) ≡ length s
+  same-size : listSize (length es) ≡ length s
   same-size =
       let xs = map settingOf es in
       sym (length-list (slots xs) (slots-many xs (omega (arith, o .few .1, length-map es settingOf))) (length es) (o .few .1)) ∙ ap length same-list
@@ -55,7 +55,7 @@ old-list-again {s} {old} {new} {m} {w} said z back room =
     let back′ : WritesBack (slots (map settingOf es)) (length es) old w new =
     subst (λ (y : Migration). WritesBack (y .settings) (y .number) old w new) (holds said o) back in
     let size = same-size es o in
-    let a : w ≡ answer 0 (sizeOf (length es)) = writing back′ 0 (sizeOf (length es)) .1 (roomEnough (may-stand es o) (omega arith)) in
+    let a : w ≡ answer 0 (listSize (length es)) = writing back′ 0 (listSize (length es)) .1 (roomEnough (may-stand es o) (omega arith)) in
     (a ∙ ap (answer 0) size, wrote back′ (ap (λ (y : Written). y .refusal) a) .buffer ∙ rw (same-list es o, size))
 
 -- "what is written back is migrated to the same settings"

@@ -10,7 +10,7 @@ use Rattle.settings.specs.declared.Setting.the-variants.{Margin, Feed, Count}
 use Rattle.settings.specs.declared.code.Code.{Code}
 use Rattle.settings.specs.declared.code.Code.the-variants as code
 use Rattle.settings.specs.Setting.{Held}
-use Rattle.settings.specs.Entry.{Entry, made, settingOf, entryOf}
+use Rattle.settings.specs.Entry.{Entry, settingMade, settingOf, entryOf}
 use Rattle.settings.proofs.Floats.{bits-kept}
 use Rattle.settings_demands.specs.Values.{Good, goodMargin, goodFeed}
 use Rattle.settings_demands.proofs.Values.{above-zero}
@@ -22,7 +22,7 @@ entry-kept e w g = go (e .kind) (e .bits) w g
     entry : Code → ℕ → Entry
     entry k n = record { kind = k; bits = n }
 
-    go : (k : Code) (n : ℕ) → Wide 8 n → Good (made k n) → entryOf (made k n) ≡ entry k n
+    go : (k : Code) (n : ℕ) → Wide 8 n → Good (settingMade k n) → entryOf (settingMade k n) ≡ entry k n
     go code.Margin n w (goodMargin f) = ap (entry code.Margin) (bits-kept n w (above-zero f))
     go code.Feed n w (goodFeed f) = ap (entry code.Feed) (bits-kept n w (above-zero f))
     go code.Count n w g = refl

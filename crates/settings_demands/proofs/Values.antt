@@ -10,8 +10,8 @@ use Rattle.settings.specs.declared.Setting.{Setting}
 use Rattle.settings.specs.declared.Setting.the-variants.{Margin, Feed, Count}
 use Rattle.settings.specs.declared.code.Code.{Code}
 use Rattle.settings.specs.declared.code.Code.the-variants as code
-use Rattle.settings.specs.Setting.{aboveZero, faultOf}
-use Rattle.settings.specs.Entry.{byteOf, made}
+use Rattle.settings.specs.Setting.{aboveZero, floatFault}
+use Rattle.settings.specs.Entry.{byteOf, settingMade}
 use Rattle.settings.proofs.Floats.{good-float}
 use Rattle.settings_demands.specs.Values.{CodeOf, aMargin, aFeed, aCount, FiniteAboveZero, finite, Good, goodMargin, goodFeed, anyCount}
 
@@ -26,12 +26,12 @@ zero-above (fin true m k) e = absurd (true≢false (sym e))
 zero-above (fin false m k) e = finite (ltb-true 0 m e)
 
 -- a setting is good exactly when it has no fault
-pub good-fine : {x : Setting} → Good x → faultOf x ≡ 0
+pub good-fine : {x : Setting} → Good x → floatFault x ≡ 0
 good-fine (goodMargin f) = rw (above-zero f)
 good-fine (goodFeed f) = rw (above-zero f)
 good-fine anyCount = refl
 
-pub fine-good : (x : Setting) → faultOf x ≡ 0 → Good x
+pub fine-good : (x : Setting) → floatFault x ≡ 0 → Good x
 fine-good (Margin x) e = goodMargin (zero-above x (good-float _ e))
 fine-good (Feed x) e = goodFeed (zero-above x (good-float _ e))
 fine-good (Count n) e = anyCount
@@ -41,32 +41,32 @@ fails-with : (b : Bool) → cond {A = ℕ} b 0 26 ≢ 0 → cond {A = ℕ} b 0 2
 fails-with true n = absurd (n refl)
 fails-with false n = refl
 
-one-fault : (x : Setting) → faultOf x ≢ 0 → faultOf x ≡ 26
+one-fault : (x : Setting) → floatFault x ≢ 0 → floatFault x ≡ 26
 one-fault (Margin x) n = fails-with (aboveZero x) n
 one-fault (Feed x) n = fails-with (aboveZero x) n
 one-fault (Count k) n = absurd (n refl)
 
 -- and a bad float is one
-pub bad-fault : (x : Setting) → (Good x → ⊥) → faultOf x ≡ 26
+pub bad-fault : (x : Setting) → (Good x → ⊥) → floatFault x ≡ 26
 bad-fault x n = one-fault x (λ e. n (fine-good x e))
 
-pub fault-bad : (x : Setting) → faultOf x ≢ 0 → (faultOf x ≡ 26) × (Good x → ⊥)
+pub fault-bad : (x : Setting) → floatFault x ≢ 0 → (floatFault x ≡ 26) × (Good x → ⊥)
 fault-bad x n = (one-fault x n, λ g. n (good-fine g))
 
 -- ---- codes
-code-of : (k : Code) → CodeOf (byteOf k) (λ n. made k n)
+code-of : (k : Code) → CodeOf (byteOf k) (λ n. settingMade k n)
 code-of code.Margin = aMargin
 code-of code.Feed = aFeed
 code-of code.Count = aCount
 
-pub code-known : (k : Code) {b : ℕ} → b ≡ byteOf k → CodeOf b (λ n. made k n)
+pub code-known : (k : Code) {b : ℕ} → b ≡ byteOf k → CodeOf b (λ n. settingMade k n)
 code-known k e = rw e (code-of k)
 
 -- a code that is said is one of the three
 pub record Coded (b : ℕ) (say : ℕ → Setting) : Type 0 where
   pub kind : Code
   pub byte : b ≡ byteOf kind
-  pub says : (n : ℕ) → say n ≡ made kind n
+  pub says : (n : ℕ) → say n ≡ settingMade kind n
 
 pub coded : {b : ℕ} {say : ℕ → Setting} → CodeOf b say → Coded b say
 coded aMargin = record { kind = code.Margin; byte = refl; says = λ n. refl }

@@ -11,7 +11,7 @@ use lib.Dec.{eqb, ltb}
 use lib.ListN.{length, drop}
 use Rattle.settings.specs.declared.Slot.{Slot}
 use Rattle.settings.specs.declared.Written.{Written}
-use Rattle.settings.specs.Writing.{firstBad, listOf, sizeOf, answer, written, bufferAfter}
+use Rattle.settings.specs.Writing.{firstBad, listOf, listSize, answer, written, backBuffer}
 use Rattle.settings.proofs.WriteAnswers.{left-alone, list-there, none-given, many-given, bad-given, short-buffer, room-enough}
 use Rattle.settings_demands.specs.Ensured.{WritesBack}
 use Rattle.settings_demands.specs.WriteFault.{MayStand, WriteFault, wrongNumber, firstBadFloat, shortBuffer, roomEnough}
@@ -35,7 +35,7 @@ module _ (ss : List Slot) (n : ℕ) (old : List ℕ) where
       it : {r p : ℕ} → WriteFault ss n (length old) r p → Fault (written ss n (length old))
       it f = subst (λ (w : Written). Fault w) (fault-written f) f
 
-      room : MayStand ss n → (b : Bool) → ltb (length old) (sizeOf n) ≡ b → Fault (written ss n (length old))
+      room : MayStand ss n → (b : Bool) → ltb (length old) (listSize n) ≡ b → Fault (written ss n (length old))
       room m true t = it (shortBuffer m (ltb-true _ _ t))
       room m false t = it (roomEnough m (ltb-false _ _ t))
 
@@ -43,7 +43,7 @@ module _ (ss : List Slot) (n : ℕ) (old : List ℕ) where
       floats few true t = let l = ltb-true _ _ t in it (firstBadFloat few (firstBad ss n) l (before-good ss n) (found-bad ss n l))
       floats few false t =
           let l = ltb-false (firstBad ss n) n t in
-          room (record { few = few; good = λ i h. before-good ss n i (omega arith) }) (ltb (length old) (sizeOf n)) refl
+          room (record { few = few; good = λ i h. before-good ss n i (omega arith) }) (ltb (length old) (listSize n)) refl
 
       number : (a : Bool) → eqb n 0 ≡ a → (b : Bool) → ltb 64 n ≡ b → Fault (written ss n (length old))
       number true a b t = it (wrongNumber (inl (eqb-true n 0 a)))
@@ -51,16 +51,16 @@ module _ (ss : List Slot) (n : ℕ) (old : List ℕ) where
       number false a false t = floats (omega (arith, eqb-false n 0 a), ltb-false 64 n t) (ltb (firstBad ss n) n) refl
 
   -- settings that may stand in a list, in a buffer with room
-  list-put : MayStand ss n → sizeOf n ≤ length old →
-      (answer 0 (sizeOf n) ≡ written ss n (length old)) × (listOf ss n ++ drop (sizeOf n) old ≡ bufferAfter ss n old)
+  list-put : MayStand ss n → listSize n ≤ length old →
+      (answer 0 (listSize n) ≡ written ss n (length old)) × (listOf ss n ++ drop (listSize n) old ≡ backBuffer ss n old)
   list-put m l = list-there ss n old (fault-written (roomEnough m l)) refl
 
 -- ---- over the contract
 -- what was written
 pub record Wrote (ss : List Slot) (n : ℕ) (old : List ℕ) (w : Written) (new : List ℕ) : Type 0 where
   pub may : MayStand ss n
-  pub place : w .place ≡ sizeOf n
-  pub buffer : new ≡ listOf ss n ++ drop (sizeOf n) old
+  pub place : w .place ≡ listSize n
+  pub buffer : new ≡ listOf ss n ++ drop (listSize n) old
 
 module _ {ss : List Slot} {n : ℕ} {old new : List ℕ} {w : Written} (said : WritesBack ss n old w new) where
   pub writing : (r p : ℕ) → (w ≡ answer r p) ↔ WriteFault ss n (length old) r p

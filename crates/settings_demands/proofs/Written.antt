@@ -13,7 +13,7 @@ use Rattle.settings.specs.declared.Written.{Written}
 use Rattle.settings.specs.Setting.{Held}
 use Rattle.settings.specs.Entry.{Entry, entries, settingOf, entryOf}
 use Rattle.settings.specs.Migration.{slot}
-use Rattle.settings.specs.Writing.{settingAt, HeldSlots, entriesOf, listOf, sizeOf}
+use Rattle.settings.specs.Writing.{settingAt, HeldSlots, entriesOf, listOf, listSize}
 use Rattle.settings.proofs.Writing.{length-list}
 use Rattle.settings_demands.specs.Ensured.{WritesBack}
 use Rattle.settings_demands.specs.Values.{Good}
@@ -71,7 +71,7 @@ module _ (ss : List Slot) (n : ℕ) (held : HeldSlots ss n) (may : MayStand ss n
   unfolding entryIn
   says-these = same-each (take n ss) each
 
-  long : length (listOf ss n) ≡ sizeOf n
+  long : length (listOf ss n) ≡ listSize n
   long = length-list ss (held .many) n (may .few .1)
 
 -- over the contract
@@ -79,7 +79,7 @@ pub record OldAgain (ss : List Slot) (n : ℕ) (old : List ℕ) (w : Written) (n
   pub list : OldList (take (w .place) new) (entriesOf ss n)
   pub number : length (entriesOf ss n) ≡ n
   pub settings : map settingOf (entriesOf ss n) ≡ map (λ s. s .setting) (take n ss)
-  pub size : length (take (w .place) new) ≡ sizeOf n
+  pub size : length (take (w .place) new) ≡ listSize n
   pub rest : drop (w .place) new ≡ drop (w .place) old
 
 pub old-again : {ss : List Slot} {n : ℕ} {old new : List ℕ} {w : Written} → WritesBack ss n old w new → w .refusal ≡ 0 → OldAgain ss n old w new
@@ -87,8 +87,8 @@ old-again {ss} {n} {old} {new} {w} said z =
     let k = wrote said z in
     let held = said .held z in
     let size = long ss n held (k .may) in
-    let l : take (w .place) new ≡ listOf ss n = rw (k .place, k .buffer) (take-at (listOf ss n) (drop (sizeOf n) old) (sizeOf n) size) in
-    let r : drop (w .place) new ≡ drop (w .place) old = rw (k .place, k .buffer) (drop-at (listOf ss n) (drop (sizeOf n) old) (sizeOf n) size) in
+    let l : take (w .place) new ≡ listOf ss n = rw (k .place, k .buffer) (take-at (listOf ss n) (drop (listSize n) old) (listSize n) size) in
+    let r : drop (w .place) new ≡ drop (w .place) old = rw (k .place, k .buffer) (drop-at (listOf ss n) (drop (listSize n) old) (listSize n) size) in
     record {
       list = rw l (list-is-old ss n held (k .may));
       number = many ss n held (k .may);

@@ -6,8 +6,8 @@ use lib.ListN.{take}
 use Rattle.settings.specs.declared.Slot.{Slot}
 use Rattle.settings.specs.declared.Migration.{Migration}
 use Rattle.settings.specs.Migration.{slots}
-use Rattle.settings.specs.Writing.{sizeOf}
+use Rattle.settings.specs.Writing.{listSize}
 
 -- the answer to the list of the first n of these settings: they are the same ones
 abbrev pub sameSettings : List Slot → ℕ → Migration
-sameSettings ss n = record { refusal = 0; place = sizeOf n; number = n; settings = slots (map (λ s. s .setting) (take n ss)) }
+sameSettings ss n = record { refusal = 0; place = listSize n; number = n; settings = slots (map (λ s. s .setting) (take n ss)) }

@@ -9,7 +9,7 @@ use Rattle.settings.specs.declared.Slot.{Slot}
 use Rattle.settings.specs.declared.Migration.{Migration}
 use Rattle.settings.specs.declared.Written.{Written}
 use Rattle.settings.specs.Migration.{migration}
-use Rattle.settings.specs.Writing.{HeldSlots, written, bufferAfter}
+use Rattle.settings.specs.Writing.{HeldSlots, written, backBuffer}
 
 -- the two clauses of `settings::migrate`, for the bytes s: it answers m
 pub record Migrates (s : List ℕ) (m : Migration) : Type 0 where
@@ -19,5 +19,5 @@ pub record Migrates (s : List ℕ) (m : Migration) : Type 0 where
 -- the three clauses of `settings::write_back`, for n of these slots and a buffer that held `old`: it answers w and leaves `new`
 pub record WritesBack (ss : List Slot) (n : ℕ) (old : List ℕ) (w : Written) (new : List ℕ) : Type 0 where
   pub answer : w ≡ written ss n (length old)
-  pub buffer : new ≡ bufferAfter ss n old
+  pub buffer : new ≡ backBuffer ss n old
   pub held : w .refusal ≡ 0 → HeldSlots ss n

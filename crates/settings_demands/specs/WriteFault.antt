@@ -5,7 +5,7 @@ use mathlib.Core.Logic.{_⊎_}
 use mathlib.Core.List.{List}
 use Prim.Native.Nat.{ℕ, _≤_, _<_}
 use Rattle.settings.specs.declared.Slot.{Slot}
-use Rattle.settings.specs.Writing.{settingAt, sizeOf}
+use Rattle.settings.specs.Writing.{settingAt, listSize}
 use Rattle.settings_demands.specs.Values.{Good}
 
 -- the first n of these settings are 1 to 64, and none is a bad float
@@ -19,8 +19,8 @@ pub data WriteFault (ss : List Slot) (n room : ℕ) : ℕ → ℕ → Type 0 whe
   wrongNumber : (n ≡ 0) ⊎ (64 < n) → WriteFault ss n room 2 0
   -- then a bad float (26),": the first one, at the place of its entry in the list as it would be written
   firstBadFloat : (1 ≤ n) × (n ≤ 64) → (i : ℕ) → i < n → ((j : ℕ) → j < i → Good (settingAt ss j)) → (Good (settingAt ss i) → ⊥) →
-      WriteFault ss n room 26 (sizeOf i)
+      WriteFault ss n room 26 (listSize i)
   -- "then a short buffer (18)": "with the whole length as place"
-  shortBuffer : MayStand ss n → room < sizeOf n → WriteFault ss n room 18 (sizeOf n)
+  shortBuffer : MayStand ss n → room < listSize n → WriteFault ss n room 18 (listSize n)
   -- 0: the place is how many bytes are written
-  roomEnough : MayStand ss n → sizeOf n ≤ room → WriteFault ss n room 0 (sizeOf n)
+  roomEnough : MayStand ss n → listSize n ≤ room → WriteFault ss n room 0 (listSize n)

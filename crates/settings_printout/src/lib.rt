@@ -6,7 +6,7 @@
 ghost use mathlib.Core.Path.{_≡_};
 ghost use Prim.Native.Nat.{_≤_};
 ghost use Rattle.settings.specs.Migration.{migration};
-ghost use Rattle.settings.specs.Setting.{faultOf};
+ghost use Rattle.settings.specs.Setting.{floatFault};
 ghost use Rattle.settings.specs.Writing.{AllGood};
 ghost use Rattle.text_line.specs.Shown.{Put};
 ghost use Rattle.settings_printout.specs.Lines.{settingLine};
@@ -28,7 +28,7 @@ pub const BYTES: usize = 1 + 9 * SETTINGS + 1;
 
 // The line of a setting, with its number in the list. A margin and a feed rate are shown by the bits of their float.
 fn put_setting(number: usize, setting: Setting, out: &mut [u8]) -> usize
-    requires { ⌜ faultOf setting ≡ 0 ⌝ }
+    requires { ⌜ floatFault setting ≡ 0 ⌝ }
     ensures { λ r. ⌜ Put (settingLine number setting) (now (out .entry)) r (now (out .exit)) ⌝ }
 {
     match setting {
@@ -40,7 +40,7 @@ fn put_setting(number: usize, setting: Setting, out: &mut [u8]) -> usize
 
 // Writes the line of a setting.
 fn print_setting(number: usize, setting: Setting)
-    requires { ⌜ faultOf setting ≡ 0 ⌝ }
+    requires { ⌜ floatFault setting ≡ 0 ⌝ }
 {
     let mut line = [0u8; LINE];
     show(put_setting(number, setting, &mut line), &line);

@@ -6,13 +6,13 @@ use native.Mathlib.Omega.{arith}
 use borrow.Author.Needs.{needs}
 use Rattle.lists.specs.Lists.{some}
 use Rattle.lists.proofs.Lists.{some-none, some-more, some-end}
-use Rattle.protocol_state.specs.Saved.{at, active}
+use Rattle.protocol_state.specs.Saved.{at, activePhase}
 use Rattle.mailbox_judge.proofs.some_before.Statement.{statement}
 use Rattle.mailbox_judge.proofs.some_before.Tie as tie
 
 abbrev Inv-loop : tie.InvT-loop
 Inv-loop t phase found₀ u₀ found u =
-    (u ≤ t) × (found ≡ some (λ k. active (at phase k)) u)
+    (u ≤ t) × (found ≡ some (λ k. activePhase (at phase k)) u)
 
 abbrev μ-loop : tie.MeasureT-loop
 μ-loop t phase found₀ u₀ found u = t - u
@@ -35,7 +35,7 @@ loop-less c = omega arith
 loop-again : tie.Need-loop-again Inv-loop μ-loop
 loop-again c =
     let a = c .before .before .before .before .args in
-    (omega arith, some-more (λ k. active (at (a .phase .now) k)) _ (c .is-active .ensures) (c .before .before .before .loop .inv .1))
+    (omega arith, some-more (λ k. activePhase (at (a .phase .now) k)) _ (c .is-active .ensures) (c .before .before .before .loop .inv .1))
 
 returns : tie.Need-returns Inv-loop μ-loop
 returns c = some-end _ _ _ (c .before .loop .inv .1) (c .before .loop .inv .0) (c .loop-test .left)

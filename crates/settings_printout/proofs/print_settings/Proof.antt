@@ -4,7 +4,7 @@ use mathlib.Core.Path.{ap, _∙_}
 use Prim.Native.Nat.{_-_, _≤_, _<_}
 use native.Mathlib.Omega.{arith}
 use borrow.Author.Needs.{needs}
-use Rattle.settings.specs.Setting.{faultOf}
+use Rattle.settings.specs.Setting.{floatFault}
 use Rattle.settings.proofs.Writing.{slot-there}
 use Rattle.settings_printout.proofs.print_settings.Statement.{statement}
 use Rattle.settings_printout.proofs.print_settings.Tie as tie
@@ -33,7 +33,7 @@ print-setting-requires c κs =
     let i = test .before .loop .i in
     let a = test .before .before .args in
     let l : i < a .n = omega (arith, test .loop-test .taken) in
-    ap faultOf (slot-there (a .t1) i _ (search needs) (omega arith)) ∙ test .before .before .pre .1 i l
+    ap floatFault (slot-there (a .t1) i _ (search needs) (omega arith)) ∙ test .before .before .pre .1 i l
 
 add-i : tie.Need-add-i Inv-loop μ-loop
 add-i c = search needs

@@ -3,7 +3,7 @@
 use mathlib.Core.Path.{_≡_, sym, ap, _∙_}
 use mathlib.Core.Bool.{cond}
 use borrow.Author.Needs.{needs}
-use Rattle.settings.specs.Setting.{aboveZero, faultOf}
+use Rattle.settings.specs.Setting.{aboveZero, floatFault}
 use Rattle.settings.proofs.Floats.{no-nan, good-float}
 use Rattle.settings_printout.proofs.put_setting.Statement.{statement}
 use Rattle.settings_printout.proofs.put_setting.Tie as tie
@@ -14,7 +14,7 @@ enum-known-setting c = search needs
 float-to-bits-put-margin : tie.Need-float-to-bits-put-margin
 float-to-bits-put-margin c =
     let set = c .before in
-    let e : faultOf (set .before .before .before .args .setting) ≡ cond (aboveZero (set .setting .given .0 .0)) 0 26 = ap faultOf (set .setting .given .1) in
+    let e : floatFault (set .before .before .before .args .setting) ≡ cond (aboveZero (set .setting .given .0 .0)) 0 26 = ap floatFault (set .setting .given .1) in
     no-nan _ (good-float _ (sym e ∙ set .before .before .before .pre))
 
 put-margin-requires : tie.Need-put-margin-requires
@@ -26,7 +26,7 @@ enum-known-setting-2 c = search needs
 float-to-bits-put-feed : tie.Need-float-to-bits-put-feed
 float-to-bits-put-feed c =
     let set = c .before in
-    let e : faultOf (set .before .before .before .args .setting) ≡ cond (aboveZero (set .setting2 .given .0 .0)) 0 26 = ap faultOf (set .setting2 .given .1) in
+    let e : floatFault (set .before .before .before .args .setting) ≡ cond (aboveZero (set .setting2 .given .0 .0)) 0 26 = ap floatFault (set .setting2 .given .1) in
     no-nan _ (good-float _ (sym e ∙ set .before .before .before .pre))
 
 put-feed-requires : tie.Need-put-feed-requires

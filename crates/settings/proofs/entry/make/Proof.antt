@@ -2,8 +2,8 @@
 -- Assumes nothing.
 use mathlib.Core.Path.{sym, ap, _∙_}
 use Rattle.settings.specs.declared.code.Code.{Code}
-use Rattle.settings.specs.Setting.{faultOf}
-use Rattle.settings.specs.Entry.{made}
+use Rattle.settings.specs.Setting.{floatFault}
+use Rattle.settings.specs.Entry.{settingMade}
 use Rattle.settings.proofs.Floats.{good-float, no-nan-bits}
 use borrow.Author.Needs.{needs}
 use Rattle.settings.proofs.entry.make.Statement.{statement}
@@ -15,7 +15,7 @@ enum-told c = search needs
 float-from-bits-t4 : tie.Need-float-from-bits-t4
 float-from-bits-t4 c =
     let start = c .before .before in
-    let e = ap (λ (k : Code). faultOf (made k (start .args .bits))) (c .enum-told .given .1) in
+    let e = ap (λ (k : Code). floatFault (settingMade k (start .args .bits))) (c .enum-told .given .1) in
     no-nan-bits (start .args .bits) (good-float _ (sym e ∙ start .pre))
 
 enum-told-2 : tie.Need-enum-told-2
@@ -24,7 +24,7 @@ enum-told-2 c = search needs
 float-from-bits-t5 : tie.Need-float-from-bits-t5
 float-from-bits-t5 c =
     let start = c .before .before in
-    let e = ap (λ (k : Code). faultOf (made k (start .args .bits))) (c .enum-told2 .given .1) in
+    let e = ap (λ (k : Code). floatFault (settingMade k (start .args .bits))) (c .enum-told2 .given .1) in
     no-nan-bits (start .args .bits) (good-float _ (sym e ∙ start .pre))
 
 enum-told-3 : tie.Need-enum-told-3

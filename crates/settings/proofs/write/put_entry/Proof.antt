@@ -2,7 +2,7 @@
 -- Assumes nothing.
 use mathlib.Core.Path.{_≡_, sym, ap, _∙_}
 use mathlib.Core.Bool.{cond}
-use Rattle.settings.specs.Setting.{aboveZero, faultOf}
+use Rattle.settings.specs.Setting.{aboveZero, floatFault}
 use Rattle.settings.proofs.Floats.{no-nan, good-float}
 use borrow.Author.Needs.{needs}
 use Rattle.settings.proofs.write.put_entry.Statement.{statement}
@@ -14,7 +14,7 @@ enum-known-setting c = search needs
 float-to-bits-put-coded : tie.Need-float-to-bits-put-coded
 float-to-bits-put-coded c =
     let set = c .before in
-    let e : faultOf (set .before .before .before .args .setting) ≡ cond (aboveZero (set .setting .given .0 .0)) 0 26 = ap faultOf (set .setting .given .1) in
+    let e : floatFault (set .before .before .before .args .setting) ≡ cond (aboveZero (set .setting .given .0 .0)) 0 26 = ap floatFault (set .setting .given .1) in
     no-nan _ (good-float _ (sym e ∙ set .before .before .before .pre .1))
 
 put-coded-requires : tie.Need-put-coded-requires
@@ -26,7 +26,7 @@ enum-known-setting-2 c = search needs
 float-to-bits-put-coded-2 : tie.Need-float-to-bits-put-coded-2
 float-to-bits-put-coded-2 c =
     let set = c .before in
-    let e : faultOf (set .before .before .before .args .setting) ≡ cond (aboveZero (set .setting2 .given .0 .0)) 0 26 = ap faultOf (set .setting2 .given .1) in
+    let e : floatFault (set .before .before .before .args .setting) ≡ cond (aboveZero (set .setting2 .given .0 .0)) 0 26 = ap floatFault (set .setting2 .given .1) in
     no-nan _ (good-float _ (sym e ∙ set .before .before .before .pre .1))
 
 put-coded-requires-2 : tie.Need-put-coded-requires-2
