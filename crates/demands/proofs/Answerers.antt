@@ -13,7 +13,7 @@ use Rattle.protocol_state.specs.Give.{reply}
 use Rattle.protocol_state.specs.Alike.{Alike}
 use Rattle.protocol_state.proofs.Rules.{ltb-ranks}
 use Rattle.protocol_state.proofs.Demanded as state
-use Rattle.recording_core.specs.Promise.{past}
+use Rattle.protocol.specs.History.{past}
 use Rattle.mailbox.specs.States.{saved}
 use Rattle.mailbox.specs.declared.State.{State}
 use Rattle.mailbox.specs.declared.Step.{Step}

@@ -1,19 +1,21 @@
 -- An accepted event given to any sound state is a step of the published protocol.
 -- Assumes nothing.
 use mathlib.Core.Path.{_≡_, sym, ap, subst, _∙_}
+use mathlib.Core.Logic.{inl, inr}
 use Prim.Native.Nat.{ℕ}
 use lib.Dec.{ltb}
-use Rattle.protocol.specs.Event.{Event, read}
+use Rattle.protocol.specs.Event.{Event, arrival, start, read, finish}
+use Rattle.protocol.specs.Answering.{ReadsNothing}
 use Rattle.protocol.specs.Published.{Lowest, number}
 use Rattle.protocol.specs.Published as published
-use Rattle.protocol_state.specs.Saved.{Saved, base, boxes}
+use Rattle.protocol_state.specs.Saved.{Saved, base, table, boxes}
 use Rattle.protocol_state.specs.Judge.{judgedOn}
-use Rattle.protocol_state.specs.Next.{next}
-use Rattle.protocol_state.specs.Give.{Reply}
-use Rattle.protocol_state.specs.Sound.{Sound}
+use Rattle.protocol_state.specs.Next.{next, valueOf}
+use Rattle.protocol_state.specs.Give.{Reply, give}
+use Rattle.protocol_state.specs.Sound.{isSound, Sound}
 use Rattle.protocol_state.proofs.Sound.{says-sound}
-use Rattle.protocol_state.proofs.Give.{give-refusal, give-done}
-use Rattle.protocol_state.proofs.Keeps.{next-shape, next-sound}
+use Rattle.protocol_state.proofs.Give.{Ways, give-ways, give-refusal, give-done}
+use Rattle.protocol_state.proofs.Keeps.{table-same, next-shape, next-sound}
 use Rattle.protocol_state.proofs.Steps.{step, number-read}
 use Rattle.protocol_state.specs.Saved.{Shape}
 use Rattle.mailbox.specs.States.{saved}
@@ -29,9 +31,10 @@ module _ (q : State) (e : Event ℕ) (r : Step) (call : Gives q e r) (S : IsWhol
   done : saved (r .state) ≡ next ltb (saved q) e
   done = ap (λ (x : Step). saved (x .state)) call ∙ ap (λ (x : Reply). x .state) (give-done ltb base (saved q) e (says-sound ltb base (saved q) G) allowed)
 
-  pub any-state : published.Step (tableIn q) (Lowest (tableIn q)) e (boxesIn q) (boxesIn (r .state)) × (IsWhole (r .state) × IsSound (r .state))
+  pub any-state : published.Step (tableIn q) (Lowest (tableIn q)) e (boxesIn q) (boxesIn (r .state)) × (tableIn (r .state) ≡ tableIn q) × (IsWhole (r .state) × IsSound (r .state))
   any-state = (
     subst (λ (x : Saved). published.Step (tableIn q) (Lowest (tableIn q)) e (boxesIn q) (boxes x)) (sym done) (step (saved q) S G e allowed),
+    ap (λ (x : Saved). table ltb x) done ∙ table-same ltb (saved q) e,
     (
       subst (λ (x : Saved). Shape base x) (sym done) (next-shape ltb S e),
       subst (λ (x : Saved). Sound ltb base x) (sym done) (next-sound S G e allowed),
@@ -42,3 +45,17 @@ pub any-number : (q : State) (l : ℕ) (r : Step) → Gives q (read l) r → IsW
 any-number q l r call S G z =
     let j = allowed q (read l) r call S G z in
     ap (λ (x : Step). x .answer .value) call ∙ ap (λ (x : Reply). x .value) (give-done ltb base (saved q) (read l) (says-sound ltb base (saved q) G) j) ∙ number-read (saved q) S G l j
+
+-- only a read gives a value
+pub silent : (q : State) (e : Event ℕ) (r : Step) → Gives q e r → ReadsNothing e → r .answer .value ≡ 0
+unfolding ReadsNothing
+silent q e r call n = ap (λ (x : Step). x .answer .value) call ∙ go e n (give-ways ltb base (saved q) e)
+  where
+    go : (e : Event ℕ) → ReadsNothing e
+        → Ways (isSound ltb base (saved q)) (judgedOn ltb (saved q) e) (saved q) (next ltb (saved q) e) (valueOf (saved q) e) (give ltb base (saved q) e)
+        → give ltb base (saved q) e .value ≡ 0
+    go e n (inr w) = w .2
+    go (arrival m) n (inl w) = ap (λ (x : Reply). x .value) (w .2)
+    go (start t) n (inl w) = ap (λ (x : Reply). x .value) (w .2)
+    go (read l) n (inl w) = absurd n
+    go (finish t v) n (inl w) = ap (λ (x : Reply). x .value) (w .2)

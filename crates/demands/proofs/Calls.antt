@@ -18,7 +18,7 @@ use Rattle.protocol_state.proofs.Rules as rules
 use Rattle.protocol_state.proofs.Freshes.{made-fresh}
 use Rattle.protocol_state.proofs.Give.{refused-same}
 use Rattle.protocol_state.proofs.History.{reached-after, reached-fresh}
-use Rattle.recording_core.specs.Promise.{past}
+use Rattle.protocol.specs.History.{past}
 use Rattle.mailbox.specs.States.{saved, stateOf}
 use Rattle.mailbox.specs.declared.State.{State}
 use Rattle.mailbox.specs.declared.Step.{Step}

@@ -15,6 +15,8 @@ use Rattle.mailbox_parts.specs.Plain.{plain}
 use Rattle.mailbox.specs.States.{saved, StaysSound}
 use Rattle.mailbox.specs.declared.State.{State}
 use Rattle.mailbox.specs.declared.Step.{Step}
+use Rattle.protocol_state.proofs.Sound.{sound-says, says-sound}
+use Rattle.demands.specs.States.{IsSound}
 use Rattle.demands.specs.Calls.{Makes, Gives}
 use Rattle.mailbox.proofs.State.fresh.Kinds as of-fresh
 use Rattle.mailbox.proofs.State.fresh.Reads as fresh
@@ -31,56 +33,69 @@ use Rattle.mailbox.proofs.State.event.Reads as event
 
 -- an event given to a state: the answer is the reply to it, and a sound state stays sound
 abbrev Answers : State → protocol.Event ℕ → Step → Type 0
-Answers q e a = Gives q e a × StaysSound q a
+Answers q e a = Gives q e a × (IsSound q → IsSound (a .state))
+
+-- the sentence of soundness and its test
+passes : (q : State) → IsSound q → isSound ltb base (saved q) ≡ true
+passes q S = says-sound ltb base (saved q) S
+
+says : (q : State) → isSound ltb base (saved q) ≡ true → IsSound q
+says q e = sound-says ltb base (saved q) e
+
+stays : (q : State) (a : Step) → StaysSound q a → IsSound q → IsSound (a .state)
+stays q a f S = says (a .state) (f (passes q S))
+
+stays-tested : (q : State) (a : Step) → (IsSound q → IsSound (a .state)) → StaysSound q a
+stays-tested q a f e = passes (a .state) (f (says q e))
 
 -- a table
 module _ (κs : Lfts 0) (lent : Dens κs of-fresh.ps) (m : resT of-fresh.r κs .Denot) (left : AtExit (endedOf 0 of-fresh.ps of-fresh.r) κs) where
   abbrev MakesSound : Type 0
   MakesSound =
-      Makes (lent .0) (lent .1 .0) (lent .1 .1 .0) (lent .1 .1 .1 .0) (lent .1 .1 .1 .1 .0) (lent .1 .1 .1 .1 .1 .0) m × (isSound ltb base (saved (m .state)) ≡ true)
+      Makes (lent .0) (lent .1 .0) (lent .1 .1 .0) (lent .1 .1 .1 .0) (lent .1 .1 .1 .1 .0) (lent .1 .1 .1 .1 .1 .0) m × IsSound (m .state)
 
   pub fresh-learnt : fresh.Learnt κs lent m left → MakesSound
-  fresh-learnt learnt = learnt
+  fresh-learnt learnt = (learnt .0, says (m .state) (learnt .1))
 
   pub fresh-told : MakesSound → fresh.Learnt κs lent m left
-  fresh-told said = said
+  fresh-told said = (said .0, passes (m .state) (said .1))
 
 -- the arrival of a set
 module _ (κs : Lfts 0) (lent : Dens κs of-arrival.ps) (a : resT of-arrival.r κs .Denot) (left : AtExit (endedOf 0 of-arrival.ps of-arrival.r) κs) where
   pub arrival-learnt : arrival.Learnt κs lent a left → Answers (lent .0) (protocol.arrival (lent .1 .0)) a
-  arrival-learnt learnt = learnt
+  arrival-learnt learnt = (learnt .0, stays (lent .0) a (learnt .1))
 
   pub arrival-told : Answers (lent .0) (protocol.arrival (lent .1 .0)) a → arrival.Learnt κs lent a left
-  arrival-told said = said
+  arrival-told said = (said .0, stays-tested (lent .0) a (said .1))
 
 -- the start of a task
 module _ (κs : Lfts 0) (lent : Dens κs of-start.ps) (a : resT of-start.r κs .Denot) (left : AtExit (endedOf 0 of-start.ps of-start.r) κs) where
   pub start-learnt : start.Learnt κs lent a left → Answers (lent .0) (protocol.start (lent .1 .0)) a
-  start-learnt learnt = learnt
+  start-learnt learnt = (learnt .0, stays (lent .0) a (learnt .1))
 
   pub start-told : Answers (lent .0) (protocol.start (lent .1 .0)) a → start.Learnt κs lent a left
-  start-told said = said
+  start-told said = (said .0, stays-tested (lent .0) a (said .1))
 
 -- a read by a link
 module _ (κs : Lfts 0) (lent : Dens κs of-read.ps) (a : resT of-read.r κs .Denot) (left : AtExit (endedOf 0 of-read.ps of-read.r) κs) where
   pub read-learnt : read.Learnt κs lent a left → Answers (lent .0) (protocol.read (lent .1 .0)) a
-  read-learnt learnt = learnt
+  read-learnt learnt = (learnt .0, stays (lent .0) a (learnt .1))
 
   pub read-told : Answers (lent .0) (protocol.read (lent .1 .0)) a → read.Learnt κs lent a left
-  read-told said = said
+  read-told said = (said .0, stays-tested (lent .0) a (said .1))
 
 -- the finish of a task with a value
 module _ (κs : Lfts 0) (lent : Dens κs of-finish.ps) (a : resT of-finish.r κs .Denot) (left : AtExit (endedOf 0 of-finish.ps of-finish.r) κs) where
   pub finish-learnt : finish.Learnt κs lent a left → Answers (lent .0) (protocol.finish (lent .1 .0) (lent .1 .1 .0)) a
-  finish-learnt learnt = learnt
+  finish-learnt learnt = (learnt .0, stays (lent .0) a (learnt .1))
 
   pub finish-told : Answers (lent .0) (protocol.finish (lent .1 .0) (lent .1 .1 .0)) a → finish.Learnt κs lent a left
-  finish-told said = said
+  finish-told said = (said .0, stays-tested (lent .0) a (said .1))
 
 -- any event
 module _ (κs : Lfts 0) (lent : Dens κs of-event.ps) (a : resT of-event.r κs .Denot) (left : AtExit (endedOf 0 of-event.ps of-event.r) κs) where
   pub event-learnt : event.Learnt κs lent a left → Answers (lent .0) (plain (lent .1 .0)) a
-  event-learnt learnt = learnt
+  event-learnt learnt = (learnt .0, stays (lent .0) a (learnt .1))
 
   pub event-told : Answers (lent .0) (plain (lent .1 .0)) a → event.Learnt κs lent a left
-  event-told said = said
+  event-told said = (said .0, stays-tested (lent .0) a (said .1))

@@ -1,12 +1,13 @@
 -- The three demands hold, and what document 01 says besides of a whole recording.
 -- Assumes nothing.
 use mathlib.Core.Path.{_≡_, refl, sym, ap, subst, _∙_}
-use mathlib.Core.Logic.{_≢_, _↔_}
+use mathlib.Core.Logic.{_≢_, _⊎_, inl, inr, _↔_}
 use mathlib.Core.Bool.{Bool, true, false, cond}
-use mathlib.Core.List.{List, []}
-use Prim.Native.Nat.{ℕ}
-use borrow.Author.Tests.{eqb-true}
+use mathlib.Core.List.{List, [], _∷_}
+use Prim.Native.Nat.{ℕ, _≤_}
+use borrow.Author.Tests.{eqb-true, ne-eqb}
 use lib.Dec.{eqb, ltb}
+use lib.ListN.{length}
 use Rattle.protocol.specs.Event.{Event}
 use Rattle.protocol.specs.Table.{Table}
 use Rattle.protocol_state.specs.Saved.{Saved, base, at}
@@ -17,7 +18,7 @@ use Rattle.protocol_state.specs.Rules.{judgedTable}
 use Rattle.protocol_state.specs.Give.{give}
 use Rattle.protocol_state.proofs.Sound.{sound-says, says-sound}
 use Rattle.protocol_state.proofs.Give.{give-refusal, give-unsound, refused-same}
-use Rattle.recording_core.specs.Promise.{past}
+use Rattle.protocol.specs.History.{past}
 use Rattle.recording_demands.proofs.Contract.{learnt-ensured, ensured-learnt}
 use Rattle.recording_demands.proofs.Rest.{unread}
 use Rattle.demands.proofs.Contract.{fresh-learnt, fresh-told, arrival-learnt, arrival-told, start-learnt, start-told, read-learnt, read-told, finish-learnt, finish-told, event-learnt, event-told}
@@ -25,7 +26,14 @@ use Rattle.mailbox.specs.States.{saved, stateOf, stepOf}
 use Rattle.mailbox.specs.declared.State.{State}
 use Rattle.mailbox.specs.declared.Step.{Step}
 use Rattle.mailbox.specs.declared.Made.{Made}
-use Rattle.demands.specs.Station.{Keeps, firstTasks, firstLinks}
+use Rattle.byte_format.specs.Number.{Bytes}
+use Rattle.recording_format.specs.Link.{Link}
+use Rattle.recording_format.proofs.Sizes.{base-length}
+use Rattle.recording_core.specs.Playing.{coreOf}
+use Rattle.recording.specs.declared.Answer.{Answer}
+use Rattle.recording_demands.specs.Ensured.{Replays}
+use Rattle.demands.specs.Recordings.{Genuine, Listed, AtTable, Explained}
+use Rattle.demands.specs.Station.{station, Keeps, firstTasks, firstLinks}
 use Rattle.demands.specs.States.{IsSound, tableIn, standingIn}
 use Rattle.demands.specs.Calls.{Makes, Gives, Calls}
 use Rattle.demands.specs.Refusals.{Earns, TableEarns, EventBreaks, byHistory}
@@ -35,19 +43,20 @@ use Rattle.demands.specs.Demands.{asLent, Demand1, Demand2, Demand3, Who
 use Rattle.demands.proofs.Earned.{earns-exactly}
 use Rattle.demands.proofs.TableEarned.{judged-table-earned, table-earns-one, arrays-judged}
 use Rattle.demands.proofs.Events.{phases-earned, judged-earned}
-use Rattle.demands.proofs.Runs.{calls-refusal, calls-event, calls-published, calls-no-time, calls-direct, calls-delayed, calls-finished}
+use Rattle.demands.proofs.Runs.{calls-refusal, calls-event, calls-published, calls-there, calls-order, calls-no-time, calls-direct, calls-delayed, calls-finished}
 use Rattle.demands.proofs.Course.{one-course}
-use Rattle.demands.proofs.AnyState.{any-state, any-number}
+use Rattle.demands.proofs.AnyState.{any-state, any-number, silent}
 use Rattle.demands.proofs.Replays.{keeps-of}
-use Rattle.demands.proofs.Genuine.{one-reading, exactly, accepted-calls}
-use Rattle.demands.proofs.Explained.{every-answer}
-use Rattle.demands.proofs.Only.{only, totals}
+use Rattle.demands.proofs.Genuine.{genuine-kept, one-reading, exactly, accepted-calls}
+use Rattle.demands.proofs.Explained.{single-made, every-answer}
+use Rattle.demands.proofs.Only.{explained-is, only, totals}
 use Rattle.demands.proofs.Unknown.{unknown-event, unknown-link}
 use Rattle.demands.proofs.Cuts.{one-answer, power-cut, nothing-lost}
 
 asks-nothing : AsksNothing
 asks-nothing = record {
   replay = λ κs lent. tt;
+  rest = λ κs lent. tt;
   fresh = λ κs lent. tt;
   arrival = λ κs lent. tt;
   start = λ κs lent. tt;
@@ -60,6 +69,7 @@ asks-nothing = record {
 tells : Tells
 tells = record {
   replay = λ κs lent a left. (learnt-ensured κs lent a left, ensured-learnt κs lent a left);
+  rest = λ κs lent part left. (λ learnt. learnt, λ said. said);
   fresh = λ κs lent m left. (fresh-learnt κs lent m left, fresh-told κs lent m left);
   arrival = λ κs lent r left. (arrival-learnt κs lent r left, arrival-told κs lent r left);
   start = λ κs lent r left. (start-learnt κs lent r left, start-told κs lent r left);
@@ -90,6 +100,14 @@ module _ (T L : ℕ) (D W R K : List ℕ) (m : Made) (said : Makes T L D W R K m
         λ z. subst (λ (k : ℕ). TableEarns (firstTasks T D) (firstLinks L W R K) k) (sym e ∙ z) (judged-table-earned (firstTasks T D) (firstLinks L W R K)),
         λ t. e ∙ sym (table-earns-one (firstTasks T D) (firstLinks L W R K) t),
       )
+
+  -- a table that is refused makes the single task's state
+  table-refused : m .refusal ≢ 0 → Makes 1 0 (0 ∷ []) [] [] [] (record { refusal = 0; state = m .state })
+  unfolding made
+  table-refused n =
+      let e : eqb (judgedTable ltb T (at W) (at R) (at K) base L) 0 ≡ false = ne-eqb _ 0 (λ z. n (refusal-is ∙ z)) in
+      let single : made ltb base T L D W R K .state ≡ state.single base = rw e in
+      subst (λ (q : State). Makes 1 0 (0 ∷ []) [] [] [] (record { refusal = 0; state = q })) (sym (ap (λ (x : Made). x .state) said ∙ ap stateOf single)) single-made
 
   table-kept : (m .refusal ≡ 0) ↔ Keeps (firstTasks T D) (firstLinks L W R K)
   table-kept = (
@@ -128,6 +146,24 @@ number-there : {T : Table ℕ} {es : List (Event ℕ)} {ns : List ℕ} {q : Stat
     → (n : ℕ) → (r .answer .refusal ≡ n) ↔ Earns (EventBreaks T (byHistory (past [] es)) e) n
 number-there {T} {es} c e r call = earns-exactly (calls-refusal c e r call) (judged-earned T (past [] es) e)
 
+-- a recording as calls, or refused in its table
+as-calls : {s out list : List ℕ} {a : Answer} → Replays s out a list
+    → AtTable s out a list ⊎ ((T : Table ℕ) × (es : List (Event ℕ)) × (ns : List ℕ) × Calls T es ns (a .state) × Listed ns out list)
+as-calls said = go (every-answer said)
+  where
+    go : {s out list : List ℕ} {a : Answer} → Explained s out a list
+        → AtTable s out a list ⊎ ((T : Table ℕ) × (es : List (Event ℕ)) × (ns : List ℕ) × Calls T es ns (a .state) × Listed ns out list)
+    go (inl x) = inl x
+    go (inr x) = inr (station (x .ds) (x .ls), x .es, x .ns, x .calls, x .listed)
+
+-- what the bytes explain is what the replay answers
+told : {s out list : List ℕ} {a : Answer} → Bytes s → Explained s out a list → Replays s out a list
+told b x = record { answer = explained-is x; bytes = b }
+
+-- no recording is longer
+longest : {s out ds : List ℕ} {ls : List Link} {es : List (Event ℕ)} → Genuine s out ds ls es → length s ≤ 60164
+longest {s} {out} {ds} {ls} {es} g = base-length ltb (coreOf ltb base out) s ds ls es (genuine-kept g)
+
 -- ---- the theorems
 pub demand-1 : Demand1
 demand-1 = record {
@@ -139,7 +175,10 @@ demand-1 = record {
   table-number = table-number;
   event-number = event-number;
   number-there = number-there;
+  table-refused = table-refused;
+  silent = silent;
   place = every-answer;
+  told = told;
   only = only;
   unchanged = unchanged;
 }
@@ -151,6 +190,7 @@ demand-2 = record {
   table = table-kept;
   event = calls-event;
   protocol = calls-published;
+  there = calls-there;
   any-state = any-state;
   any-number = any-number;
   replayed = accepted-calls;
@@ -158,7 +198,7 @@ demand-2 = record {
 }
 
 pub demand-3 : Demand3
-demand-3 = record { recordings = every-answer; no-time = calls-no-time; direct = calls-direct; delayed = calls-delayed; finished = calls-finished }
+demand-3 = record { recordings = as-calls; order = calls-order; no-time = calls-no-time; direct = calls-direct; delayed = calls-delayed; finished = calls-finished }
 
 pub whole-recordings : WholeRecordings
-whole-recordings = record { totals = totals; power-cut = power-cut; nothing-lost = λ g a b all. nothing-lost g b a all; rest = λ said. unread said refl; one-answer = one-answer }
+whole-recordings = record { totals = totals; power-cut = power-cut; nothing-lost = λ g a b all. nothing-lost g b a all; rest = unread; longest = longest; one-answer = one-answer }

@@ -20,7 +20,6 @@ use Rattle.protocol_state.specs.Saved.{Saved, base, at, busy, table}
 use Rattle.protocol_state.specs.Judge.{allows, mayArrive, preempted, judgedArrival, judgedTask, judgedRead, judgedOn}
 use Rattle.protocol_state.specs.Decision.{decided, rule}
 use Rattle.protocol_state.specs.Sound.{Sound}
-use Rattle.protocol_state.proofs.Rules as rules
 use Rattle.protocol_state.proofs.Decision.{decided-rule}
 use Rattle.protocol_state.proofs.Places.{every-none-fails}
 use Rattle.recording_core.specs.Playing.{full, noRoom, thenRoom}
@@ -241,7 +240,7 @@ module _ (q : Saved) (S : Sound ltb base q) where
       go false u =
           judged-task 2 (at (q .reader) l) 2 15 (omega arith) 2 refl refl refl
           ∙ rw (lt-leb (q .tasks) (at (q .reader) l)
-          (rules.obeyed ltb (q .tasks) (at (q .writer)) (at (q .reader)) (at (q .kind)) base (q .links) (S .rules) l (omega (arith, leb-false (q .links) l u)) .reader)) refl
+          (S .rules .each l (omega (arith, leb-false (q .links) l u)) .reader)) refl
   phases-chain (finish t v) = judged-task 3 t 2 15 (omega arith) 0 refl refl refl
 
   pub phases-earned : (e : Event ℕ) → Earns (EventBreaks T (phasesOf q) e) (judgedOn ltb q e)

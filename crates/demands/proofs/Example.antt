@@ -8,12 +8,11 @@ use Rattle.lists.specs.Lists.{some, count, leading}
 use Rattle.protocol.specs.Event.{Event, arrival, start, read, finish, has}
 use Rattle.protocol.specs.Table.{Table}
 use Rattle.protocol.specs.Given.{values}
-use Rattle.protocol.specs.History.{arrivals, starts, finishes, upTo, output}
+use Rattle.protocol.specs.History.{arrivals, starts, finishes, upTo, output, past}
 use Rattle.protocol.specs.Schedule.{urgent, Possible}
 use Rattle.protocol.specs.ZeroTime.{dues}
 use Rattle.protocol.specs.Instant.{upward}
 use Rattle.protocol_state.specs.Rules.{fault, judgedTable}
-use Rattle.recording_core.specs.Promise.{past}
 use Rattle.mailbox.specs.States.{given}
 use Rattle.mailbox.specs.declared.State.{State}
 use Rattle.demands.specs.Station.{station}

@@ -9,7 +9,7 @@ use lib.Dec.{ltb}
 use lib.ListN.{length}
 use Rattle.protocol.specs.Event.{Event}
 use Rattle.protocol.specs.Table.{Table}
-use Rattle.protocol.specs.History.{counts}
+use Rattle.protocol.specs.History.{counts, past}
 use Rattle.protocol_state.specs.Saved.{base, at}
 use Rattle.protocol_state.specs.Fresh as fresh
 use Rattle.protocol_state.proofs.Rules.{ltb-ranks, no-refusal}
@@ -31,7 +31,7 @@ use Rattle.recording_format.proofs.LinkRules.{allowed-judged}
 use Rattle.recording_format.proofs.EventKinds.{byteOf, events-told}
 use Rattle.recording_format.proofs.EventRecords.{events-lawful}
 use Rattle.recording_core.specs.Playing.{Playing, coreOf, judgedIn, steppedIn}
-use Rattle.recording_core.specs.Promise.{past, refusedBy, tableOf}
+use Rattle.recording_core.specs.Promise.{refusedBy, tableOf}
 use Rattle.recording_core.proofs.Promises.{event-refused}
 use Rattle.mailbox.specs.States.{stateOf, madeOf}
 use Rattle.mailbox.specs.declared.State.{State}

@@ -9,7 +9,7 @@ use lib.Dec.{ltb, lit<}
 use lib.ListN.{length}
 use Rattle.protocol.specs.Event.{Event}
 use Rattle.protocol.specs.Table.{Table}
-use Rattle.protocol.specs.History.{reads}
+use Rattle.protocol.specs.History.{reads, past}
 use Rattle.protocol_state.specs.Saved.{base}
 use Rattle.byte_format.specs.Number.{bytesOf}
 use Rattle.byte_format.specs.Stands.{Stands}
@@ -29,7 +29,7 @@ use Rattle.recording_format.proofs.LinkRules.{recorded-judged}
 use Rattle.recording_format.proofs.EventKinds.{byteOf, events-told, kind-unknown}
 use Rattle.recording_format.proofs.EventRecords.{events-lawful}
 use Rattle.recording_core.specs.Playing.{coreOf, judgedIn, steppedIn}
-use Rattle.recording_core.specs.Promise.{past, refusedBy}
+use Rattle.recording_core.specs.Promise.{refusedBy}
 use Rattle.recording_core.proofs.Right.{refused-by}
 use Rattle.demands.specs.Station.{station}
 use Rattle.demands.specs.Recordings.{Genuine, EventsBegun, Ending, noKind, unknownKind, cutEvent, badEvent}

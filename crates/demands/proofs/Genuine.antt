@@ -9,7 +9,7 @@ use lib.Dec.{ltb, lit<}
 use lib.ListN.{length, replicate, length-replicate}
 use Rattle.protocol.specs.Event.{Event}
 use Rattle.protocol.specs.Table.{Table}
-use Rattle.protocol.specs.History.{reads}
+use Rattle.protocol.specs.History.{reads, past}
 use Rattle.protocol.specs.Schedule.{urgent, AllPossible}
 use Rattle.protocol_state.specs.Saved.{base, at}
 use Rattle.protocol_state.specs.Rules.{Obeys}
@@ -22,7 +22,6 @@ use Rattle.recording_format.proofs.LinkRules.{recorded-judged}
 use Rattle.recording_format.proofs.Recordings.{recorded-accepted}
 use Rattle.recording_format.proofs.Unique.{recorded-unique}
 use Rattle.recording_core.specs.Playing.{Playing, coreOf}
-use Rattle.recording_core.specs.Promise.{past}
 use Rattle.recording_core.specs.Promise as core
 use Rattle.recording_core.proofs.Promises.{genuine-recorded}
 use Rattle.mailbox.specs.States.{stateOf}

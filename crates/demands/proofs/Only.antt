@@ -9,7 +9,7 @@ use lib.Dec.{ltb}
 use lib.ListN.{length, drop}
 use Rattle.protocol.specs.Event.{Event}
 use Rattle.protocol.specs.Table.{Table}
-use Rattle.protocol.specs.History.{counts, reads}
+use Rattle.protocol.specs.History.{counts, reads, past}
 use Rattle.protocol.specs.ZeroTime.{ideals}
 use Rattle.protocol_state.specs.Saved.{base}
 use Rattle.byte_format.specs.Play.{Verdict, verdict}
@@ -18,7 +18,6 @@ use Rattle.recording_format.specs.Limits.{baseLimits}
 use Rattle.recording_format.specs.Recording.{encodeRecording, stateAfter, recording}
 use Rattle.recording_format.proofs.Decided.{outcome-is}
 use Rattle.recording_core.specs.Playing.{Playing, coreOf}
-use Rattle.recording_core.specs.Promise.{past}
 use Rattle.mailbox.specs.States.{saved, stateOf}
 use Rattle.mailbox.specs.declared.Made.{Made}
 use Rattle.recording.specs.Answers.{replied}

@@ -7,12 +7,12 @@ use native.Mathlib.Omega.{arith}
 use lib.ListN.{length, length-append, drop, set}
 use Rattle.protocol.specs.Event.{Event, arrival, start, read, finish}
 use Rattle.protocol.specs.Table.{Table}
-use Rattle.protocol.specs.History.{Goes, same, more, arrivals, reads}
+use Rattle.protocol.specs.History.{Goes, same, more, arrivals, reads, past}
 use Rattle.protocol.specs.Schedule.{urgent, AllPossible}
 use Rattle.protocol.specs.ZeroTime.{due, dues}
 use Rattle.protocol.specs.Instant.{LogEntry, find, looked}
 use Rattle.protocol.specs.Answering.{ReadsNothing}
-use Rattle.recording_core.specs.Promise.{past, placed}
+use Rattle.recording_core.specs.Promise.{placed}
 use Rattle.demands.specs.Order.{Happen, EachRead, turned}
 
 -- one event more at the end

@@ -10,14 +10,14 @@ use native.Mathlib.Omega.{arith}
 use borrow.Author.Tests.{eqb-true, ne-eqb, eq-eqb}
 use lib.Dec.{eqb, ltb}
 use Rattle.lists.specs.Lists.{some, count}
-use Rattle.protocol.specs.Event.{Event}
+use Rattle.protocol.specs.Event.{Event, arrival, start, read, finish}
 use Rattle.protocol.specs.Table.{Table, behinds, N}
-use Rattle.protocol.specs.Published.{Boxes}
-use Rattle.protocol.specs.Ranges.{Ranged}
-use Rattle.protocol_state.specs.Saved.{Saved, base, at, table}
+use Rattle.protocol.specs.Schedule.{Policy}
+use Rattle.protocol.specs.Published.{Boxes, Free, Step, Run, fresh, next}
+use Rattle.protocol.proofs.Ranges.{ranged}
+use Rattle.protocol_state.specs.Saved.{Saved, base, table}
 use Rattle.protocol_state.specs.Rules.{joins}
 use Rattle.protocol_state.specs.Sound.{Sound}
-use Rattle.protocol_state.proofs.Rules as rules
 use Rattle.protocol_state.proofs.Places.{count-same}
 use Rattle.demands.specs.Mailboxes.{lessUrgentReaders, Mailboxes}
 
@@ -89,13 +89,30 @@ pub record Apart (T : Table ℕ) : Type 0 where
 -- the table of a sound state
 pub sound-apart : (q : Saved) → Sound ltb base q → Apart (table ltb q)
 sound-apart q S =
-    let ob = rules.obeyed ltb (q .tasks) (at (q .writer)) (at (q .reader)) (at (q .kind)) base (q .links) (S .rules) in
-    record { inside = λ l h. ob l h .reader; single = λ j l i h. ob l h .single j i }
+    record { inside = λ l h. S .rules .each l h .reader; single = λ j l i h. S .rules .each l h .single j i }
 
--- positions and pointers in range are among the mailboxes
-pub ranged-mailboxes : {T : Table ℕ} {h : List (Event ℕ)} {s : Boxes ℕ} → Apart T → Ranged T h s → Mailboxes T h s
+-- nothing is ever put past a task's positions
+run-unused : {T : Table ℕ} {may : Policy ℕ} {s : Boxes ℕ} {h : List (Event ℕ)} → Run T may (Free T) s h → (t p : ℕ) → N T t + 2 < p → s .cell t p ≡ T .default t
+unfolding Step
+run-unused (fresh f) t p l = f .cell t p
+run-unused (next (arrival m) r i A) t p l = A .cell t p ∙ run-unused r t p l
+run-unused (next (start u) r i e) t p l = rw e (run-unused r t p l)
+run-unused (next (read k) r i e) t p l = rw e (run-unused r t p l)
+run-unused {T} {may} (next {s = s} (finish u v) r i F) t p l = F .cell t p ∙ go (eqb t u) (eqb p (s .newest u)) refl refl (ranged T may r .newest u .1) (run-unused r t p l)
+  where
+    go : (b c : Bool) → eqb t u ≡ b → eqb p (s .newest u) ≡ c → s .newest u ≤ N T u + 2 → s .cell t p ≡ T .default t → cond (b && c) v (s .cell t p) ≡ T .default t
+    go true true eb ec high k =
+        let same : t ≡ u = eqb-true t u eb in
+        let low : N T u + 2 < p = rw (← same) l in
+        absurd (omega (arith, eqb-true p (s .newest u) ec))
+    go true false eb ec high k = k
+    go false c eb ec high k = k
+
+-- positions and pointers of a run are among the mailboxes
+pub run-mailboxes : {T : Table ℕ} {may : Policy ℕ} {h : List (Event ℕ)} {s : Boxes ℕ} → Apart T → Run T may (Free T) s h → Mailboxes T h s
 unfolding lessUrgentReaders
-ranged-mailboxes {T} {h} {s} A r =
+run-mailboxes {T} {may} {h} {s} A run =
+    let r = ranged T may run in
     let same : (w : ℕ) → N T w ≡ lessUrgentReaders T w =
     λ w. links-readers (T .ahead) (T .writer) (T .reader) w (T .tasks) (T .links) (A .inside) (A .single) (T .links) (omega arith) in
     record {
@@ -103,4 +120,5 @@ ranged-mailboxes {T} {h} {s} A r =
       previous = λ t l. subst (λ (n : ℕ). (1 ≤ s .previous t) × (s .previous t ≤ n + 2)) (same t) (r .previous t);
       pointer = λ l k. subst (λ (n : ℕ). s .pointer l ≤ n + 2) (same (T .writer l)) (r .pointer l k);
       present = r .present;
+      unused = λ t p l k. run-unused run t p (subst (λ (n : ℕ). n + 2 < p) (sym (same t)) k);
     }

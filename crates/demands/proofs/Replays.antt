@@ -25,7 +25,8 @@ use Rattle.byte_format.specs.Play.{Allowed, finally}
 use Rattle.recording_format.specs.Link.{Link, Links, listed}
 use Rattle.recording_format.specs.Recording.{stateAfter}
 use Rattle.recording_core.specs.Playing.{Playing, coreOf, judgedIn, steppedIn}
-use Rattle.recording_core.specs.Promise.{past, placed, freshTable}
+use Rattle.recording_core.specs.Promise.{placed, freshTable}
+use Rattle.protocol.specs.History.{past}
 use Rattle.recording_core.specs.Right.{Right}
 use Rattle.recording_core.proofs.Right.{both-zero, right-fresh, right-finally}
 use Rattle.mailbox.specs.States.{stateOf, madeOf, given}

@@ -9,15 +9,14 @@ use lib.Dec.{ltb}
 use lib.ListN.{length}
 use Rattle.protocol.specs.Event.{Event, arrival, start, read, finish}
 use Rattle.protocol.specs.Table.{Table, Lawful}
-use Rattle.protocol.specs.History.{Goes, arrivals, finishes, reads}
+use Rattle.protocol.specs.History.{Goes, arrivals, finishes, reads, past}
 use Rattle.protocol.specs.Schedule.{urgent, Possible, AllPossible, judged}
 use Rattle.protocol.specs.ZeroTime.{runOf, had, wanted, due, dues, ideals}
 use Rattle.protocol.specs.Given.{there}
 use Rattle.protocol.specs.Answering.{ReadsNothing}
 use Rattle.protocol.specs.Published.{number}
-use Rattle.protocol.specs.Instant.{upward, zeroRun, find, looked, theres}
+use Rattle.protocol.specs.Instant.{Order, upward, zeroRun, find, looked, theres}
 use Rattle.protocol.proofs.Schedule.{urgent-fair, judged-possible, possible-judged}
-use Rattle.protocol.proofs.Ranges.{ranged}
 use Rattle.protocol.proofs.Theorem.{lowest-only, weaken, finished-then, zero-time, ideals-there, ideals-count}
 use Rattle.protocol.proofs.Unique.{runs-same}
 use Rattle.protocol.proofs.Upward.{upward-order}
@@ -26,18 +25,21 @@ use Rattle.protocol_state.specs.Judge.{judgedOn}
 use Rattle.protocol_state.specs.Give.{Reply}
 use Rattle.protocol_state.proofs.Give.{give-done, give-refusal}
 use Rattle.protocol_state.proofs.Rules.{ltb-ranks}
+use Rattle.protocol_state.proofs.Phases.{active-is, waiting-is, running-is}
 use Rattle.protocol_state.proofs.History.{reached-sound, judged-history, reached-refusal, reached-possible, reached-number}
 use Rattle.protocol_state.proofs.Numbers.{table-lawful, reached-ideals, reached-zero-run}
-use Rattle.recording_core.specs.Promise.{past}
 use Rattle.mailbox.specs.States.{saved}
 use Rattle.mailbox.specs.declared.State.{State}
 use Rattle.mailbox.specs.declared.Step.{Step}
+use Rattle.demands.specs.Station.{mostUrgentFirst}
+use Rattle.demands.specs.Refusals.{byHistory, StandsAlike}
+use Rattle.demands.specs.States.{IsWhole, IsSound, tableIn, standingIn}
 use Rattle.demands.specs.Order.{EachRead, turned}
 use Rattle.demands.specs.Calls.{Gives, Calls, fresh, accepted, refused}
 use Rattle.demands.specs.Mailboxes.{Published}
 use Rattle.demands.specs.Outputs.{Output}
 use Rattle.demands.proofs.Orders.{part-possible, each-more, each-read, each-so, looked-each}
-use Rattle.demands.proofs.Readers.{Apart, sound-apart, ranged-mailboxes}
+use Rattle.demands.proofs.Readers.{Apart, sound-apart, run-mailboxes}
 use Rattle.demands.proofs.Outputs.{due-output}
 use Rattle.demands.proofs.Calls.{Come, comes}
 
@@ -71,13 +73,26 @@ module _ {T : Table ℕ} {es : List (Event ℕ)} {ns : List ℕ} {q : State} (c 
     run = C .reached .run;
     only = λ s r. runs-same T₀ (C .reached .run) r;
     numbers = C .turns ∙ ap turned (C .reached .read);
-    mailboxes = ranged-mailboxes (subst (λ (t : Table ℕ). Apart t) (C .reached .same) (sound-apart (saved q) (C .reached .sound)))
-        (ranged T₀ (urgent T₀) (weaken T₀ (urgent T₀) (lowest-only T₀) (C .reached .run)));
+    mailboxes = run-mailboxes (subst (λ (t : Table ℕ). Apart t) (C .reached .same) (sound-apart (saved q) (C .reached .sound)))
+        (weaken T₀ (urgent T₀) (lowest-only T₀) (C .reached .run));
   }
 
   -- demand 2: the published protocol's
   pub calls-published : Published T es ns q
   calls-published = subst (λ (t : Table ℕ). Published t es ns q) (C .same) published-there
+
+  -- demand 2: the state is sound, of the same table, and its tasks stand as the history says
+  pub calls-there : IsWhole q × IsSound q × (tableIn q ≡ T) × ((t : ℕ) → StandsAlike (standingIn q) (byHistory (past [] es)) t)
+  calls-there = (
+    C .reached .shape,
+    C .reached .sound,
+    C .reached .same ∙ C .same,
+    λ t. let p = C .reached .agrees t in record { active = sym (active-is p); waiting = sym (waiting-is p); running = sym (running-is p) },
+  )
+
+  -- demand 3: the order in which the tasks are taken
+  pub calls-order : Order T (mostUrgentFirst T)
+  calls-order = subst (λ (t : Table ℕ). Order t (mostUrgentFirst t)) (C .same) (upward-order T₀ (λ u t. refl))
 
   -- the numbers are the ideal ones
   pub calls-ideals : ns ≡ turned (ideals T (past [] es))

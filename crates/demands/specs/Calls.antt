@@ -5,6 +5,7 @@ use mathlib.Core.Logic.{_≢_}
 use mathlib.Core.List.{List, [], _∷_, _++_}
 use Prim.Native.Nat.{ℕ}
 use lib.Dec.{ltb}
+use lib.ListN.{drop}
 use Rattle.protocol.specs.Event.{Event, arrival, start, read, finish}
 use Rattle.protocol.specs.Table.{Table}
 use Rattle.protocol_state.specs.Saved.{base}
@@ -23,7 +24,11 @@ Makes T L D W R K m = m ≡ madeOf (made ltb base T L D W R K)
 abbrev pub Gives : State → Event ℕ → Step → Type 0
 Gives q e r = r ≡ given q e
 
--- the number of an accepted read
+-- the part of the recording s that `recording::rest` hands back for the place p
+abbrev pub Rests : List ℕ → ℕ → List ℕ → Type 0
+Rests s p part = part ≡ drop p s
+
+-- the number of an accepted read; no other event gives one
 abbrev pub numbersOf : Event ℕ → Step → List ℕ
 numbersOf (arrival m) r = []
 numbersOf (start t) r = []
@@ -33,7 +38,7 @@ numbersOf (finish t v) r = []
 -- "every sequence of accepted events from a fresh state, refused ones left aside":
 -- of the table T the events es were accepted, the reads among them gave the numbers ns, and the last call handed back q
 pub data Calls : Table ℕ → List (Event ℕ) → List ℕ → State → Type 0 where
-  fresh : (T L : ℕ) (D W R K : List ℕ) (m : Made) → Makes T L D W R K m → m .refusal ≡ 0 → Calls (station (firstTasks T D) (firstLinks L W R K)) [] [] (m .state)
+  fresh : (n l : ℕ) (D W R K : List ℕ) (m : Made) → Makes n l D W R K m → m .refusal ≡ 0 → Calls (station (firstTasks n D) (firstLinks l W R K)) [] [] (m .state)
   accepted : {T : Table ℕ} {es : List (Event ℕ)} {ns : List ℕ} {q : State} → Calls T es ns q →
       (e : Event ℕ) (r : Step) → Gives q e r → r .answer .refusal ≡ 0 → Calls T (es ++ (e ∷ [])) (ns ++ numbersOf e r) (r .state)
   refused : {T : Table ℕ} {es : List (Event ℕ)} {ns : List ℕ} {q : State} → Calls T es ns q →

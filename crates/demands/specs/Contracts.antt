@@ -1,17 +1,11 @@
 -- The contracts in the source: what a call asks, and what its caller learns, which is what the demands take of a call.
 -- Assumes nothing.
-use mathlib.Core.Path.{_≡_}
 use mathlib.Core.Logic.{_↔_}
-use mathlib.Core.Bool.{true}
-use lib.Dec.{ltb}
 use contract.Lifetimes.{Lfts}
 use denote.Ref.{now}
 use denote.Triple.Clauses.{AtExit}
 use borrow.Fn.Kinds.{Dens, resT, endedOf}
 use Rattle.protocol.specs.Event.{arrival, start, read, finish}
-use Rattle.protocol_state.specs.Saved.{base}
-use Rattle.protocol_state.specs.Sound.{isSound}
-use Rattle.mailbox.specs.States.{saved, StaysSound}
 use Rattle.mailbox_parts.specs.Plain.{plain}
 use Rattle.recording_demands.specs.Ensured.{Replays}
 use Rattle.recording.proofs.replay.Kinds as of-replay
@@ -28,11 +22,16 @@ use Rattle.mailbox.proofs.State.finish.Kinds as of-finish
 use Rattle.mailbox.proofs.State.finish.Reads as on-finish
 use Rattle.mailbox.proofs.State.event.Kinds as of-event
 use Rattle.mailbox.proofs.State.event.Reads as on-event
-use Rattle.demands.specs.Calls.{Makes, Gives}
+use Rattle.recording.proofs.rest.Kinds as of-rest
+use Rattle.recording.proofs.rest.Reads as on-rest
+use Rattle.demands.specs.States.{IsSound}
+use Rattle.demands.specs.Calls.{Makes, Gives, Rests}
 
--- no call asks anything of what is lent to it, so it can be made with whatever there is; and a proved function that is called as it asks returns
+-- no call asks anything of what is lent to it, so it can be made with whatever there is (that a proved function which is called as it asks returns is the
+-- kit's: docs/TRUST.md)
 pub record AsksNothing : Type 0 where
   pub replay : (κs : Lfts 2) (lent : Dens κs of-replay.ps) → on-replay.Asked κs lent
+  pub rest : (κs : Lfts 1) (lent : Dens κs of-rest.ps) → on-rest.Asked κs lent
   pub fresh : (κs : Lfts 0) (lent : Dens κs of-fresh.ps) → on-fresh.Asked κs lent
   pub arrival : (κs : Lfts 0) (lent : Dens κs of-arrival.ps) → on-arrival.Asked κs lent
   pub start : (κs : Lfts 0) (lent : Dens κs of-start.ps) → on-start.Asked κs lent
@@ -44,15 +43,17 @@ pub record AsksNothing : Type 0 where
 pub record Tells : Type 0 where
   pub replay : (κs : Lfts 2) (lent : Dens κs of-replay.ps) (a : resT of-replay.r κs .Denot) (left : AtExit (endedOf 2 of-replay.ps of-replay.r) κs) →
       on-replay.Learnt κs lent a left ↔ Replays (now (lent .0)) (now (lent .1 .0)) a (now (left .1 .0))
+  pub rest : (κs : Lfts 1) (lent : Dens κs of-rest.ps) (part : resT of-rest.r κs .Denot) (left : AtExit (endedOf 1 of-rest.ps of-rest.r) κs) →
+      on-rest.Learnt κs lent part left ↔ Rests (now (lent .0)) (lent .1 .0) (now part)
   pub fresh : (κs : Lfts 0) (lent : Dens κs of-fresh.ps) (m : resT of-fresh.r κs .Denot) (left : AtExit (endedOf 0 of-fresh.ps of-fresh.r) κs) →
-      on-fresh.Learnt κs lent m left ↔ (Makes (lent .0) (lent .1 .0) (lent .1 .1 .0) (lent .1 .1 .1 .0) (lent .1 .1 .1 .1 .0) (lent .1 .1 .1 .1 .1 .0) m × (isSound ltb base (saved (m .state)) ≡ true))
+      on-fresh.Learnt κs lent m left ↔ (Makes (lent .0) (lent .1 .0) (lent .1 .1 .0) (lent .1 .1 .1 .0) (lent .1 .1 .1 .1 .0) (lent .1 .1 .1 .1 .1 .0) m × IsSound (m .state))
   pub arrival : (κs : Lfts 0) (lent : Dens κs of-arrival.ps) (r : resT of-arrival.r κs .Denot) (left : AtExit (endedOf 0 of-arrival.ps of-arrival.r) κs) →
-      on-arrival.Learnt κs lent r left ↔ (Gives (lent .0) (arrival (lent .1 .0)) r × StaysSound (lent .0) r)
+      on-arrival.Learnt κs lent r left ↔ (Gives (lent .0) (arrival (lent .1 .0)) r × (IsSound (lent .0) → IsSound (r .state)))
   pub start : (κs : Lfts 0) (lent : Dens κs of-start.ps) (r : resT of-start.r κs .Denot) (left : AtExit (endedOf 0 of-start.ps of-start.r) κs) →
-      on-start.Learnt κs lent r left ↔ (Gives (lent .0) (start (lent .1 .0)) r × StaysSound (lent .0) r)
+      on-start.Learnt κs lent r left ↔ (Gives (lent .0) (start (lent .1 .0)) r × (IsSound (lent .0) → IsSound (r .state)))
   pub read : (κs : Lfts 0) (lent : Dens κs of-read.ps) (r : resT of-read.r κs .Denot) (left : AtExit (endedOf 0 of-read.ps of-read.r) κs) →
-      on-read.Learnt κs lent r left ↔ (Gives (lent .0) (read (lent .1 .0)) r × StaysSound (lent .0) r)
+      on-read.Learnt κs lent r left ↔ (Gives (lent .0) (read (lent .1 .0)) r × (IsSound (lent .0) → IsSound (r .state)))
   pub finish : (κs : Lfts 0) (lent : Dens κs of-finish.ps) (r : resT of-finish.r κs .Denot) (left : AtExit (endedOf 0 of-finish.ps of-finish.r) κs) →
-      on-finish.Learnt κs lent r left ↔ (Gives (lent .0) (finish (lent .1 .0) (lent .1 .1 .0)) r × StaysSound (lent .0) r)
+      on-finish.Learnt κs lent r left ↔ (Gives (lent .0) (finish (lent .1 .0) (lent .1 .1 .0)) r × (IsSound (lent .0) → IsSound (r .state)))
   pub event : (κs : Lfts 0) (lent : Dens κs of-event.ps) (r : resT of-event.r κs .Denot) (left : AtExit (endedOf 0 of-event.ps of-event.r) κs) →
-      on-event.Learnt κs lent r left ↔ (Gives (lent .0) (plain (lent .1 .0)) r × StaysSound (lent .0) r)
+      on-event.Learnt κs lent r left ↔ (Gives (lent .0) (plain (lent .1 .0)) r × (IsSound (lent .0) → IsSound (r .state)))

@@ -1,24 +1,26 @@
 -- The three demands, a field for each sentence, over what the contracts of `mailbox` and `recording` ensure: `Makes`, `Gives` and `Replays` are what a caller
--- learns of a call (`Tells`), and beside soundness no more. Here a reader begins; proofs/Demands.antt has `demand-1`, `demand-2` and `demand-3`.
+-- learns of a call (`Tells`), and beside soundness no more. Here a reader begins; proofs/Demands.antt has `demand-1`, `demand-2`, `demand-3`, and
+-- `whole-recordings` for what document 01 says besides.
 -- Assumes nothing.
 use mathlib.Core.Path.{_≡_}
-use mathlib.Core.Logic.{_≢_, _↔_}
+use mathlib.Core.Logic.{_≢_, _⊎_, _↔_}
 use mathlib.Core.Bool.{true, false}
 use mathlib.Core.List.{List, [], _∷_, _++_}
 use Prim.Native.Nat.{ℕ, pred, _+_, _≤_, _<_}
-use lib.ListN.{length, take, drop, getD}
+use lib.ListN.{length, take, getD}
 use Rattle.lists.specs.Lists.{count}
 use Rattle.protocol.specs.Event.{Event, read}
 use Rattle.protocol.specs.Table.{Table}
-use Rattle.protocol.specs.History.{arrivals, finishes}
+use Rattle.protocol.specs.History.{arrivals, finishes, past}
 use Rattle.protocol.specs.Schedule.{urgent, Possible}
 use Rattle.protocol.specs.Published.{Lowest}
 use Rattle.protocol.specs.Published as published
 use Rattle.protocol.specs.ZeroTime.{runOf, had}
 use Rattle.protocol.specs.Given.{there}
-use Rattle.protocol.specs.Instant.{zeroRun, find}
+use Rattle.protocol.specs.Instant.{Order, zeroRun, find}
+use Rattle.protocol.specs.Answering.{ReadsNothing}
+use Rattle.byte_format.specs.Number.{Bytes}
 use Rattle.recording_format.specs.Link.{Link, linkAt}
-use Rattle.recording_core.specs.Promise.{past}
 use Rattle.mailbox.specs.declared.State.{State}
 use Rattle.mailbox.specs.declared.Step.{Step}
 use Rattle.mailbox.specs.declared.Made.{Made}
@@ -26,11 +28,11 @@ use Rattle.recording.specs.declared.Answer.{Answer}
 use Rattle.recording_demands.specs.Ensured.{Replays}
 use Rattle.recording_demands.specs.Rest.{Unread}
 use Rattle.demands.specs.Station.{station, mostUrgentFirst, Keeps, firstTasks, firstLinks}
-use Rattle.demands.specs.Refusals.{Earns, TableEarns, LinkBreaks, EventBreaks, byHistory}
-use Rattle.demands.specs.States.{IsSound, IsWhole, tableIn, boxesIn, activeIn, standingIn}
+use Rattle.demands.specs.Refusals.{Earns, TableEarns, LinkBreaks, byHistory, StandsAlike, EventBreaks}
+use Rattle.demands.specs.States.{IsSound, IsWhole, tableIn, boxesIn, standingIn}
 use Rattle.demands.specs.Order.{EachRead}
-use Rattle.demands.specs.Calls.{Makes, Gives, Calls}
-use Rattle.demands.specs.Recordings.{recordingBytes, eventBytes, throughCount, Genuine, LinksBegun, EventsBegun, KindOf, fourCounts, Listed, AtEvents, Explained}
+use Rattle.demands.specs.Calls.{Makes, Gives, Rests, Calls}
+use Rattle.demands.specs.Recordings.{recordingBytes, eventBytes, throughCount, Genuine, LinksBegun, EventsBegun, KindOf, fourCounts, Listed, AtTable, AtEvents, Explained}
 use Rattle.demands.specs.Mailboxes.{Published}
 use Rattle.demands.specs.Outputs.{Output}
 use Rattle.demands.specs.Contracts.{AsksNothing, Tells}
@@ -47,7 +49,7 @@ pub record Demand1 : Type 0 where
   pub tells : Tells
   -- "Nothing unknown ever becomes a default.": a state that is not sound, whatever is wrong in it, is answered 19;
   pub unknown-state : (q : State) (e : Event ℕ) (r : Step) → Gives q e r → (IsSound q → ⊥) → r ≡ asLent q 19
-  -- a byte that is no kind of event, where an event is due, 11 at its place;
+  -- a byte that is no kind of event, where an event is due after a table and events that are accepted, 11 at its place;
   pub unknown-event : {s out list ds : List ℕ} {a : Answer} {ls : List Link} {es : List (Event ℕ)} {E p : ℕ} → Replays s out a list →
       Genuine (recordingBytes ds ls es) out ds ls es → EventsBegun s ds ls E es p → length es < E → p < length s → ((n : ℕ) → KindOf (getD s p 0) n → ⊥) →
       (a .refusal ≡ 11) × (a .place ≡ p)
@@ -61,8 +63,13 @@ pub record Demand1 : Type 0 where
       (n : ℕ) → (r .answer .refusal ≡ n) ↔ Earns (EventBreaks (tableIn q) (standingIn q) e) n
   pub number-there : {T : Table ℕ} {es : List (Event ℕ)} {ns : List ℕ} {q : State} → Calls T es ns q → (e : Event ℕ) (r : Step) → Gives q e r →
       (n : ℕ) → (r .answer .refusal ≡ n) ↔ Earns (EventBreaks T (byHistory (past [] es)) e) n
+  -- a table that is refused makes the state of a single task with default 0 and no links
+  pub table-refused : (T L : ℕ) (D W R K : List ℕ) (m : Made) → Makes T L D W R K m → m .refusal ≢ 0 → Makes 1 0 (0 ∷ []) [] [] [] (record { refusal = 0; state = m .state })
+  -- "An accepted arrival, start or finish gives the value 0 too."
+  pub silent : (q : State) (e : Event ℕ) (r : Step) → Gives q e r → ReadsNothing e → r .answer .value ≡ 0
   -- "in a recording its place too": every answer is that of the first fault of the bytes, or of there being none; and no other answer is
   pub place : {s out list : List ℕ} {a : Answer} → Replays s out a list → Explained s out a list
+  pub told : {s out list : List ℕ} {a : Answer} → Bytes s → Explained s out a list → Replays s out a list
   pub only : {s out list list′ : List ℕ} {a a′ : Answer} → Explained s out a list → Explained s out a′ list′ → (a ≡ a′) × (list ≡ list′)
   -- "and a refused event changes nothing.": given alone it hands back the state as lent, and no number; in a recording the state, the counts and the list
   -- are those of the events that were accepted before it (`place`)
@@ -85,9 +92,13 @@ pub record Demand2 : Type 0 where
   -- "Every pointer, mailbox and number read is then the one that the published protocol gives, with at most two mailboxes more than a writer has less urgent
   -- readers.": after any calls, hence after a recording's and after calls that follow it
   pub protocol : {T : Table ℕ} {es : List (Event ℕ)} {ns : List ℕ} {q : State} → Calls T es ns q → Published T es ns q
-  -- and of any sound state, wherever it came from, an accepted event makes what the protocol's step makes of it, and a read gives the protocol's number
+  -- the state is then a sound one of the same table, in which the tasks stand as the accepted events say
+  pub there : {T : Table ℕ} {es : List (Event ℕ)} {ns : List ℕ} {q : State} → Calls T es ns q →
+      IsWhole q × IsSound q × (tableIn q ≡ T) × ((t : ℕ) → StandsAlike (standingIn q) (byHistory (past [] es)) t)
+  -- and of any sound state, wherever it came from, an accepted event makes what the protocol's step makes of it, of the same table, and a read gives the
+  -- protocol's number
   pub any-state : (q : State) (e : Event ℕ) (r : Step) → Gives q e r → IsWhole q → IsSound q → r .answer .refusal ≡ 0 →
-      published.Step (tableIn q) (Lowest (tableIn q)) e (boxesIn q) (boxesIn (r .state)) × (IsWhole (r .state) × IsSound (r .state))
+      published.Step (tableIn q) (Lowest (tableIn q)) e (boxesIn q) (boxesIn (r .state)) × (tableIn (r .state) ≡ tableIn q) × (IsWhole (r .state) × IsSound (r .state))
   pub any-number : (q : State) (l : ℕ) (r : Step) → Gives q (read l) r → IsWhole q → IsSound q → r .answer .refusal ≡ 0 →
       r .answer .value ≡ published.number (tableIn q) (boxesIn q) l
   -- an accepted recording is a sequence of calls in which all its events were accepted; its list is their numbers and the untouched rest
@@ -99,10 +110,14 @@ pub record Demand2 : Type 0 where
 -- ---- demand 3
 
 pub record Demand3 : Type 0 where
-  -- "For every sequence of accepted events from a fresh state, refused ones left aside": T, es, ns and q are below those of any calls, and every recording is
-  -- such a sequence, with the numbers first in the list; further calls may follow
-  pub recordings : {s out list : List ℕ} {a : Answer} → Replays s out a list → Explained s out a list
-  -- "each number read is the one from a run where tasks take no time: at each arrival all arrived tasks run whole, most urgent first."
+  -- "For every sequence of accepted events from a fresh state, refused ones left aside": T, es, ns and q are below those of any calls. A recording that is
+  -- refused in its table reads nothing; every other is such a sequence, with its numbers first in the list, and further calls may follow
+  pub recordings : {s out list : List ℕ} {a : Answer} → Replays s out a list →
+      AtTable s out a list ⊎ ((T : Table ℕ) × (es : List (Event ℕ)) × (ns : List ℕ) × Calls T es ns (a .state) × Listed ns out list)
+  -- "each number read is the one from a run where tasks take no time: at each arrival all arrived tasks run whole, most urgent first.": the
+  -- number is what the reader's run, whose number is that of its arrivals, reads by the link in that run, with the outputs of the whole sequence; a run that
+  -- does not finish in it has no output
+  pub order : {T : Table ℕ} {es : List (Event ℕ)} {ns : List ℕ} {q : State} → Calls T es ns q → Order T (mostUrgentFirst T)
   pub no-time : {T : Table ℕ} {es : List (Event ℕ)} {ns : List ℕ} {q : State} → Calls T es ns q →
       EachRead (λ h l n. find l (arrivals h (T .reader l)) (zeroRun T (mostUrgentFirst T) (past [] es)) ≡ there n) [] es ns
   -- "A direct link gives the output of the writer's last arrival up to and including the reader's own;"
@@ -111,7 +126,7 @@ pub record Demand3 : Type 0 where
   -- "a delayed link the one before it;" ("where there was none, the writer's default": `Output`)
   pub delayed : {T : Table ℕ} {es : List (Event ℕ)} {ns : List ℕ} {q : State} → Calls T es ns q →
       EachRead (λ h l n. T .delayed l ≡ true → Output T h (T .writer l) (pred (had T h l)) n) [] es ns
-  -- "The output of an unfinished run is never read.": of the writer's runs so many had finished before the read
+  -- "The output of an unfinished run is never read.": before the read at least as many of the writer's runs had finished as the number of the run that is read
   pub finished : {T : Table ℕ} {es : List (Event ℕ)} {ns : List ℕ} {q : State} → Calls T es ns q →
       EachRead (λ h l n. runOf (T .delayed l) (had T h l) ≤ finishes h (T .writer l)) [] es ns
 
@@ -134,7 +149,7 @@ pub record CutShort (out ds : List ℕ) (ls : List Link) (es : List (Event ℕ))
 
 pub record WholeRecordings : Type 0 where
   -- "In every answer with a table, arrivals counted task by task equal finishes plus tasks still active."
-  pub totals : {s out list : List ℕ} {a : Answer} (x : AtEvents s out a list) → a .arrivals ≡ a .finishes + count (activeIn (a .state)) (length (x .ds))
+  pub totals : {s out list : List ℕ} {a : Answer} (x : AtEvents s out a list) → a .arrivals ≡ a .finishes + count (standingIn (a .state) .active) (length (x .ds))
   -- "A power cut"
   pub power-cut : {s out after ds : List ℕ} {ls : List Link} {es : List (Event ℕ)} {b : Answer} {m : ℕ} → Genuine s out ds ls es →
       Replays (take m s) out b after → throughCount ds ls ≤ m → m < length s → CutShort out ds ls es m b after
@@ -142,7 +157,9 @@ pub record WholeRecordings : Type 0 where
   pub nothing-lost : {s out list after ds : List ℕ} {ls : List Link} {es : List (Event ℕ)} {a b : Answer} {m : ℕ} → Genuine s out ds ls es →
       Replays s out a list → Replays (take m s) out b after → length s ≤ m → (b .refusal ≡ 0) × (b ≡ a) × (after ≡ list)
   -- "On refusal the caller also gets the unread rest, from the place of the refusal to the end, as that part of the lent recording; after acceptance that part
-  -- is empty.": `recording::rest` with the place of the answer gives this part (recording_demands/proofs/Rest `rest-unread`)
-  pub rest : {s out list : List ℕ} {a : Answer} → Replays s out a list → Unread s (a .refusal) (a .place) (drop (a .place) s)
+  -- is empty.": what `recording::rest` hands back for the place of the answer
+  pub rest : {s out list part : List ℕ} {a : Answer} → Replays s out a list → Rests s (a .place) part → Unread s (a .refusal) (a .place) part
+  -- "A whole recording has at most 60,164 bytes"
+  pub longest : {s out ds : List ℕ} {ls : List Link} {es : List (Event ℕ)} → Genuine s out ds ls es → length s ≤ 60164
   -- the two clauses of the replay allow one answer to the same bytes and list
   pub one-answer : {s out list list′ : List ℕ} {a a′ : Answer} → Replays s out a list → Replays s out a′ list′ → (a ≡ a′) × (list ≡ list′)

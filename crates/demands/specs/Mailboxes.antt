@@ -8,11 +8,10 @@ use lib.Dec.{eqb}
 use Rattle.lists.specs.Lists.{some, count}
 use Rattle.protocol.specs.Event.{Event}
 use Rattle.protocol.specs.Table.{Table}
-use Rattle.protocol.specs.History.{active}
+use Rattle.protocol.specs.History.{active, past}
 use Rattle.protocol.specs.Schedule.{urgent}
 use Rattle.protocol.specs.Published.{Boxes, Same, Lowest, Run}
 use Rattle.protocol.specs.Published as published
-use Rattle.recording_core.specs.Promise.{past}
 use Rattle.mailbox.specs.declared.State.{State}
 use Rattle.demands.specs.States.{boxesIn}
 use Rattle.demands.specs.Order.{turned}
@@ -25,13 +24,14 @@ readsFrom T w r = some (λ l. eqb (T .writer l) w && eqb (T .reader l) r) (T .li
 unfoldable pub lessUrgentReaders : Table ℕ → ℕ → ℕ
 lessUrgentReaders T w = count (λ r. T .ahead w r && readsFrom T w r) (T .tasks)
 
--- "at most two mailboxes more than a writer has less urgent readers": after the history h every position and every pointer is one of them; 0 is an absent
--- pointer, and no active reader has one
+-- "at most two mailboxes more than a writer has less urgent readers": after the history h newest, previous and every pointer are among them, and nothing was
+-- ever put past them; 0 is an absent pointer, and no active reader has one
 pub record Mailboxes (T : Table ℕ) (h : List (Event ℕ)) (s : Boxes ℕ) : Type 0 where
   pub newest : (t : ℕ) → t < T .tasks → (1 ≤ s .newest t) × (s .newest t ≤ lessUrgentReaders T t + 2)
   pub previous : (t : ℕ) → t < T .tasks → (1 ≤ s .previous t) × (s .previous t ≤ lessUrgentReaders T t + 2)
   pub pointer : (l : ℕ) → l < T .links → s .pointer l ≤ lessUrgentReaders T (T .writer l) + 2
   pub present : (l : ℕ) → l < T .links → active h (T .reader l) ≡ true → 1 ≤ s .pointer l
+  pub unused : (t p : ℕ) → t < T .tasks → lessUrgentReaders T t + 2 < p → s .cell t p ≡ T .default t
 
 -- state q and numbers ns are what the published protocol gives for the events es
 pub record Published (T : Table ℕ) (es : List (Event ℕ)) (ns : List ℕ) (q : State) : Type 0 where

@@ -7,7 +7,7 @@ use Prim.Native.Nat.{ℕ, _+_, _≤_, _<_}
 use lib.ListN.{length, drop, getD}
 use Rattle.protocol.specs.Event.{Event}
 use Rattle.protocol.specs.Table.{Table}
-use Rattle.protocol.specs.History.{Counts, counts, reads}
+use Rattle.protocol.specs.History.{Counts, counts, reads, past}
 use Rattle.byte_format.specs.Number.{bytesOf, numberAt}
 use Rattle.byte_format.specs.Stands.{Stands}
 use Rattle.byte_format.specs.Format.{FitEach, encodes, encodeSection}
@@ -15,7 +15,6 @@ use Rattle.recording_format.specs.Task.{tasks}
 use Rattle.recording_format.specs.Link.{Link, links, linkAt}
 use Rattle.recording_format.specs.Event.{events, encodeEvent, EventFits}
 use Rattle.recording_format.specs.Recording.{encodeRecording, throughE}
-use Rattle.recording_core.specs.Promise.{past}
 use Rattle.recording.specs.declared.Answer.{Answer}
 use Rattle.demands.specs.Station.{station, Keeps}
 use Rattle.demands.specs.Order.{Happen}
@@ -32,7 +31,7 @@ eventBytes es = encodes events es
 abbrev pub throughCount : List ℕ → List Link → ℕ
 throughCount ds ls = throughE ds ls
 
--- the bytes s are the tasks ds, the links ls and the events es, within every limit, and could happen
+-- the bytes s are the tasks ds, the links ls and the events es, within every limit, with room for the numbers of its reads in the lent list out, and could happen
 pub record Genuine (s out : List ℕ) (ds : List ℕ) (ls : List Link) (es : List (Event ℕ)) : Type 0 where
   -- "its links obey the published rules"
   pub keeps : Keeps ds ls

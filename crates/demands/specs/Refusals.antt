@@ -1,4 +1,5 @@
--- The refusals of links, tables and events, one case for each line of document 01's table, in its words; and which of those that fit is given.
+-- Refusals 2 to 9, 12 to 16 and 18, of links, tables and events: one case for each line of document 01's table, in its words; and which of those that fit is
+-- given. (1, 10, 11 and 17 are the bytes': Recordings. 19 is a state that is not sound.)
 -- Assumes nothing.
 use mathlib.Core.Path.{_≡_}
 use mathlib.Core.Logic.{_≢_, _⊎_}
@@ -54,9 +55,15 @@ pub record Standing : Type 0 where
   pub waiting : ℕ → Bool
   pub running : ℕ → Bool
 
--- "By history: active when its accepted arrivals outnumber its accepted finishes"
+-- "By history: active when its accepted arrivals outnumber its accepted finishes"; waiting is "arrived, not started", running "started, not finished"
 abbrev pub byHistory : List (Event ℕ) → Standing
 byHistory h = record { active = history.active h; waiting = history.waiting h; running = history.running h }
+
+-- task t stands alike in both
+pub record StandsAlike (a b : Standing) (t : ℕ) : Type 0 where
+  pub active : a .active t ≡ b .active t
+  pub waiting : a .waiting t ≡ b .waiting t
+  pub running : a .running t ≡ b .running t
 
 pub data EventBreaks (T : Table ℕ) (stands : Standing) : Event ℕ → ℕ → Type 0 where
   -- 12: "an empty arrival set, or a task or link not in the table"

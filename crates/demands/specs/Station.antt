@@ -37,11 +37,11 @@ station ds ls = record {
   ahead = ahead ds;
 }
 
--- "most urgent first": the order in which the run where tasks take no time takes the tasks
+-- "most urgent first": the order in which the run where tasks take no time takes the tasks (that it is: demand 3's `order`)
 abbrev pub mostUrgentFirst : Table ℕ → List ℕ
 mostUrgentFirst T = upward 0 (T .tasks)
 
--- "its links obey the published rules": 1 to 16 tasks, at most 32 links, and each obeys rules 4 to 9
+-- "its links obey the published rules", each of them rules 4 to 9; and there are 1 to 16 tasks and at most 32 links
 pub record Keeps (ds : List ℕ) (ls : List Link) : Type 0 where
   pub tasks : (1 ≤ length ds) × (length ds ≤ 16)
   pub links : length ls ≤ 32

@@ -101,3 +101,8 @@ module _ {Val : Type 0} where
   -- those of a history
   abbrev pub counts : Table Val → List (Event Val) → Counts
   counts T h = record { arrivals = sum (arrivals h) (T .tasks); starts = sum (starts h) (T .tasks); reads = reads h; finishes = sum (finishes h) (T .tasks) }
+
+  -- the history after these events, given in the order in which they happened, which came after the history h
+  unfoldable pub past : List (Event Val) → List (Event Val) → List (Event Val)
+  past h [] = h
+  past h (e ∷ es) = past (e ∷ h) es

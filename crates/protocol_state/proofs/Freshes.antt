@@ -99,8 +99,9 @@ module _ (size : Size) (T L : ℕ) (D W R K : List ℕ) where
     pub fresh-sound : Sound ahead size (freshOf size T L D W R K)
     unfolding freshOf
     fresh-sound = record {
-      rules = judged-same ahead T L (at (copied (size .links) L W)) (at W) (at (copied (size .links) L R)) (at R) (at (copied (size .links) L K)) (at K)
-          (copied-at (size .links) L W (fits .1)) (copied-at (size .links) L R (fits .1)) (copied-at (size .links) L K (fits .1)) size ∙ ok;
+      rules = rules.judged-keeps ahead T (at (copied (size .links) L W)) (at (copied (size .links) L R)) (at (copied (size .links) L K)) size L
+          (judged-same ahead T L (at (copied (size .links) L W)) (at W) (at (copied (size .links) L R)) (at R) (at (copied (size .links) L K)) (at K)
+          (copied-at (size .links) L W (fits .1)) (copied-at (size .links) L R (fits .1)) (copied-at (size .links) L K (fits .1)) size ∙ ok);
       phase = λ t l. omega (arith, zeros (size .tasks) t);
       newest = λ t l. omega (arith, replicated (size .tasks) 1 t (omega (arith, fits .0)));
       previous = λ t l. omega (arith, replicated (size .tasks) 1 t (omega (arith, fits .0)));

@@ -38,15 +38,16 @@ table-same ahead q (finish t v) = refl
 module _ {ahead : ℕ → ℕ → Bool} {size : Size} (q : Saved) (G : Sound ahead size q) where
   -- each link of a sound state obeys the rules
   pub obeys : (l : ℕ) → l < q .links → Obeys ahead (q .tasks) (at (q .writer)) (at (q .reader)) (at (q .kind)) l
-  obeys = rules.obeyed ahead (q .tasks) (at (q .writer)) (at (q .reader)) (at (q .kind)) size (q .links) (G .rules)
+  obeys = G .rules .each
 
   -- there is room for its counts
   pub room : (q .tasks ≤ size .tasks) × (q .links ≤ size .links)
-  room = rules.room ahead (q .tasks) (at (q .writer)) (at (q .reader)) (at (q .kind)) size (q .links) (G .rules)
+  room = (G .rules .tasks .1, G .rules .links)
 
   -- and no task has more than 8 links to readers behind
   pub few : (t : ℕ) → N (table ahead q) t ≤ 8
-  few = rules.few ahead (q .tasks) (at (q .writer)) (at (q .reader)) (at (q .kind)) size (q .links) (G .rules)
+  few = rules.few ahead (q .tasks) (at (q .writer)) (at (q .reader)) (at (q .kind)) size (q .links)
+      (rules.keeps-judged ahead (q .tasks) (at (q .writer)) (at (q .reader)) (at (q .kind)) size (q .links) (G .rules))
 
   module _ (S : Shape size q) where
     -- ---- an arrival

@@ -13,17 +13,18 @@ use Rattle.protocol.specs.Instant.{Order, zeroRun, looked, theres}
 use Rattle.protocol.proofs.Schedule.{urgent-fair}
 use Rattle.protocol.proofs.Theorem.{lowest-only, numbers-ideal, settled, ideals-count}
 use Rattle.protocol.proofs.ZeroRun.{ideals-read}
-use Rattle.protocol_state.specs.Saved.{Size, Saved, table}
+use Rattle.protocol_state.specs.Saved.{Size, Saved, at, table}
 use Rattle.protocol_state.specs.Rules.{Ranks}
 use Rattle.protocol_state.specs.Give.{Progress}
-use Rattle.protocol_state.proofs.Rules.{lawful}
+use Rattle.protocol_state.proofs.Rules.{lawful, keeps-judged}
 use Rattle.protocol_state.proofs.History.{reached-possible}
 use Rattle.protocol_state.specs.Reached.{Reached}
 
 module _ {ahead : ℕ → ℕ → Bool} (ranks : Ranks ahead) {size : Size} {q₀ : Saved} {o : Progress} (r : Reached ahead size q₀ o) where
   -- the table keeps the rules that demand 3 rests on
   pub table-lawful : Lawful (table ahead q₀)
-  table-lawful = subst (λ (T : Table ℕ). Lawful T) (r .same) (lawful ranks size (o .state) (r .sound .rules))
+  table-lawful = subst (λ (T : Table ℕ). Lawful T) (r .same) (lawful ranks size (o .state)
+      (keeps-judged ahead (o .state .tasks) (at (o .state .writer)) (at (o .state .reader)) (at (o .state .kind)) size (o .state .links) (r .sound .rules)))
 
   -- the numbers read are the closed form's
   pub reached-ideals : o .numbers ≡ ideals (table ahead q₀) (o .history)

@@ -67,13 +67,13 @@ active-is (waiting {n}) = lt-ltb n (suc n) (omega arith)
 active-is (running {n}) = lt-ltb n (suc n) (omega arith)
 
 -- waiting by the history exactly in phase 1
-waiting-is : {p a s f : ℕ} → InPhase p a s f → ltb s a ≡ eqb p 1
+pub waiting-is : {p a s f : ℕ} → InPhase p a s f → ltb s a ≡ eqb p 1
 waiting-is (idle {n}) = le-ltb n n (omega arith)
 waiting-is (waiting {n}) = lt-ltb n (suc n) (omega arith)
 waiting-is (running {n}) = le-ltb (suc n) (suc n) (omega arith)
 
 -- running by the history exactly in phase 2
-running-is : {p a s f : ℕ} → InPhase p a s f → ltb f s ≡ eqb p 2
+pub running-is : {p a s f : ℕ} → InPhase p a s f → ltb f s ≡ eqb p 2
 running-is (idle {n}) = le-ltb n n (omega arith)
 running-is (waiting {n}) = le-ltb n n (omega arith)
 running-is (running {n}) = lt-ltb n (suc n) (omega arith)

@@ -12,7 +12,7 @@ use Rattle.lists.proofs.Bools.{and-left, and-right, and-not, and-if, or-left, o
 use Rattle.lists.proofs.Lists.{some-not, some-of-none, leading-zero}
 use Rattle.protocol.specs.Table.{Lawful, toBehind, behinds}
 use Rattle.protocol_state.specs.Saved.{Size, Saved, at, table}
-use Rattle.protocol_state.specs.Rules.{Ranks, joins, faultAfter, fault, Obeys, judgedTable}
+use Rattle.protocol_state.specs.Rules.{Ranks, joins, faultAfter, fault, Obeys, judgedTable, KeepsRules}
 use Rattle.protocol_state.proofs.Places.{some-same, count-same, leading-none-other}
 
 -- the earlier task is ahead: fixed priorities are an order of tasks
@@ -108,6 +108,16 @@ module _ (ahead : ℕ → ℕ → Bool) (T : ℕ) (W R K : ℕ → ℕ) where
       -- no task has more than 8 links to readers behind
       pub few : (t : ℕ) → behinds ahead W R t L ≤ 8
       few t = few-first t L (omega arith)
+
+-- a table is judged 0 exactly when it keeps the rules
+module _ (ahead : ℕ → ℕ → Bool) (T : ℕ) (W R K : ℕ → ℕ) (size : Size) (L : ℕ) where
+  pub judged-keeps : judgedTable ahead T W R K size L ≡ 0 → KeepsRules ahead T W R K size L
+  judged-keeps ok =
+      let n = counts ahead T W R K size L ok in
+      record { tasks = (n .0, n .1); links = n .2; each = obeyed ahead T W R K size L ok }
+
+  pub keeps-judged : KeepsRules ahead T W R K size L → judgedTable ahead T W R K size L ≡ 0
+  keeps-judged k = no-refusal ahead T W R K size L (k .tasks .0) (k .tasks .1) (k .links) (k .each)
 
 -- the table of a state that earns no refusal is lawful
 pub lawful : {ahead : ℕ → ℕ → Bool} → Ranks ahead → (size : Size) (q : Saved)

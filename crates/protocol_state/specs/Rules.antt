@@ -52,3 +52,9 @@ module _ (ahead : ℕ → ℕ → Bool) where
     -- the refusal that a whole table earns: its counts (2, 3), then the first link at fault
     unfoldable pub judgedTable : Size → ℕ → ℕ
     judgedTable size L = cond (eqb T 0 || ltb (size .tasks) T) 2 (cond (ltb (size .links) L) 3 (leading fault L))
+
+    -- a table that keeps rules 2 to 9: its counts are within the room, and each link obeys
+    pub record KeepsRules (size : Size) (L : ℕ) : Type 0 where
+      pub tasks : (1 ≤ T) × (T ≤ size .tasks)
+      pub links : L ≤ size .links
+      pub each : (l : ℕ) → l < L → Obeys l

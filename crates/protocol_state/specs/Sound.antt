@@ -8,7 +8,7 @@ use Rattle.lists.specs.Lists.{every}
 use Rattle.protocol.specs.Table.{behinds, N}
 use Rattle.protocol.specs.Ranges.{Position}
 use Rattle.protocol_state.specs.Saved.{Size, Saved, at, table, oneTo}
-use Rattle.protocol_state.specs.Rules.{judgedTable}
+use Rattle.protocol_state.specs.Rules.{judgedTable, KeepsRules}
 
 -- y is one of N + 2 positions
 abbrev pub within : ℕ → ℕ → Bool
@@ -45,7 +45,7 @@ module _ (ahead : ℕ → ℕ → Bool) where
   -- no pointer of an active reader is absent, and every pointer from a writer ahead of an idle reader is absent. `phase` says besides that a saved
   -- number is one of the three phases: the document knows no other
   pub record Sound (size : Size) (q : Saved) : Type 0 where
-    pub rules : judgedTable ahead (q .tasks) (at (q .writer)) (at (q .reader)) (at (q .kind)) size (q .links) ≡ 0
+    pub rules : KeepsRules ahead (q .tasks) (at (q .writer)) (at (q .reader)) (at (q .kind)) size (q .links)
     pub phase : (t : ℕ) → t < q .tasks → at (q .phase) t < 3
     pub newest : (t : ℕ) → t < q .tasks → Position (table ahead q) t (at (q .newest) t)
     pub previous : (t : ℕ) → t < q .tasks → Position (table ahead q) t (at (q .previous) t)

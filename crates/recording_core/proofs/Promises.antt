@@ -31,7 +31,8 @@ use Rattle.recording_format.proofs.Cuts.{recorded-cut}
 use Rattle.recording_format.proofs.WholeRecords.{cut-as-whole}
 use Rattle.recording_format.proofs.Onward.{any-allowed}
 use Rattle.recording_core.specs.Playing.{Playing, coreOf, judgedIn, steppedIn}
-use Rattle.recording_core.specs.Promise.{past, freshTable, refusedBy, tableOf, CoreGenuine}
+use Rattle.recording_core.specs.Promise.{freshTable, refusedBy, tableOf, CoreGenuine}
+use Rattle.protocol.specs.History.{past}
 use Rattle.recording_core.specs.Right.{Right, WithTable}
 use Rattle.recording_core.proofs.Right.{refused-by, right-fresh, right-finally, happens-allowed}
 

@@ -12,7 +12,7 @@ use Rattle.lists.proofs.Bools.{cond-zero}
 use Rattle.protocol.specs.Given.{values}
 use Rattle.protocol.specs.Event.{Event, arrival, start, read, finish}
 use Rattle.protocol.specs.Table.{Table}
-use Rattle.protocol.specs.History.{Counts, reads}
+use Rattle.protocol.specs.History.{Counts, reads, past}
 use Rattle.protocol.specs.Schedule.{Policy, urgent, Possible, AllPossible, judged}
 use Rattle.protocol.specs.ZeroTime.{dues, ideals}
 use Rattle.protocol.proofs.Schedule.{judged-possible, possible-judged}
@@ -28,7 +28,7 @@ use Rattle.protocol_state.proofs.History.{reached-sound, judged-history, after-
 use Rattle.protocol_state.proofs.Numbers.{reached-ideals, reached-count}
 use Rattle.byte_format.specs.Play.{Allowed, finally}
 use Rattle.recording_core.specs.Playing.{Playing, noCounts, full, noRoom, listedBy, judgedIn, steppedIn}
-use Rattle.recording_core.specs.Promise.{past, placed, refusedBy}
+use Rattle.recording_core.specs.Promise.{placed, refusedBy}
 use Rattle.recording_core.specs.Right.{Right}
 use Rattle.recording_core.proofs.Counting.{counts-none, counts-next}
 

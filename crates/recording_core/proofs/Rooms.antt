@@ -10,7 +10,7 @@ use borrow.Author.Tests.{eqb-true}
 use lib.Dec.{eqb}
 use lib.ListN.{length, length-set}
 use Rattle.protocol.specs.Event.{Event, arrival, start, read, finish}
-use Rattle.protocol.specs.History.{reads}
+use Rattle.protocol.specs.History.{reads, past}
 use Rattle.protocol_state.specs.Saved.{Size}
 use Rattle.protocol_state.specs.Judge.{judgedOn}
 use Rattle.protocol_state.specs.Next.{next, valueOf}
@@ -23,7 +23,6 @@ use Rattle.recording_format.specs.Limits.{Limits, eventLimit}
 use Rattle.recording_format.specs.Recording.{Core, Recorded}
 use Rattle.recording_format.specs.Writing.{tasksWeighed, linksWeighed, tableWeighed, recordingWeighed}
 use Rattle.recording_core.specs.Playing.{Playing, judgedIn, steppedIn, coreOf, stateCore, alone}
-use Rattle.recording_core.specs.Promise.{past}
 use Rattle.recording_core.proofs.Right.{reads-past, both-zero, room-enough}
 
 module _ (ahead : ℕ → ℕ → Bool) where

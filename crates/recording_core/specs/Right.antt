@@ -6,7 +6,7 @@ use mathlib.Core.List.{List, []}
 use Prim.Native.Nat.{ℕ, _+_, _≤_}
 use lib.ListN.{length}
 use Rattle.protocol.specs.Event.{Event}
-use Rattle.protocol.specs.History.{reads, counts}
+use Rattle.protocol.specs.History.{reads, counts, past}
 use Rattle.protocol.specs.ZeroTime.{ideals}
 use Rattle.protocol_state.specs.Saved.{Size, Saved, table}
 use Rattle.protocol_state.specs.Reached.{Reached}
@@ -18,7 +18,7 @@ use Rattle.recording_format.specs.Event.{events}
 use Rattle.recording_format.specs.Limits.{Limits}
 use Rattle.recording_format.specs.Outcome.{TableTo}
 use Rattle.recording_core.specs.Playing.{Playing}
-use Rattle.recording_core.specs.Promise.{past, placed, freshTable}
+use Rattle.recording_core.specs.Promise.{placed, freshTable}
 
 -- what holds of the state q of a replay after the history h, from the fresh state q₀ on, with the lent list out: positions, pointers and
 -- mailboxes are the published protocol's; the counts are those of the history; "the list's first entries hold the numbers read, the rest is untouched"

@@ -18,7 +18,8 @@ use Rattle.recording_format.specs.Outcome.{RecordingOutcome}
 use Rattle.recording_format.proofs.Outcomes.{recording-outcome}
 use Rattle.recording_format.proofs.Decided.{outcome-is}
 use Rattle.recording_core.specs.Playing.{Playing, coreOf, steppedIn}
-use Rattle.recording_core.specs.Promise.{past, freshTable, CoreGenuine}
+use Rattle.recording_core.specs.Promise.{freshTable, CoreGenuine}
+use Rattle.protocol.specs.History.{past}
 use Rattle.recording_core.specs.Right.{Right}
 use Rattle.recording_core.proofs.Promises.{accepted-genuine, genuine-accepted, power-cut, cut-whole}
 use Rattle.recording.specs.Answers.{replied}

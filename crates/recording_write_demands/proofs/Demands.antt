@@ -11,7 +11,7 @@ use lib.Dec.{eqb, ltb, lit≤, lit<}
 use lib.ListN.{length, take, drop, replicate, length-replicate}
 use lib.Seq.{take-at, drop-at}
 use Rattle.protocol.specs.Event.{Event}
-use Rattle.protocol.specs.History.{reads}
+use Rattle.protocol.specs.History.{reads, past}
 use Rattle.protocol_state.specs.Saved.{Saved, base}
 use Rattle.protocol_state.proofs.Rules.{ltb-ranks}
 use Rattle.protocol_state.proofs.Give.{judged-small}
@@ -28,7 +28,6 @@ use Rattle.recording_format.proofs.NumbersRead.{links-ending, events-ending, nu
 use Rattle.recording_format.proofs.WrittenBytes.{whole-as-written}
 use Rattle.recording_format.proofs.Buffers.{whole-small, Way, refused, short, fits, which-way, buffer-written, buffer-refused}
 use Rattle.recording_core.specs.Playing.{Playing, coreOf, stateCore, alone}
-use Rattle.recording_core.specs.Promise.{past}
 use Rattle.recording_core.specs.Promise as core
 use Rattle.demands.specs.Recordings.{Genuine}
 use Rattle.demands.proofs.Orders.{past-reads}

@@ -20,7 +20,7 @@ use Rattle.demands.specs.Recordings.{Genuine}
 use Rattle.demands.proofs.Genuine.{exactly, accepted-calls}
 use Rattle.recording_write_demands.specs.Ensured.{Writes, RecordingOf}
 use Rattle.recording_write_demands.specs.Writer.{Writer}
-use Rattle.recording_write_demands.proofs.Contract.{learnt-ensured}
+use Rattle.recording_write_demands.proofs.Contract.{learnt-ensured, ensured-learnt}
 use Rattle.recording_write_demands.proofs.Demands.{room-past, what-is-written-is-read, written-length, written-within, rest-untouched, refused-untouched, short-buffer, shorter-refused, recording-written, same-fault, accepted-written-again}
 
 module _ {ds lw ew old new : List ℕ} {a : Written} (said : Writes ds lw ew old a new) where
@@ -66,7 +66,7 @@ again read z =
 pub writer : Writer
 writer = record {
   asks = λ κs lent. tt;
-  tells = learnt-ensured;
+  tells = λ κs lent a left. (learnt-ensured κs lent a left, ensured-learnt κs lent a left);
   written = written;
   bytes = λ said r h. bytes said r h;
   as-the-reader = λ said fit room read n. as-the-reader said fit room read n;

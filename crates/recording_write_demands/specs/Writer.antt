@@ -24,10 +24,10 @@ use Rattle.demands.specs.Recordings.{Genuine}
 use Rattle.recording_write_demands.specs.Ensured.{Writes, RecordingOf}
 
 pub record Writer : Type 0 where
-  -- the contract in the source asks nothing, and tells this
+  -- the contract in the source asks nothing, and tells this and no more
   pub asks : (κs : Lfts 4) (lent : Dens κs of-write.ps) → on-write.Asked κs lent
   pub tells : (κs : Lfts 4) (lent : Dens κs of-write.ps) (a : resT of-write.r κs .Denot) (left : AtExit (endedOf 4 of-write.ps of-write.r) κs) →
-      on-write.Learnt κs lent a left → Writes (now (lent .0)) (now (lent .1 .0)) (now (lent .1 .1 .0)) (now (lent .1 .1 .1 .0)) a (now (left .1 .1 .1 .0))
+      on-write.Learnt κs lent a left ↔ Writes (now (lent .0)) (now (lent .1 .0)) (now (lent .1 .1 .0)) (now (lent .1 .1 .1 .0)) a (now (left .1 .1 .1 .0))
   -- "Stations should write too: from a table, links and events to bytes in a lent buffer.": accepted exactly when what is handed over is a recording and there
   -- is room for it, which then stands at the start of the buffer
   pub written : {ds lw ew old new : List ℕ} {a : Written} → Writes ds lw ew old a new →
