@@ -26,11 +26,6 @@ module _ {Fits : ℕ → Type 0} where
   pub earns-exactly : {x r : ℕ} → x ≡ r → Earns Fits r → (n : ℕ) → (x ≡ n) ↔ Earns Fits n
   earns-exactly e g n = (λ z. subst (λ (k : ℕ). Earns Fits k) (sym e ∙ z) g, λ f. e ∙ earns-one g f)
 
-  -- what is not 0 fits
-  pub earned-fits : {r : ℕ} → Earns Fits r → (r ≡ 0 → ⊥) → Fits r
-  earned-fits (none x) n = absurd (n refl)
-  earned-fits (lowest f x) n = f
-
 -- what fits alike earns alike
 pub earns-alike : {P Q : ℕ → Type 0} → ((n : ℕ) → P n → Q n) → ((n : ℕ) → Q n → P n) → {r : ℕ} → Earns P r → Earns Q r
 earns-alike f g (none x) = none (λ n q. x n (g n q))

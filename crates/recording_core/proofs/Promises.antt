@@ -1,11 +1,10 @@
 -- Demand 2 for a whole recording: accepted exactly when there are a table, links and events whose encoding the bytes are, within every limit, every link rule kept,
 -- every event possible in its turn by history alone, and no more reads than the list has room.
 -- Assumes nothing.
-use mathlib.Core.Path.{_≡_, ap, _∙_}
-use mathlib.Core.Logic.{_⊎_, inl, inr}
+use mathlib.Core.Path.{_≡_, _∙_}
 use mathlib.Core.Bool.{Bool}
 use mathlib.Core.List.{List, []}
-use Prim.Native.Nat.{ℕ, _+_, _≤_, _<_}
+use Prim.Native.Nat.{ℕ, _≤_, _<_}
 use native.Mathlib.Omega.{arith}
 use lib.ListN.{length, take}
 use Rattle.protocol.specs.Event.{Event}
@@ -14,18 +13,16 @@ use Rattle.protocol_state.specs.Rules.{Ranks, judgedTable}
 use Rattle.protocol_state.proofs.Rules.{obeys, no-fault}
 use Rattle.protocol_state.proofs.History.{reached-possible}
 use Rattle.byte_format.specs.Number.{Bytes}
-use Rattle.byte_format.specs.Stands.{Stands}
-use Rattle.byte_format.specs.Format.{got, encodes, FitEach}
+use Rattle.byte_format.specs.Format.{got}
 use Rattle.byte_format.specs.Play.{Verdict, verdict, Allowed, Cut}
 use Rattle.recording_format.specs.Link.{Link, listed}
 use Rattle.byte_format.specs.Section.{Faulty}
 use Rattle.recording_format.specs.Event.{eventAt, events}
 use Rattle.recording_format.specs.Limits.{Limits, eventLimit}
 use Rattle.recording_format.specs.Recording.{encodeRecording, recording, throughE, stateAfter, Recorded}
-use Rattle.recording_format.specs.Outcome.{TableTo, RecordingOutcome, taskCount, taskRecord, linkCount, linkRecord, eventCount, eventRecord, extraBytes, accepted}
+use Rattle.recording_format.specs.Outcome.{TableTo}
 use Rattle.recording_format.proofs.Sizes.{tasks-within, within-tasks, links-within, within-links, events-within, within-events, tasks-fit, links-fit, events-fit}
 use Rattle.recording_format.proofs.LinkRules.{length-listed, allowed-no-fault, no-fault-allowed, allowed-judged, recorded-judged}
-use Rattle.byte_format.proofs.Sections.{section-records, faulty-records}
 use Rattle.recording_format.proofs.Recordings.{accepted-recorded, recorded-accepted}
 use Rattle.recording_format.proofs.Cuts.{recorded-cut}
 use Rattle.recording_format.proofs.WholeRecords.{cut-as-whole}
@@ -33,7 +30,7 @@ use Rattle.recording_format.proofs.Onward.{any-allowed}
 use Rattle.recording_core.specs.Playing.{Playing, coreOf, judgedIn, steppedIn}
 use Rattle.recording_core.specs.Promise.{freshTable, refusedBy, tableOf, CoreGenuine}
 use Rattle.protocol.specs.History.{past}
-use Rattle.recording_core.specs.Right.{Right, WithTable}
+use Rattle.recording_core.specs.Right.{Right}
 use Rattle.recording_core.proofs.Right.{refused-by, right-fresh, right-finally, happens-allowed}
 
 -- a table that earns no refusal
@@ -118,30 +115,6 @@ module _ {ahead : ℕ → ℕ → Bool} (ranks : Ranks ahead) (most : Limits) (o
 
   table-ok : {s ds : List ℕ} {ls : List Link} {m : ℕ} → TableTo ahead most s ds ls m → Fine ahead most ds ls
   table-ok {ds = ds} {ls = ls} t = allowed-judged ahead (length ds) most ls (t .tasked .kept .few) (t .linked .kept .few) (t .linked .kept .allowed)
-
-  -- every answer is one with a table, or the single task's with nothing counted and the list untouched
-  pub answers-right : (s : List ℕ) {x : Verdict Playing} → RecordingOutcome ahead most (coreOf ahead (most .size) out) s x → (x .state ≡ coreOf ahead (most .size) out .single) ⊎ WithTable ahead most out s x
-  answers-right s {x} o = go o
-    where
-      single : {r p : ℕ} → x ≡ verdict r p (coreOf ahead (most .size) out .single) → (x .state ≡ coreOf ahead (most .size) out .single) ⊎ WithTable ahead most out s x
-      single e = inl (ap (λ (y : Verdict Playing). y .state) e)
-
-      table : {r p : ℕ} (ds : List ℕ) (ls : List Link) (m : ℕ) (es : List (Event ℕ)) → TableTo ahead most s ds ls m → FitEach events es → Stands s (m + 2) (encodes events es) p
-          → Allowed (judgedIn ahead) (steppedIn ahead) (coreOf ahead (most .size) out .start ds (listed ls)) es
-          → x ≡ verdict r p (stateAfter (coreOf ahead (most .size) out) ds ls es) → (x .state ≡ coreOf ahead (most .size) out .single) ⊎ WithTable ahead most out s x
-      table ds ls m es t f b a e =
-          inr (rw e (record { tasks = ds; links = ls; happened = es; place = m; stands = t; fits = f; read = b; right = goes-on ds ls es (table-ok t) a }))
-
-      go : RecordingOutcome ahead most (coreOf ahead (most .size) out) s x → (x .state ≡ coreOf ahead (most .size) out .single) ⊎ WithTable ahead most out s x
-      go (taskCount r n u e) = single e
-      go (taskRecord ds r p n f e) = single e
-      go (linkCount ds r p n t u e) = single e
-      go (linkRecord ds m ls r p n t f e) = single e
-      go (eventCount ds ls r p n t u e) = single e
-      go (eventRecord ds ls m es r p n t f e) =
-          table ds ls m es t (f .played .fits) (faulty-records events (eventLimit most) (judgedIn ahead) (steppedIn ahead) f) (f .played .allowed) e
-      go (extraBytes ds ls m es p t w h e) = table ds ls m es t (w .kept .fits) (section-records events es (w .bytes)) (w .kept .allowed) e
-      go (accepted ds ls m es t w e) = table ds ls m es t (w .kept .fits) (section-records events es (w .bytes)) (w .kept .allowed) e
 
   -- an event record that is refused, its bytes being there: by the table and the accepted events alone
   pub event-refused :

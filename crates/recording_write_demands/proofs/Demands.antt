@@ -6,7 +6,7 @@ use mathlib.Core.Bool.{Bool, true, false}
 use mathlib.Core.List.{List, [], _++_}
 use Prim.Native.Nat.{ℕ, _≤_, _<_}
 use native.Mathlib.Omega.{arith}
-use borrow.Author.Tests.{eq-eqb, ne-eqb}
+use borrow.Author.Tests.{ne-eqb}
 use lib.Dec.{eqb, ltb, lit≤, lit<}
 use lib.ListN.{length, take, drop, replicate, length-replicate}
 use lib.Seq.{take-at, drop-at}
@@ -16,7 +16,7 @@ use Rattle.protocol_state.specs.Saved.{Saved, base}
 use Rattle.protocol_state.proofs.Rules.{ltb-ranks}
 use Rattle.protocol_state.proofs.Give.{judged-small}
 use Rattle.byte_format.specs.Play.{Verdict, verdict}
-use Rattle.byte_format.specs.Handed.{Handed, handed, tally}
+use Rattle.byte_format.specs.Handed.{Handed, handed}
 use Rattle.recording_format.specs.Link.{Link}
 use Rattle.recording_format.specs.Limits.{baseLimits}
 use Rattle.recording_format.specs.Recording.{encodeRecording, recording, stateAfter}
@@ -25,7 +25,6 @@ use Rattle.recording_format.specs.Writing.{recordingWeighed, heldToRoom, writin
 use Rattle.recording_format.proofs.Words.{links-said, events-said, values-said}
 use Rattle.recording_format.proofs.Weighed.{whole-fine, whole-reply, recorded-whole}
 use Rattle.recording_format.proofs.NumbersRead.{links-ending, events-ending, numbers-as-read}
-use Rattle.recording_format.proofs.WrittenBytes.{whole-as-written}
 use Rattle.recording_format.proofs.Buffers.{whole-small, Way, refused, short, fits, which-way, buffer-written, buffer-refused}
 use Rattle.recording_core.specs.Playing.{Playing, coreOf, stateCore, alone}
 use Rattle.recording_core.specs.Promise as core
@@ -227,22 +226,6 @@ module _ {ds lw ew old new : List ℕ} {a : Written} (said : Writes ds lw ew old
         let x = recording ltb baseLimits (coreOf ltb base out) (bytesAsWritten ds lw ew) in
         let e : a ≡ writtenOf x = rw (ne-eqb (x .refusal) 0 n) at as-the-reader in
         (ap (λ (w : Written). w .refusal) e, ap (λ (w : Written). w .place) e)
-
--- each number of a recording fits its bytes; so one that does not is refused
-pub recording-in-bytes : {ds lw ew s : List ℕ} → RecordingOf ds lw ew s → InBytes ds (linksSaid lw) (eventsSaid ew)
-recording-in-bytes {ds} {lw} {ew} r =
-    let g = genuine-recorded ltb-ranks baseLimits (roomOf ew) (lit< tt) (lit< tt) (lit< tt) (recording-genuine r) in
-    let n : tally (linksSaid lw) ≡ length (linksSaid lw .whole) = rw (eq-eqb (linksSaid lw .ending) 0 (r .links-whole)) (omega arith) in
-    let m : tally (eventsSaid ew) ≡ length (eventsSaid ew .whole) = rw (eq-eqb (eventsSaid ew .ending) 0 (r .events-whole)) (omega arith) in
-    record {
-      tasked = (g .tasked .counted, g .tasked .fits);
-      linked = (rw n (g .linked .counted), g .linked .fits);
-      played = λ _. (rw m (g .played .counted), g .played .fits);
-    }
-
--- and its bytes are the bytes as written
-pub recording-as-written : {ds lw ew s : List ℕ} → RecordingOf ds lw ew s → bytesAsWritten ds lw ew ≡ s
-recording-as-written {ds} {lw} {ew} r = whole-as-written ds lw ew (r .links-whole) (r .events-whole) ∙ sym (recording-genuine r .bytes)
 
 -- what the reader accepts, handed over as its tasks and the numbers of its links and events, is a recording that these say
 pub genuine-recording : {s out ds : List ℕ} {ls : List Link} {es : List (Event ℕ)} → Genuine s out ds ls es → RecordingOf ds (linkWords ls) (eventWords es) s
