@@ -1,7 +1,7 @@
 -- The table that a fresh saved state holds is the station that was handed over, whole.
 -- Assumes nothing.
 use mathlib.Core.Path.{_≡_, refl, sym, ap, fun-ext, _∙_}
-use mathlib.Core.List.{List, [], _∷_, _++_, append-assoc, append-nil, map}
+use mathlib.Core.List.{List, map}
 use Prim.Native.Nat.{ℕ, zero, suc, _+_, _≤_, _<_}
 use native.Mathlib.Omega.{arith}
 use native.Mathlib.Decide.{decLe}
@@ -13,8 +13,8 @@ use Rattle.protocol_state.specs.Saved.{Saved, base, at, table}
 use Rattle.protocol_state.specs.Fresh.{copied, freshOf}
 use Rattle.protocol_state.proofs.Freshes.{copied-at}
 use Rattle.protocol_state.proofs.Places.{zeros}
-use Rattle.byte_format.specs.Play.{finally}
-use Rattle.recording_format.specs.Link.{Link, Links, noLinks, andLink, listed}
+use Rattle.recording_format.specs.Link.{Link, Links, noLinks, listed}
+use Rattle.recording_format.proofs.LinkRules.{grown}
 use Rattle.recording_core.specs.Promise.{freshTable}
 use Rattle.demands.specs.Station.{station, writers, readers, kinds, firstTasks, firstLinks}
 
@@ -100,12 +100,6 @@ fresh-station T L D W R K few least =
     (column (λ l. l .writer) link W (λ i. refl) L) (column (λ l. l .reader) link R (λ i. refl) L) (column (λ l. l .kind) link K (λ i. refl) L)
 
 -- the columns of link records
-grown : (q : Links) (ls : List Link)
-    → finally andLink q ls ≡ record { writer = q .writer ++ writers ls; reader = q .reader ++ readers ls; kind = q .kind ++ kinds ls }
-unfolding finally
-grown q [] = simp append-nil
-grown q (l ∷ ls) = grown (andLink q l) ls ∙ simp append-assoc
-
 pub listed-columns : (ls : List Link) → listed ls ≡ record { writer = writers ls; reader = readers ls; kind = kinds ls }
 listed-columns ls = grown noLinks ls
 
