@@ -1,6 +1,6 @@
 /* The proved mailboxes, for hosts in C.
  *
- * The host keeps the saved state in its own memory, as a struct parnusild_state. Each call lends the state's fields to the proved
+ * The host keeps the saved state in its own memory, as a struct parnusild_state. Each call lends the state's parts to the proved
  * core, which works on them in place: no state is copied and nothing is kept between calls. Nothing is asked of a state, a table, a
  * recording or what is to be written: whatever they hold, an answer comes back, and a refused event leaves the state as it was lent.
  *
@@ -31,7 +31,9 @@ enum {
     PARNUSILD_LINKS = 32,     /* and so many links */
     PARNUSILD_EVENTS = 10000, /* and so many events in a recording */
     PARNUSILD_POSITIONS = 10, /* a task has N + 2 positions, N at most 8 */
-    PARNUSILD_CELLS = PARNUSILD_TASKS * PARNUSILD_POSITIONS
+    PARNUSILD_CELLS = PARNUSILD_TASKS * PARNUSILD_POSITIONS,
+    PARNUSILD_CONTROL = 3 * PARNUSILD_TASKS + 4 * PARNUSILD_LINKS, /* so many bytes in a state's control */
+    PARNUSILD_VALUES = PARNUSILD_TASKS + PARNUSILD_CELLS           /* so many numbers in a state's values */
 };
 
 /* The kinds of an event. Any other is unknown, refusal 11. */
@@ -52,19 +54,33 @@ struct parnusild_table {
     uint8_t kind[PARNUSILD_LINKS]; /* 0 direct, 1 delayed */
 };
 
+/* The bytes of a state, by task and then by link, in the library's own order. */
+struct parnusild_control {
+    uint8_t phase[PARNUSILD_TASKS];    /* 0 idle, 1 waiting, 2 running */
+    uint8_t newest[PARNUSILD_TASKS];   /* a position, from 1 */
+    uint8_t previous[PARNUSILD_TASKS]; /* a position, from 1 */
+    uint8_t pointer[PARNUSILD_LINKS];  /* a position of the writer; 0: absent */
+    uint8_t writer[PARNUSILD_LINKS];
+    uint8_t reader[PARNUSILD_LINKS];
+    uint8_t kind[PARNUSILD_LINKS];     /* 0 direct, 1 delayed */
+};
+
+/* The numbers of a state, in the library's own order. */
+struct parnusild_values {
+    uint32_t defaults[PARNUSILD_TASKS];
+    uint32_t cells[PARNUSILD_CELLS];   /* position p of task t at t * 10 + p - 1 */
+};
+
+/* Each struct is lent as one array. Where a compiler would leave gaps in it, this does not compile. */
+typedef char parnusild_control_has_no_gaps[sizeof(struct parnusild_control) == PARNUSILD_CONTROL ? 1 : -1];
+typedef char parnusild_values_have_no_gaps[sizeof(struct parnusild_values) == PARNUSILD_VALUES * sizeof(uint32_t) ? 1 : -1];
+
 /* All that a station has to keep between events. Slots past the counts are never touched by an event. */
 struct parnusild_state {
     size_t tasks;
     size_t links;
-    uint32_t defaults[PARNUSILD_TASKS];
-    uint8_t phase[PARNUSILD_TASKS];    /* 0 idle, 1 waiting, 2 running */
-    uint8_t newest[PARNUSILD_TASKS];   /* a position, from 1 */
-    uint8_t previous[PARNUSILD_TASKS]; /* a position, from 1 */
-    uint32_t cells[PARNUSILD_CELLS];   /* position p of task t at t * 10 + p - 1 */
-    uint8_t writer[PARNUSILD_LINKS];
-    uint8_t reader[PARNUSILD_LINKS];
-    uint8_t kind[PARNUSILD_LINKS];     /* 0 direct, 1 delayed */
-    uint8_t pointer[PARNUSILD_LINKS];  /* a position of the writer; 0: absent */
+    struct parnusild_control control;
+    struct parnusild_values values;
 };
 
 /* What a replay answers beside the state and the list. */
@@ -77,40 +93,37 @@ struct parnusild_answer {
     size_t finishes;
 };
 
-/* The calls of the library, on the fields of a state; the functions below take the struct. A slice is a pointer, not null even where
- * its length is 0, and a length; an array is a pointer, as long as the field of struct parnusild_state or parnusild_table. */
+/* The calls of the library, on the parts of a state; the functions below take the struct. A slice is a pointer, not null even where
+ * its length is 0, and a length; an array is a pointer. `control` has PARNUSILD_CONTROL bytes, in the order of struct parnusild_control,
+ * and `values` PARNUSILD_VALUES numbers, in that of struct parnusild_values: a host that has the structs lends each of them whole, by its
+ * own address and not by that of its first field. An array of a table is as long as the field of struct parnusild_table. */
 
-/* One event given to the state, whose fields are lent from `tasks` on (`kinds` are the links'). `kind`: 1 arrival of a set, `which` (bit t
- * is task t); 2 start of a task, `which`; 3 read by a link, `which`; 4 finish of a task, `which`, with a value, `value`. Answers 0, or the
- * refusal: 19 a lent state that isn't sound, tried before anything else; 11 a kind outside 1 to 4; then in rising order 12 an empty
- * arrival set, or a task or link not in the table; 13 arrival of an active task; 14 start of a task that isn't waiting; 15 read or finish
- * by a task that isn't running; 16 start, read or finish while a more urgent task is active. On a refusal the state is as lent and
- * `number` 0; so is `number` after an accepted arrival, start or finish. After an accepted read it is the number at the link's pointer in
- * its writer's positions. */
+/* One event given to the state, whose parts are lent from `tasks` on. `kind`: 1 arrival of a set, `which` (bit t is task t); 2 start of a
+ * task, `which`; 3 read by a link, `which`; 4 finish of a task, `which`, with a value, `value`. Answers 0, or the refusal: 19 a lent state
+ * that isn't sound, tried before anything else; 11 a kind outside 1 to 4; then in rising order 12 an empty arrival set, or a task or link
+ * not in the table; 13 arrival of an active task; 14 start of a task that isn't waiting; 15 read or finish by a task that isn't running;
+ * 16 start, read or finish while a more urgent task is active. On a refusal the state is as lent and `number` 0; so is `number` after an
+ * accepted arrival, start or finish. After an accepted read it is the number at the link's pointer in its writer's positions. */
 uint8_t parnusild_event(uint8_t kind, uint32_t which, uint32_t value, uint32_t *number, size_t tasks, size_t links,
-                        const uint8_t *writer, const uint8_t *reader, const uint8_t *kinds, uint8_t *phase, uint8_t *newest,
-                        uint8_t *previous, uint32_t *cells, uint8_t *pointer);
+                        uint8_t *control, uint32_t *values);
 
-/* The fresh state of a table, put into the fields lent from `tasks` on: both `newest` and `previous` at 1, every position holding the
+/* The fresh state of a table, put into the parts lent from `tasks` on: both `newest` and `previous` at 1, every position holding the
  * task's default, every pointer absent, every task idle. Answers 0, or the refusal that the table earns: 2 the count of tasks is 0 or above
  * 16; 3 the count of links is above 32; else of the first link at fault, in rising order, 4 it names no task of the table; 5 its writer is
  * its reader; 6 its kind is neither 0 nor 1; 7 a direct link to a reader ahead; 8 its writer has an earlier link to its reader; 9 it is
  * the writer's ninth link to a reader behind. On a refusal the state is the fresh one of a single task with default 0 and no links. */
 uint8_t parnusild_fresh(size_t table_tasks, size_t table_links, const uint32_t *table_defaults, const uint8_t *table_writer,
                         const uint8_t *table_reader, const uint8_t *table_kind, size_t *tasks, size_t *links,
-                        uint32_t *defaults, uint8_t *phase, uint8_t *newest, uint8_t *previous, uint32_t *cells,
-                        uint8_t *writer, uint8_t *reader, uint8_t *kind, uint8_t *pointer);
+                        uint8_t *control, uint32_t *values);
 
 /* A whole recording, `size` lent bytes, with a lent list of `room` numbers. Bytes are judged from the left and the first fault decides.
  * Answers the refusal, 0 accepted, 1 to 18 (docs/FORMAT.md). `place`: the first byte of the count or record at fault; for 17 the first
  * extra byte; on acceptance the length. `counts`, four of them: arrivals task by task, starts, reads, finishes. At a refusal whose place is
- * in the tasks, the links or one of the three counts, the state (the fields lent from `tasks` on) is the fresh one of a single task with
+ * in the tasks, the links or one of the three counts, the state (the parts lent from `tasks` on) is the fresh one of a single task with
  * default 0 and no links, all counts are 0, and the list is untouched. Later, state and counts are those after the last accepted event; the
  * list's first entries hold the numbers read, the rest is untouched. */
 uint8_t parnusild_replay(const uint8_t *bytes, size_t size, uint32_t *numbers, size_t room, size_t *place, size_t *counts,
-                         size_t *tasks, size_t *links, uint32_t *defaults, uint8_t *phase, uint8_t *newest,
-                         uint8_t *previous, uint32_t *cells, uint8_t *writer, uint8_t *reader, uint8_t *kind,
-                         uint8_t *pointer);
+                         size_t *tasks, size_t *links, uint8_t *control, uint32_t *values);
 
 /* The unread rest of a recording, `size` lent bytes, after a replay that answered `place`: how many bytes it has. They are the last of the
  * recording, from the place on; none past the end, and none after acceptance. */
@@ -134,8 +147,7 @@ static inline uint8_t parnusild_state_fresh(struct parnusild_state *PARNUSILD_RE
                                             const struct parnusild_table *PARNUSILD_RESTRICT table)
 {
     return parnusild_fresh(table->tasks, table->links, table->defaults, table->writer, table->reader, table->kind,
-                           &state->tasks, &state->links, state->defaults, state->phase, state->newest, state->previous,
-                           state->cells, state->writer, state->reader, state->kind, state->pointer);
+                           &state->tasks, &state->links, (uint8_t *)&state->control, (uint32_t *)&state->values);
 }
 
 /* One event given to the state. `which` is the set of an arrival (bit t is task t), the task of a start or finish, the link of a
@@ -145,8 +157,8 @@ static inline uint8_t parnusild_state_fresh(struct parnusild_state *PARNUSILD_RE
 static inline uint8_t parnusild_state_event(struct parnusild_state *PARNUSILD_RESTRICT state, uint8_t kind, uint32_t which,
                                             uint32_t value, uint32_t *PARNUSILD_RESTRICT number)
 {
-    return parnusild_event(kind, which, value, number, state->tasks, state->links, state->writer, state->reader,
-                           state->kind, state->phase, state->newest, state->previous, state->cells, state->pointer);
+    return parnusild_event(kind, which, value, number, state->tasks, state->links, (uint8_t *)&state->control,
+                           (uint32_t *)&state->values);
 }
 
 /* Arrival of a set: `previous` becomes `newest`, `newest` the lowest free position; then the pointers of links whose reader is in the
@@ -195,9 +207,8 @@ static inline uint8_t parnusild_state_replay(struct parnusild_state *PARNUSILD_R
     uint32_t no_number = 0;
     size_t counts[4];
     answer->refusal = parnusild_replay(size ? bytes : &no_byte, size, room ? numbers : &no_number, room, &answer->place,
-                                       counts, &state->tasks, &state->links, state->defaults, state->phase, state->newest,
-                                       state->previous, state->cells, state->writer, state->reader, state->kind,
-                                       state->pointer);
+                                       counts, &state->tasks, &state->links, (uint8_t *)&state->control,
+                                       (uint32_t *)&state->values);
     answer->arrivals = counts[0];
     answer->starts = counts[1];
     answer->reads = counts[2];

@@ -1,5 +1,5 @@
 //! What the replays of this bench share: the numbers that a state is made of, and the answer that a replay begins with.
-use parnusild::{Answer, State, CELLS, LINKS, TASKS};
+use parnusild::{Answer, Control, State, Values, CELLS, LINKS, TASKS};
 
 pub const IDLE: u8 = 0;
 pub const WAITING: u8 = 1;
@@ -16,15 +16,16 @@ pub fn nothing_yet() -> Answer {
     let state = State {
         tasks: 1,
         links: 0,
-        defaults: [0; TASKS],
-        phase: [IDLE; TASKS],
-        newest: [1; TASKS],
-        previous: [1; TASKS],
-        cells: [0; CELLS],
-        writer: [0; LINKS],
-        reader: [0; LINKS],
-        kind: [0; LINKS],
-        pointer: [0; LINKS],
+        control: Control {
+            phase: [IDLE; TASKS],
+            newest: [1; TASKS],
+            previous: [1; TASKS],
+            pointer: [0; LINKS],
+            writer: [0; LINKS],
+            reader: [0; LINKS],
+            kind: [0; LINKS],
+        },
+        values: Values { defaults: [0; TASKS], cells: [0; CELLS] },
     };
     Answer { refusal: 0, place: 0, state, arrivals: 0, starts: 0, reads: 0, finishes: 0 }
 }

@@ -1,9 +1,11 @@
 /* A host in C. It replays a recording and prints what was read and counted, then gives the same events one by one to a saved state
  * of its own and sees that both end in the same state; then gives some events that are refused; then tries each call at edge sizes;
- * then writes the recording itself, replays what it wrote, and has some writing refused.
+ * then writes the recording itself, replays what it wrote, and has some writing refused; then sees that each named field of a state
+ * stands where the library has it.
  *
  *     host FILE       the long example of docs/FORMAT.md (recordings/figure-17.rec)
  */
+#include <stddef.h>
 #include <stdio.h>
 #include <string.h>
 
@@ -45,12 +47,8 @@ static const struct parnusild_table table = {
 /* whether two states hold the same */
 static int same(const struct parnusild_state *a, const struct parnusild_state *b)
 {
-    return a->tasks == b->tasks && a->links == b->links
-        && !memcmp(a->defaults, b->defaults, sizeof a->defaults) && !memcmp(a->phase, b->phase, sizeof a->phase)
-        && !memcmp(a->newest, b->newest, sizeof a->newest) && !memcmp(a->previous, b->previous, sizeof a->previous)
-        && !memcmp(a->cells, b->cells, sizeof a->cells) && !memcmp(a->writer, b->writer, sizeof a->writer)
-        && !memcmp(a->reader, b->reader, sizeof a->reader) && !memcmp(a->kind, b->kind, sizeof a->kind)
-        && !memcmp(a->pointer, b->pointer, sizeof a->pointer);
+    return a->tasks == b->tasks && a->links == b->links && !memcmp(&a->control, &b->control, sizeof a->control)
+        && !memcmp(&a->values, &b->values, sizeof a->values);
 }
 
 /* the replay of a whole recording */
@@ -78,7 +76,7 @@ static void one_by_one(struct parnusild_state *state)
         if (e->kind == PARNUSILD_READ)
             alike += number == numbers[reads++];
         if (e->kind == PARNUSILD_ARRIVAL && e->which & 2)
-            printf("newest of task 1: %u\n", state->newest[1]);
+            printf("newest of task 1: %u\n", state->control.newest[1]);
     }
     printf("accepted %zu of %zu, numbers alike %zu of %zu\n", done, i, alike, reads);
 }
@@ -121,7 +119,7 @@ static void refusals(struct parnusild_state *state)
     parnusild_state_arrival(state, 1);
     refuse("active task arrives", state, PARNUSILD_ARRIVAL, 5);
     refuse("task ahead is active", state, PARNUSILD_READ, 1);
-    state->newest[0] = 0;
+    state->control.newest[0] = 0;
     refuse("unsound", state, PARNUSILD_START, 0);
     refuse("unsound, unknown kind", state, 9, 0);
     refuse("unsound, task 256", state, PARNUSILD_START, 256);
@@ -258,6 +256,180 @@ static void writing(size_t size)
     printf(" at %zu\n", place);
 }
 
+/* where a named field begins in what is lent and how long it is, in bytes of the control or numbers of the values */
+#define STANDS(part, field) \
+    printf(#field ": %zu from %zu on\n", sizeof state->part.field / sizeof state->part.field[0], \
+           offsetof(struct parnusild_##part, field) / sizeof state->part.field[0])
+
+static void layout(const struct parnusild_state *state)
+{
+    printf("control: %zu bytes\n", sizeof state->control);
+    STANDS(control, phase);
+    STANDS(control, newest);
+    STANDS(control, previous);
+    STANDS(control, pointer);
+    STANDS(control, writer);
+    STANDS(control, reader);
+    STANDS(control, kind);
+    printf("values: %zu numbers\n", sizeof state->values / sizeof(uint32_t));
+    STANDS(values, defaults);
+    STANDS(values, cells);
+}
+
+/* as many tasks and links as there can be, so that no slot of a field is left out: each task writes to the next one, then each to the one
+ * before, direct where the reader is behind */
+static void full_table(struct parnusild_table *full)
+{
+    size_t i;
+    full->tasks = PARNUSILD_TASKS;
+    full->links = PARNUSILD_LINKS;
+    for (i = 0; i < PARNUSILD_TASKS; i++)
+        full->defaults[i] = 1000 + (uint32_t)i;
+    for (i = 0; i < PARNUSILD_LINKS; i++) {
+        full->writer[i] = i % PARNUSILD_TASKS;
+        full->reader[i] = (i < PARNUSILD_TASKS ? i + 1 : i + PARNUSILD_TASKS - 1) % PARNUSILD_TASKS;
+        full->kind[i] = full->reader[i] < full->writer[i];
+    }
+}
+
+/* a waiting task starts and finishes; 0 where neither is refused */
+static unsigned run(struct parnusild_state *state, uint32_t task, uint32_t value)
+{
+    const unsigned refusal = parnusild_state_start(state, task);
+    return refusal | parnusild_state_finish(state, task, value);
+}
+
+/* a state in which no two fields hold the same: the odd tasks have run once; then all have arrived, tasks 0 and 1 have run, and task 2
+ * runs */
+static void amid_a_round(struct parnusild_state *state)
+{
+    struct parnusild_table full;
+    unsigned refusals;
+    uint32_t task;
+    full_table(&full);
+    refusals = parnusild_state_fresh(state, &full);
+    refusals |= parnusild_state_arrival(state, 0xaaaa);
+    for (task = 1; task < PARNUSILD_TASKS; task += 2)
+        refusals |= run(state, task, 100 + task);
+    refusals |= parnusild_state_arrival(state, 0xffff);
+    refusals |= run(state, 0, 500);
+    refusals |= run(state, 1, 501);
+    refusals |= parnusild_state_start(state, 2);
+    printf("amid a round: %s, tasks %zu, links %zu\n", refusals ? "REFUSED" : "accepted", state->tasks, state->links);
+}
+
+static void show_bytes(const char *what, const uint8_t *list, size_t size)
+{
+    size_t i;
+    printf("%s", what);
+    for (i = 0; i < size; i++)
+        printf(" %u", list[i]);
+    printf("\n");
+}
+
+static void show_numbers(const char *what, const uint32_t *list, size_t size)
+{
+    size_t i;
+    printf("%s", what);
+    for (i = 0; i < size; i++)
+        printf(" %u", (unsigned)list[i]);
+    printf("\n");
+}
+
+/* what the library puts into each named field */
+static void fields_put(void)
+{
+    struct parnusild_state state;
+    size_t task;
+    amid_a_round(&state);
+    show_bytes("phase", state.control.phase, PARNUSILD_TASKS);
+    show_bytes("newest", state.control.newest, PARNUSILD_TASKS);
+    show_bytes("previous", state.control.previous, PARNUSILD_TASKS);
+    show_bytes("pointer", state.control.pointer, PARNUSILD_LINKS);
+    show_bytes("writer", state.control.writer, PARNUSILD_LINKS);
+    show_bytes("reader", state.control.reader, PARNUSILD_LINKS);
+    show_bytes("kind", state.control.kind, PARNUSILD_LINKS);
+    show_numbers("defaults", state.values.defaults, PARNUSILD_TASKS);
+    for (task = 0; task < PARNUSILD_TASKS; task++)
+        show_numbers("cells", &state.values.cells[task * PARNUSILD_POSITIONS], PARNUSILD_POSITIONS);
+}
+
+/* the fresh state of four tasks and one direct link, from task 0 to task 2; with its own number in each position */
+static struct parnusild_state one_link(void)
+{
+    static const struct parnusild_table one = { .tasks = 4, .links = 1, .writer = { 0 }, .reader = { 2 }, .kind = { 0 } };
+    struct parnusild_state state;
+    size_t i;
+    parnusild_state_fresh(&state, &one);
+    for (i = 0; i < PARNUSILD_CELLS; i++)
+        state.values.cells[i] = 100 + (uint32_t)i;
+    return state;
+}
+
+/* the same, while task 2 runs and task 3 waits */
+static struct parnusild_state reader_runs(void)
+{
+    struct parnusild_state state = one_link();
+    parnusild_state_arrival(&state, 0xc);
+    parnusild_state_start(&state, 2);
+    return state;
+}
+
+/* the read by the link, in a state of which the host may have changed a field */
+static void read_with(const char *what, struct parnusild_state state)
+{
+    uint32_t number = 77;
+    unsigned refusal = parnusild_state_read(&state, 0, &number);
+    printf("read, %s: refusal %u, number %u\n", what, refusal, (unsigned)number);
+}
+
+/* likewise, the reader's first two positions after its finish */
+static void finish_with(const char *what, struct parnusild_state state)
+{
+    unsigned refusal = parnusild_state_finish(&state, 2, 9);
+    printf("finish, %s: refusal %u,", what, refusal);
+    show_numbers(" cells", &state.values.cells[2 * PARNUSILD_POSITIONS], 2);
+}
+
+/* likewise, the link's pointer after the arrival of its reader */
+static void arrival_with(const char *what, struct parnusild_state state)
+{
+    unsigned refusal = parnusild_state_arrival(&state, 0x4);
+    printf("arrival, %s: refusal %u, pointer %u\n", what, refusal, state.control.pointer[0]);
+}
+
+/* what the library takes from each named field; no event looks at a default */
+static void fields_taken(void)
+{
+    struct parnusild_state state = reader_runs();
+    read_with("as it is", state);
+    state.values.cells[0] = 7;
+    read_with("7 in position 1 of task 0", state);
+    state = reader_runs();
+    state.control.pointer[0] = 2;
+    read_with("pointer at 2", state);
+    state = reader_runs();
+    state.control.writer[0] = 1;
+    read_with("from task 1", state);
+    state = reader_runs();
+    state.control.reader[0] = 3;
+    read_with("by task 3, which waits", state);
+    state = reader_runs();
+    state.control.phase[2] = 1;
+    read_with("by task 2, which waits", state);
+    state = reader_runs();
+    finish_with("as it is", state);
+    state.control.newest[2] = 1;
+    finish_with("newest at 1", state);
+    state = one_link();
+    arrival_with("as it is", state);
+    state.control.newest[0] = 2;
+    state.control.previous[0] = 3;
+    arrival_with("direct, newest 2, previous 3", state);
+    state.control.kind[0] = 1;
+    arrival_with("delayed, newest 2, previous 3", state);
+}
+
 int main(int argc, char **argv)
 {
     struct parnusild_state whole, state;
@@ -277,5 +449,8 @@ int main(int argc, char **argv)
     refused_tables();
     edge_sizes(size);
     writing(size);
+    layout(&state);
+    fields_put();
+    fields_taken();
     return 0;
 }

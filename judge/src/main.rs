@@ -21,31 +21,33 @@ fn lent(state: &State) -> parnusild::State {
     parnusild::State {
         tasks: usize::from(state.tasks),
         links: usize::from(state.links),
-        defaults: state.defaults,
-        phase: state.phase,
-        newest: state.newest,
-        previous: state.previous,
-        cells: state.cells,
-        writer: state.writer,
-        reader: state.reader,
-        kind: state.kind,
-        pointer: state.pointer,
+        control: parnusild::Control {
+            phase: state.phase,
+            newest: state.newest,
+            previous: state.previous,
+            pointer: state.pointer,
+            writer: state.writer,
+            reader: state.reader,
+            kind: state.kind,
+        },
+        values: parnusild::Values { defaults: state.defaults, cells: state.cells },
     }
 }
 
 fn handed_back(state: &parnusild::State) -> State {
+    let (control, values) = (&state.control, &state.values);
     State {
         tasks: narrow(state.tasks),
         links: narrow(state.links),
-        defaults: state.defaults,
-        phase: state.phase,
-        newest: state.newest,
-        previous: state.previous,
-        cells: state.cells,
-        writer: state.writer,
-        reader: state.reader,
-        kind: state.kind,
-        pointer: state.pointer,
+        defaults: values.defaults,
+        phase: control.phase,
+        newest: control.newest,
+        previous: control.previous,
+        cells: values.cells,
+        writer: control.writer,
+        reader: control.reader,
+        kind: control.kind,
+        pointer: control.pointer,
     }
 }
 

@@ -9,7 +9,7 @@ use Rattle.protocol.specs.Table.{Table}
 use Rattle.protocol.specs.Schedule.{urgent}
 use Rattle.protocol.specs.Answering.{Answerer, RefusesRightly, FollowsProtocol}
 use Rattle.protocol_state.specs.Saved.{table}
-use Rattle.protocol_state.specs.Give.{reply}
+use Rattle.protocol_state.specs.Give.{Reply, reply}
 use Rattle.protocol_state.specs.Alike.{Alike}
 use Rattle.protocol_state.proofs.Rules.{ltb-ranks}
 use Rattle.protocol_state.proofs.Demanded as state
@@ -29,4 +29,4 @@ pub as-answerer : {T : Table ℕ} {es : List (Event ℕ)} {ns : List ℕ} {q : S
 as-answerer {es = es} {q = q} c B D1 D2 e r call =
     let C = comes c in
     subst (λ (t : Table ℕ). AnsweredBy B t (past [] es) e r) (C .same)
-    (subst (λ (x : Step). AnsweredBy B (table ltb (C .begin)) (past [] es) e x) (sym call) (state.as-demanded ltb-ranks (C .reached) B D1 D2 e))
+    (subst (λ (x : Reply). Alike x (B .reply (table ltb (C .begin)) (past [] es) e)) (sym (call .answer)) (state.as-demanded ltb-ranks (C .reached) B D1 D2 e))

@@ -15,10 +15,10 @@ use Rattle.protocol_state.specs.Give.{Reply, give}
 use Rattle.protocol_state.specs.Sound.{isSound, Sound}
 use Rattle.protocol_state.proofs.Sound.{says-sound}
 use Rattle.protocol_state.proofs.Give.{Ways, give-ways, give-refusal, give-done}
-use Rattle.protocol_state.proofs.Keeps.{table-same, next-shape, next-sound}
+use Rattle.protocol_state.proofs.Keeps.{table-same, next-sound}
 use Rattle.protocol_state.proofs.Steps.{step, number-read}
-use Rattle.protocol_state.specs.Saved.{Shape}
 use Rattle.mailbox.specs.States.{saved}
+use Rattle.mailbox.proofs.Packed.{whole-shape}
 use Rattle.mailbox.specs.declared.State.{State}
 use Rattle.mailbox.specs.declared.Step.{Step}
 use Rattle.demands.specs.States.{IsSound, IsWhole, tableIn, boxesIn}
@@ -26,30 +26,30 @@ use Rattle.demands.specs.Calls.{Gives}
 
 module _ (q : State) (e : Event ℕ) (r : Step) (call : Gives q e r) (S : IsWhole q) (G : IsSound q) (z : r .answer .refusal ≡ 0) where
   allowed : judgedOn ltb (saved q) e ≡ 0
-  allowed = sym (give-refusal ltb base (saved q) e (says-sound ltb base (saved q) G)) ∙ ap (λ (x : Step). x .answer .refusal) (sym call) ∙ z
+  allowed = sym (give-refusal ltb base (saved q) e (says-sound ltb base (saved q) G)) ∙ ap (λ (x : Reply). x .refusal) (sym (call .answer)) ∙ z
 
   done : saved (r .state) ≡ next ltb (saved q) e
-  done = ap (λ (x : Step). saved (x .state)) call ∙ ap (λ (x : Reply). x .state) (give-done ltb base (saved q) e (says-sound ltb base (saved q) G) allowed)
+  done = ap (λ (x : Reply). x .state) (call .answer) ∙ ap (λ (x : Reply). x .state) (give-done ltb base (saved q) e (says-sound ltb base (saved q) G) allowed)
 
   pub any-state : published.Step (tableIn q) (Lowest (tableIn q)) e (boxesIn q) (boxesIn (r .state)) × (tableIn (r .state) ≡ tableIn q) × (IsWhole (r .state) × IsSound (r .state))
   any-state = (
-    subst (λ (x : Saved). published.Step (tableIn q) (Lowest (tableIn q)) e (boxesIn q) (boxes x)) (sym done) (step (saved q) S G e allowed),
+    subst (λ (x : Saved). published.Step (tableIn q) (Lowest (tableIn q)) e (boxesIn q) (boxes x)) (sym done) (step (saved q) (whole-shape q S) G e allowed),
     ap (λ (x : Saved). table ltb x) done ∙ table-same ltb (saved q) e,
     (
-      subst (λ (x : Saved). Shape base x) (sym done) (next-shape ltb S e),
-      subst (λ (x : Saved). Sound ltb base x) (sym done) (next-sound S G e allowed),
+      call .whole,
+      subst (λ (x : Saved). Sound ltb base x) (sym done) (next-sound (whole-shape q S) G e allowed),
     ),
   )
 
 pub any-number : (q : State) (l : ℕ) (r : Step) → Gives q (read l) r → IsWhole q → IsSound q → r .answer .refusal ≡ 0 → r .answer .value ≡ number (tableIn q) (boxesIn q) l
 any-number q l r call S G z =
     let j = allowed q (read l) r call S G z in
-    ap (λ (x : Step). x .answer .value) call ∙ ap (λ (x : Reply). x .value) (give-done ltb base (saved q) (read l) (says-sound ltb base (saved q) G) j) ∙ number-read (saved q) S G l j
+    ap (λ (x : Reply). x .value) (call .answer) ∙ ap (λ (x : Reply). x .value) (give-done ltb base (saved q) (read l) (says-sound ltb base (saved q) G) j) ∙ number-read (saved q) (whole-shape q S) G l j
 
 -- only a read gives a value
 pub silent : (q : State) (e : Event ℕ) (r : Step) → Gives q e r → ReadsNothing e → r .answer .value ≡ 0
 unfolding ReadsNothing
-silent q e r call n = ap (λ (x : Step). x .answer .value) call ∙ go e n (give-ways ltb base (saved q) e)
+silent q e r call n = ap (λ (x : Reply). x .value) (call .answer) ∙ go e n (give-ways ltb base (saved q) e)
   where
     go : (e : Event ℕ) → ReadsNothing e
         → Ways (isSound ltb base (saved q)) (judgedOn ltb (saved q) e) (saved q) (next ltb (saved q) e) (valueOf (saved q) e) (give ltb base (saved q) e)

@@ -12,14 +12,16 @@ use Rattle.protocol.specs.Table.{Table}
 use Rattle.protocol_state.specs.Saved.{Saved, base, at, table}
 use Rattle.protocol_state.specs.Rules.{judgedTable}
 use Rattle.protocol_state.specs.Fresh.{freshOf}
-use Rattle.protocol_state.specs.Give.{Progress, note, give, afterEvent}
+use Rattle.protocol_state.specs.Fresh as state
+use Rattle.protocol_state.specs.Give.{Reply, Progress, note, give, afterEvent}
 use Rattle.protocol_state.specs.Reached.{Reached}
 use Rattle.protocol_state.proofs.Rules as rules
 use Rattle.protocol_state.proofs.Freshes.{made-fresh}
 use Rattle.protocol_state.proofs.Give.{refused-same}
 use Rattle.protocol_state.proofs.History.{reached-after, reached-fresh}
 use Rattle.protocol.specs.History.{past}
-use Rattle.mailbox.specs.States.{saved, stateOf}
+use Rattle.mailbox.specs.States.{saved, Whole}
+use Rattle.mailbox.proofs.Packed.{saved-same}
 use Rattle.mailbox.specs.declared.State.{State}
 use Rattle.mailbox.specs.declared.Step.{Step}
 use Rattle.mailbox.specs.declared.Made.{Made}
@@ -46,14 +48,14 @@ after-accepted : (q : State) (h : List (Event ℕ)) (os : List ℕ) (e : Event �
     → afterEvent ltb base (stands q h os) e ≡ stands (r .state) (e ∷ h) (note e (r .answer .value) os)
 unfolding afterEvent
 after-accepted q h os e r call z =
-    let i : eqb (give ltb base (saved q) e .refusal) 0 ≡ true = eq-eqb _ 0 (ap (λ (x : Step). x .answer .refusal) (sym call) ∙ z) in
-    rw (call, i)
+    let i : eqb (give ltb base (saved q) e .refusal) 0 ≡ true = eq-eqb _ 0 (ap (λ (x : Reply). x .refusal) (sym (call .answer)) ∙ z) in
+    rw i (ap (λ (x : Reply). record { state = x .state; history = e ∷ h; numbers = note e (x .value) os }) (sym (call .answer)))
 
 -- a refused one hands the state back
 pub same-state : (q : State) (e : Event ℕ) (r : Step) → Gives q e r → r .answer .refusal ≢ 0 → r .state ≡ q
 same-state q e r call n =
-    ap (λ (x : Step). x .state) call
-    ∙ ap (λ (x : Saved). stateOf x) (refused-same ltb base (saved q) e (λ z. n (ap (λ (x : Step). x .answer .refusal) call ∙ z)) .0)
+    saved-same (r .state) q (call .whole) (call .lent)
+    (ap (λ (x : Reply). x .state) (call .answer) ∙ refused-same ltb base (saved q) e (λ z. n (ap (λ (x : Reply). x .refusal) (call .answer) ∙ z)) .0)
 
 -- the number of a read, in either order
 noted : (e : Event ℕ) (r : Step) (os : List ℕ) → turned os ++ numbersOf e r ≡ turned (note e (r .answer .value) os)
@@ -65,10 +67,10 @@ noted (finish t v) r os = append-nil (turned os)
 
 -- a table that was accepted keeps the rules, and its state is the fresh one
 pub made-is : (T L : ℕ) (D W R K : List ℕ) (m : Made) → Makes T L D W R K m → m .refusal ≡ 0
-    → (judgedTable ltb T (at W) (at R) (at K) base L ≡ 0) × (m .state ≡ stateOf (freshOf base T L D W R K))
+    → (judgedTable ltb T (at W) (at R) (at K) base L ≡ 0) × (saved (m .state) ≡ freshOf base T L D W R K)
 made-is T L D W R K m said ok =
-    let i = made-fresh ltb base T L D W R K (ap (λ (x : Made). x .refusal) (sym said) ∙ ok) in
-    (i .0, ap (λ (x : Made). x .state) said ∙ ap stateOf (i .1))
+    let i = made-fresh ltb base T L D W R K (ap (λ (x : state.Made). x .refusal) (sym (said .answer)) ∙ ok) in
+    (i .0, ap (λ (x : state.Made). x .state) (said .answer) ∙ i .1)
 
 come-fresh : (T L : ℕ) (D W R K : List ℕ) (m : Made) → Makes T L D W R K m → m .refusal ≡ 0 → Come (station (firstTasks T D) (firstLinks L W R K)) [] [] (m .state)
 unfolding past turned
@@ -79,7 +81,7 @@ come-fresh T L D W R K m said ok =
       begin = freshOf base T L D W R K;
       same = fresh-station T L D W R K (few .0) (few .1);
       os = [];
-      reached = subst (λ (q : State). Reached ltb base (freshOf base T L D W R K) (stands q [] [])) (sym (i .1)) (reached-fresh ltb base T L D W R K (i .0));
+      reached = subst (λ (q : Saved). Reached ltb base (freshOf base T L D W R K) (record { state = q; history = []; numbers = [] })) (sym (i .1)) (reached-fresh ltb base T L D W R K (i .0));
       turns = refl;
     }
 
@@ -101,3 +103,9 @@ pub comes : {T : Table ℕ} {es : List (Event ℕ)} {ns : List ℕ} {q : State} 
 comes (fresh T L D W R K m said ok) = come-fresh T L D W R K m said ok
 comes (accepted c e r call z) = come-accepted (comes c) e r call z
 comes (refused c e r call n) = come-refused (comes c) e r call n
+
+-- and its arrays have their lengths
+pub calls-whole : {T : Table ℕ} {es : List (Event ℕ)} {ns : List ℕ} {q : State} → Calls T es ns q → Whole q
+calls-whole (fresh T L D W R K m said ok) = said .whole
+calls-whole (accepted c e r call z) = call .whole
+calls-whole (refused c e r call n) = call .whole

@@ -24,12 +24,13 @@ use Rattle.protocol_state.proofs.Rules as rules
 use Rattle.protocol_state.proofs.Freshes.{copied-length}
 use Rattle.protocol_state.proofs.Give.{Ways, give-ways}
 use Rattle.byte_format.specs.Play.{finally}
-use Rattle.mailbox.specs.States.{saved, stateOf}
+use Rattle.mailbox.specs.States.{saved}
+use Rattle.mailbox.proofs.Packed.{saved-same}
 use Rattle.mailbox.specs.declared.State.{State}
 use Rattle.mailbox.specs.declared.Step.{Step}
 use Rattle.demands.specs.Calls.{Gives, Calls, fresh, accepted, refused}
 use Rattle.demands.proofs.Tables.{Firsts, firsts-copied, fresh-station}
-use Rattle.demands.proofs.Calls.{made-is, same-state}
+use Rattle.demands.proofs.Calls.{made-is, same-state, calls-whole}
 use Rattle.demands.proofs.Runs.{calls-ideals}
 
 -- one event more
@@ -56,8 +57,8 @@ does q e r call z = go (give-ways ltb base (saved q) e)
   where
     go : Ways (isSound ltb base (saved q)) (judgedOn ltb (saved q) e) (saved q) (next ltb (saved q) e) (valueOf (saved q) e) (give ltb base (saved q) e)
         → saved (r .state) ≡ next ltb (saved q) e
-    go (inl w) = ap (λ (x : Step). saved (x .state)) call ∙ ap (λ (x : Reply). x .state) (w .2)
-    go (inr w) = absurd (w .1 (ap (λ (x : Step). x .answer .refusal) (sym call) ∙ z))
+    go (inl w) = ap (λ (x : Reply). x .state) (call .answer) ∙ ap (λ (x : Reply). x .state) (w .2)
+    go (inr w) = absurd (w .1 (ap (λ (x : Reply). x .refusal) (sym (call .answer)) ∙ z))
 
 came : {T : Table ℕ} {es : List (Event ℕ)} {ns : List ℕ} {q : State} → Calls T es ns q → Came T es q
 unfolding finally
@@ -73,7 +74,7 @@ came (fresh T L D W R K m said ok) =
       K = K;
       ok = i .0;
       same = fresh-station T L D W R K (few .0) (few .1);
-      ends = ap saved (i .1);
+      ends = i .1;
     }
 came (accepted {q = q} c e r call z) = go (came c)
   where
@@ -151,5 +152,5 @@ one-course {T} {es} {ns} {ns′} {q} {q′} c c′ =
     let C = came c in
     let C′ = came c′ in (
       calls-ideals c ∙ sym (calls-ideals c′),
-      ap stateOf (C .ends ∙ ap (λ (x : Saved). finally (next ltb) x es) (fresh-same C C′) ∙ sym (C′ .ends)),
+      saved-same q q′ (calls-whole c) (calls-whole c′) (C .ends ∙ ap (λ (x : Saved). finally (next ltb) x es) (fresh-same C C′) ∙ sym (C′ .ends)),
     )

@@ -11,11 +11,12 @@ use Rattle.protocol.specs.Event.{Event}
 use Rattle.protocol_state.specs.Saved.{base}
 use Rattle.byte_format.specs.Format.{encodes}
 use Rattle.byte_format.specs.Play.{Verdict, Cut}
+use Rattle.recording_format.specs.RecordingKind.{baseRecording}
 use Rattle.recording_format.specs.Link.{Link, listed}
 use Rattle.recording_format.specs.Event.{events}
 use Rattle.recording_format.specs.Recording.{throughE}
 use Rattle.recording_core.specs.Playing.{Playing, coreOf, steppedIn}
-use Rattle.mailbox.specs.States.{stateOf}
+use Rattle.mailbox.proofs.Packed.{saved-same}
 use Rattle.recording.specs.Answers.{replied}
 use Rattle.recording.specs.declared.Answer.{Answer}
 use Rattle.recording_demands.specs.Ensured.{Replays}
@@ -26,18 +27,18 @@ use Rattle.demands.proofs.Genuine.{genuine-core, exactly}
 use Rattle.demands.proofs.Only.{reply-parts}
 
 pub one-answer : {s out list list′ : List ℕ} {a a′ : Answer} → Replays s out a list → Replays s out a′ list′ → (a ≡ a′) × (list ≡ list′)
-one-answer said said′ = reply-parts (said .answer ∙ sym (said′ .answer))
+one-answer said said′ = reply-parts (said .whole) (said′ .whole) (said .answer ∙ sym (said′ .answer))
 
 -- the bytes of one event
-one-event : (e : Event ℕ) → length (eventBytes (e ∷ [])) ≡ length (events .encode e)
+one-event : (e : Event ℕ) → length (eventBytes (e ∷ [])) ≡ length (events baseRecording .encode e)
 unfolding encodes
-one-event e = ap length (append-nil (events .encode e))
+one-event e = ap length (append-nil (events baseRecording .encode e))
 
 module _ {s out after ds : List ℕ} {ls : List Link} {es : List (Event ℕ)} {b : Answer} {m : ℕ} (g : Genuine s out ds ls es) (said : Replays (take m s) out b after) where
-  pub power-cut : throughE ds ls ≤ m → m < length s → CutShort out ds ls es m b after
+  pub power-cut : throughE baseRecording ds ls ≤ m → m < length s → CutShort out ds ls es m b after
   power-cut through lost =
-      let c : Cut events (steppedIn ltb) (coreOf ltb base out .start ds (listed ls)) es (throughE ds ls) m (replied b after) = after-cut (genuine-core g) m said through lost in
-      let p : b .place ≡ throughE ds ls + length (encodes events (c .whole)) = ap (λ (x : Verdict Playing). x .place) (c .says) in
+      let c : Cut (events baseRecording) (steppedIn ltb) (coreOf ltb base out .start ds (listed ls)) es (throughE baseRecording ds ls) m (replied b after) = after-cut (genuine-core g) m said through lost in
+      let p : b .place ≡ throughE baseRecording ds ls + length (encodes (events baseRecording) (c .whole)) = ap (λ (x : Verdict Playing). x .place) (c .says) in
       record {
         whole = c .whole;
         partly = c .partly;
@@ -49,7 +50,7 @@ module _ {s out after ds : List ℕ} {ls : List Link} {es : List (Event ℕ)} {b
         as-whole = λ {c = d} {list} whole.
             let e = as-whole (genuine-core g) m said through lost whole in (
               ap (λ (x : Verdict Playing). x .refusal) e,
-              sym (ap (λ (x : Verdict Playing). stateOf (x .state .state)) e),
+              saved-same (b .state) (d .state) (said .whole) (whole .whole) (sym (ap (λ (x : Verdict Playing). x .state .state) e)),
               sym (ap (λ (x : Verdict Playing). x .state .counts) e),
               sym (ap (λ (x : Verdict Playing). x .state .list) e),
             );

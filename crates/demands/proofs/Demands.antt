@@ -15,20 +15,21 @@ use Rattle.protocol_state.specs.Sound.{isSound, Sound}
 use Rattle.protocol_state.specs.Fresh as state
 use Rattle.protocol_state.specs.Fresh.{made}
 use Rattle.protocol_state.specs.Rules.{judgedTable}
-use Rattle.protocol_state.specs.Give.{give}
+use Rattle.protocol_state.specs.Give.{Reply, give}
 use Rattle.protocol_state.proofs.Sound.{sound-says, says-sound}
 use Rattle.protocol_state.proofs.Give.{give-refusal, give-unsound, refused-same}
 use Rattle.protocol.specs.History.{past}
 use Rattle.recording_demands.proofs.Contract.{learnt-ensured, ensured-learnt}
 use Rattle.recording_demands.proofs.Rest.{unread}
 use Rattle.demands.proofs.Contract.{fresh-learnt, fresh-told, arrival-learnt, arrival-told, start-learnt, start-told, read-learnt, read-told, finish-learnt, finish-told, event-learnt, event-told}
-use Rattle.mailbox.specs.States.{saved, stateOf, stepOf}
+use Rattle.mailbox.specs.States.{saved}
+use Rattle.mailbox.proofs.Packed.{saved-same}
 use Rattle.mailbox.specs.declared.State.{State}
 use Rattle.mailbox.specs.declared.Step.{Step}
 use Rattle.mailbox.specs.declared.Made.{Made}
 use Rattle.byte_format.specs.Number.{Bytes}
+use Rattle.recording_format.proofs.Base.{base-length}
 use Rattle.recording_format.specs.Link.{Link}
-use Rattle.recording_format.proofs.Sizes.{base-length}
 use Rattle.recording_core.specs.Playing.{coreOf}
 use Rattle.recording.specs.declared.Answer.{Answer}
 use Rattle.recording_demands.specs.Ensured.{Replays}
@@ -43,13 +44,14 @@ use Rattle.demands.specs.Demands.{asLent, Demand1, Demand2, Demand3, Who
 use Rattle.demands.proofs.Earned.{earns-exactly}
 use Rattle.demands.proofs.TableEarned.{judged-table-earned, table-earns-one, arrays-judged}
 use Rattle.demands.proofs.Events.{phases-earned, judged-earned}
+use Rattle.demands.proofs.Calls.{same-state}
 use Rattle.demands.proofs.Runs.{calls-refusal, calls-event, calls-published, calls-there, calls-order, calls-no-time, calls-direct, calls-delayed, calls-finished}
 use Rattle.demands.proofs.Course.{one-course}
 use Rattle.demands.proofs.AnyState.{any-state, any-number, silent}
 use Rattle.demands.proofs.Replays.{keeps-of}
 use Rattle.demands.proofs.Genuine.{genuine-kept, one-reading, exactly, accepted-calls}
-use Rattle.demands.proofs.Explained.{single-made, every-answer}
-use Rattle.demands.proofs.Only.{explained-is, only, totals}
+use Rattle.demands.proofs.Explained.{single-held, every-answer}
+use Rattle.demands.proofs.Only.{explained-is, explained-whole, only, totals}
 use Rattle.demands.proofs.Unknown.{unknown-event, unknown-link}
 use Rattle.demands.proofs.Cuts.{one-answer, power-cut, nothing-lost}
 
@@ -92,7 +94,7 @@ made-refusal T L D W R K = go (eqb (judgedTable ltb T (at W) (at R) (at K) base 
 
 module _ (T L : ℕ) (D W R K : List ℕ) (m : Made) (said : Makes T L D W R K m) where
   refusal-is : m .refusal ≡ judgedTable ltb T (at W) (at R) (at K) base L
-  refusal-is = ap (λ (x : Made). x .refusal) said ∙ made-refusal T L D W R K
+  refusal-is = ap (λ (x : state.Made). x .refusal) (said .answer) ∙ made-refusal T L D W R K
 
   table-number : (n : ℕ) → (m .refusal ≡ n) ↔ TableEarns (firstTasks T D) (firstLinks L W R K) n
   table-number n =
@@ -107,7 +109,7 @@ module _ (T L : ℕ) (D W R K : List ℕ) (m : Made) (said : Makes T L D W R K m
   table-refused n =
       let e : eqb (judgedTable ltb T (at W) (at R) (at K) base L) 0 ≡ false = ne-eqb _ 0 (λ z. n (refusal-is ∙ z)) in
       let single : made ltb base T L D W R K .state ≡ state.single base = rw e in
-      subst (λ (q : State). Makes 1 0 (0 ∷ []) [] [] [] (record { refusal = 0; state = q })) (sym (ap (λ (x : Made). x .state) said ∙ ap stateOf single)) single-made
+      single-held (m .state) (ap (λ (x : state.Made). x .state) (said .answer) ∙ single) (said .whole)
 
   table-kept : (m .refusal ≡ 0) ↔ Keeps (firstTasks T D) (firstLinks L W R K)
   table-kept = (
@@ -127,18 +129,23 @@ not-sound q n = go (isSound ltb base q) refl
 
 module _ (q : State) (e : Event ℕ) (r : Step) (call : Gives q e r) where
   event-number : IsSound q → (n : ℕ) → (r .answer .refusal ≡ n) ↔ Earns (EventBreaks (tableIn q) (standingIn q) e) n
-  event-number S = earns-exactly (ap (λ (x : Step). x .answer .refusal) call ∙ give-refusal ltb base (saved q) e (says-sound ltb base (saved q) S)) (phases-earned (saved q) S e)
+  event-number S = earns-exactly (ap (λ (x : Reply). x .refusal) (call .answer) ∙ give-refusal ltb base (saved q) e (says-sound ltb base (saved q) S)) (phases-earned (saved q) S e)
 
   unknown-state : (IsSound q → ⊥) → r ≡ asLent q 19
-  unknown-state n = call ∙ ap stepOf (give-unsound ltb base (saved q) e (not-sound (saved q) n))
+  unknown-state n =
+      let u = call .answer ∙ give-unsound ltb base (saved q) e (not-sound (saved q) n) in
+      λ j. record {
+        state = saved-same (r .state) q (call .whole) (call .lent) (ap (λ (x : Reply). x .state) u) j;
+        answer = record { refusal = u j .refusal; value = u j .value };
+      }
 
   unchanged : r .answer .refusal ≢ 0 → r ≡ asLent q (r .answer .refusal)
   unchanged n =
-      let i : give ltb base (saved q) e .refusal ≢ 0 = λ z. n (ap (λ (x : Step). x .answer .refusal) call ∙ z) in
+      let i : give ltb base (saved q) e .refusal ≢ 0 = λ z. n (ap (λ (x : Reply). x .refusal) (call .answer) ∙ z) in
       let u = refused-same ltb base (saved q) e i in
       λ j. record {
-        state = (ap (λ (x : Step). x .state) call ∙ ap stateOf (u .0)) j;
-        answer = record { refusal = r .answer .refusal; value = (ap (λ (x : Step). x .answer .value) call ∙ u .1) j };
+        state = same-state q e r call n j;
+        answer = record { refusal = r .answer .refusal; value = (ap (λ (x : Reply). x .value) (call .answer) ∙ u .1) j };
       }
 
 -- after any calls
@@ -158,7 +165,7 @@ as-calls said = go (every-answer said)
 
 -- what the bytes explain is what the replay answers
 told : {s out list : List ℕ} {a : Answer} → Bytes s → Explained s out a list → Replays s out a list
-told b x = record { answer = explained-is x; bytes = b }
+told b x = record { answer = explained-is x; whole = explained-whole x; bytes = b }
 
 -- no recording is longer
 longest : {s out ds : List ℕ} {ls : List Link} {es : List (Event ℕ)} → Genuine s out ds ls es → length s ≤ 60164

@@ -3,7 +3,7 @@
 use mathlib.Core.Path.{_≡_, refl}
 use mathlib.Core.List.{List, [], _∷_, _++_}
 use Prim.Native.Nat.{ℕ}
-use lib.Dec.{lit<}
+use lib.Dec.{ltb, lit<}
 use Rattle.lists.specs.Lists.{some, count, leading}
 use Rattle.protocol.specs.Event.{Event, arrival, start, read, finish, has}
 use Rattle.protocol.specs.Table.{Table}
@@ -13,7 +13,11 @@ use Rattle.protocol.specs.Schedule.{urgent, Possible}
 use Rattle.protocol.specs.ZeroTime.{dues}
 use Rattle.protocol.specs.Instant.{upward}
 use Rattle.protocol_state.specs.Rules.{fault, judgedTable}
-use Rattle.mailbox.specs.States.{given}
+use Rattle.protocol_state.specs.Saved.{base}
+use Rattle.protocol_state.specs.Give.{give}
+use Rattle.mailbox.specs.States.{saved}
+use Rattle.mailbox.proofs.Packed.{stepTo, given-to}
+use Rattle.demands.proofs.Calls.{calls-whole}
 use Rattle.mailbox.specs.declared.State.{State}
 use Rattle.demands.specs.Station.{station}
 use Rattle.demands.specs.Order.{turned}
@@ -34,7 +38,10 @@ abbrev Some : List (Event ℕ) → Type 0
 Some es = (ns : List ℕ) × (q : State) × Calls two es ns q
 
 more : {es : List (Event ℕ)} → Some es → (e : Event ℕ) → Possible two (urgent two) (past [] es) e → Some (es ++ (e ∷ []))
-more {es} c e p = (_, _, accepted (c .2) e (given (c .1) e) refl (calls-event (c .2) e (given (c .1) e) refl .1 p))
+more {es} c e p =
+    let r = stepTo (give ltb base (saved (c .1)) e) in
+    let g = given-to (c .1) e (calls-whole (c .2)) in
+    (_, _, accepted (c .2) e r g (calls-event (c .2) e r g .1 p))
 
 none : Some []
 unfolding judgedTable fault leading some count upward

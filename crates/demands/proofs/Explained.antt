@@ -2,7 +2,7 @@
 -- Assumes nothing.
 use mathlib.Core.Path.{_≡_, refl, sym, ap, subst, _∙_}
 use mathlib.Core.Logic.{_≢_, inl, inr}
-use mathlib.Core.List.{List, [], _∷_, _++_}
+use mathlib.Core.List.{List, [], _∷_}
 use Prim.Native.Nat.{ℕ, _+_, _≤_}
 use native.Mathlib.Omega.{arith}
 use lib.Dec.{ltb}
@@ -13,9 +13,8 @@ use Rattle.protocol.specs.History.{counts, past}
 use Rattle.protocol_state.specs.Saved.{base, at}
 use Rattle.protocol_state.specs.Fresh as fresh
 use Rattle.protocol_state.proofs.Rules.{ltb-ranks, no-refusal}
-use Rattle.byte_format.specs.Number.{bytesOf}
 use Rattle.byte_format.specs.Stands.{Stands}
-use Rattle.byte_format.specs.Format.{Got, stop, FitEach, encodes}
+use Rattle.byte_format.specs.Format.{Got, stop, FitEach, encodeBegun}
 use Rattle.byte_format.specs.Play.{Verdict, verdict, refusalOf}
 use Rattle.byte_format.specs.Section.{Faulty}
 use Rattle.byte_format.proofs.Standing.{stands-join}
@@ -23,9 +22,10 @@ use Rattle.byte_format.proofs.Kinded.{Case, missing, strange, short, whole, whi
 use Rattle.recording_format.specs.Link.{Link, listed}
 use Rattle.recording_format.specs.Event as format
 use Rattle.recording_format.specs.Event.{Kind, eventKinds, events, eventAt, sizeOf}
-use Rattle.recording_format.specs.Limits.{baseLimits, eventLimit}
+use Rattle.recording_format.specs.RecordingKind.{baseRecording, eventLimit}
 use Rattle.recording_format.specs.Recording.{stateAfter}
-use Rattle.recording_format.specs.Outcome.{TableTo, RecordingOutcome, taskCount, taskRecord, linkCount, linkRecord, eventCount, eventRecord, extraBytes, accepted}
+use Rattle.recording_format.specs.Outcome.{TableTo, RecordingOutcome, taskCount, taskRecord, linkCount, linkRecord, eventCount, eventRecord, extraBytes, lastFault, accepted}
+use Rattle.recording_format.proofs.Base.{base-room}
 use Rattle.recording_format.proofs.Sizes.{events-within}
 use Rattle.recording_format.proofs.LinkRules.{allowed-judged}
 use Rattle.recording_format.proofs.EventKinds.{byteOf, events-told}
@@ -33,7 +33,7 @@ use Rattle.recording_format.proofs.EventRecords.{events-lawful}
 use Rattle.recording_core.specs.Playing.{Playing, coreOf, judgedIn, steppedIn}
 use Rattle.recording_core.specs.Promise.{refusedBy, tableOf}
 use Rattle.recording_core.proofs.Promises.{event-refused}
-use Rattle.mailbox.specs.States.{stateOf, madeOf}
+use Rattle.mailbox.specs.States.{saved, Whole}
 use Rattle.mailbox.specs.declared.State.{State}
 use Rattle.recording.specs.Answers.{replied}
 use Rattle.recording.specs.declared.Answer.{Answer}
@@ -50,29 +50,33 @@ use Rattle.demands.proofs.Genuine.{calls-there, listed-there}
 use Rattle.demands.proofs.TableFaults.{table-begun, task-count-fault, task-fault, link-count-fault, link-fault, event-count-fault}
 
 -- the kinds of events, in words and as the reader knows them
-pub kind-known : (k : Kind) {b : ℕ} → b ≡ byteOf k → KindOf b (sizeOf k)
+pub kind-known : (k : Kind) {b : ℕ} → b ≡ byteOf k → KindOf b (sizeOf baseRecording k)
 kind-known format.anArrival e = rw e anArrival
 kind-known format.aStart e = rw e aStart
 kind-known format.aRead e = rw e aRead
 kind-known format.aFinish e = rw e aFinish
 
-pub known-kind : {b n : ℕ} → KindOf b n → (k : Kind) × (b ≡ byteOf k) × (n ≡ sizeOf k)
+pub known-kind : {b n : ℕ} → KindOf b n → (k : Kind) × (b ≡ byteOf k) × (n ≡ sizeOf baseRecording k)
 known-kind anArrival = (format.anArrival, refl, refl)
 known-kind aStart = (format.aStart, refl, refl)
 known-kind aRead = (format.aRead, refl, refl)
 known-kind aFinish = (format.aFinish, refl, refl)
 
 -- the single task's state is what its table makes
-pub single-made : Makes 1 0 (0 ∷ []) [] [] [] (record { refusal = 0; state = stateOf (fresh.single base) })
+pub single-made : fresh.made ltb base 1 0 (0 ∷ []) [] [] [] ≡ record { refusal = 0; state = fresh.single base }
 single-made =
-    ap madeOf (sym (made-ok 1 0 (0 ∷ []) [] [] [] (no-refusal ltb 1 (at []) (at []) (at []) base 0 (omega arith) (omega arith) (omega arith) (λ l h. absurd (omega arith)))))
+    made-ok 1 0 (0 ∷ []) [] [] [] (no-refusal ltb 1 (at []) (at []) (at []) base 0 (omega arith) (omega arith) (omega arith) (λ l h. absurd (omega arith)))
+
+-- so whatever holds it is
+pub single-held : (q : State) → saved q ≡ fresh.single base → Whole q → Makes 1 0 (0 ∷ []) [] [] [] (record { refusal = 0; state = q })
+single-held q e w = record { answer = (λ i. record { refusal = 0; state = e i }) ∙ sym single-made; whole = w }
 
 module _ {s out list : List ℕ} {a : Answer} (said : Replays s out a list) where
   -- refused in the table
   at-table : {r p : ℕ} → replied a list ≡ verdict r p (coreOf ltb base out .single) → TableFault s r p → AtTable s out a list
   at-table e f = record {
     fault = rw (ap (λ (x : Verdict Playing). x .refusal) e, ap (λ (x : Verdict Playing). x .place) e) f;
-    state = subst (λ (q : State). Makes 1 0 (0 ∷ []) [] [] [] (record { refusal = 0; state = q })) (sym (ap (λ (x : Verdict Playing). stateOf (x .state .state)) e)) single-made;
+    state = single-held (a .state) (ap (λ (x : Verdict Playing). x .state .state) e) (said .whole);
     counted = ap (λ (x : Verdict Playing). x .state .counts) e;
     listed = ap (λ (x : Verdict Playing). x .state .list) e;
   }
@@ -88,41 +92,41 @@ module _ {s out list : List ℕ} {a : Answer} (said : Replays s out a list) wher
       ns = w .ns;
       total = E;
       begun = rw (ap (λ (x : Verdict Playing). x .place) e) b;
-      calls = calls-there e w;
+      calls = calls-there said e w;
       counted = ap (λ (x : Verdict Playing). x .state .counts) e ∙ w .right .counts ∙ ap (λ (T : Table ℕ). counts T (past [] es)) (w .same);
-      listed = listed-there e w;
+      listed = listed-there said e w;
       ending = rw (ap (λ (x : Verdict Playing). x .place) e, ap (λ (x : Verdict Playing). x .refusal) e) t;
     }
 
   -- a record that is not there, or is refused by the table and the events before it
-  record-fault : {ds : List ℕ} {ls : List Link} {m : ℕ} {es : List (Event ℕ)} {r p : ℕ} (t : TableTo ltb baseLimits s ds ls m)
-      (f : Faulty events (eventLimit baseLimits) (judgedIn ltb) (steppedIn ltb) s (coreOf ltb base out .start ds (listed ls)) m es r p)
-      → tableOf ltb baseLimits ds ls ≡ station ds ls → r ≢ 0 → Ending (station ds ls) s out (f .total) es p r
-  record-fault {ds} {ls} {m} {es} {r} {p} t f same n = go (which eventKinds byteOf events-told s p)
+  record-fault : {ds : List ℕ} {ls : List Link} {m : ℕ} {es : List (Event ℕ)} {r p : ℕ} (t : TableTo ltb baseRecording s ds ls m)
+      (f : Faulty (events baseRecording) (eventLimit baseRecording) (judgedIn ltb) (steppedIn ltb) s (coreOf ltb base out .start ds (listed ls)) m es r p)
+      → tableOf ltb base ds ls ≡ station ds ls → r ≢ 0 → Ending (station ds ls) s out (f .total) es p r
+  record-fault {ds} {ls} {m} {es} {r} {p} t f same n = go (which (eventKinds baseRecording) byteOf (events-told baseRecording) s p)
     where
-      stopped : {k : ℕ} → eventAt s p ≡ stop k → k ≡ r
+      stopped : {k : ℕ} → eventAt baseRecording s p ≡ stop k → k ≡ r
       stopped i = sym (f .fault ∙ ap (λ (y : Got (Event ℕ)). refusalOf y (judgedIn ltb (stateAfter (coreOf ltb base out) ds ls es))) i)
 
       given : {k : ℕ} → k ≡ r → Ending (station ds ls) s out (f .total) es p k → Ending (station ds ls) s out (f .total) es p r
       given e x = subst (λ (k : ℕ). Ending (station ds ls) s out (f .total) es p k) e x
 
-      go : Case eventKinds byteOf events-told s p → Ending (station ds ls) s out (f .total) es p r
+      go : Case (eventKinds baseRecording) byteOf (events-told baseRecording) s p → Ending (station ds ls) s out (f .total) es p r
       go (missing h i) = given (stopped i) (noKind (f .more) (omega (arith, f .played .bytes .within)))
       go (strange h u i) = given (stopped i) (unknownKind (f .more) h (λ k x. let w = known-kind x in u (w .0) (w .1)))
-      go (short k h e l i) = given (stopped i) (cutEvent (f .more) h (sizeOf k) (kind-known k e) l)
+      go (short k h e l i) = given (stopped i) (cutEvent (f .more) h (sizeOf baseRecording k) (kind-known k e) l)
       go (whole k e l i) =
-          let x : Event ℕ = format.bodyAt k s p in
-          let w = events-lawful .tells s p x (p + sizeOf k) (said .bytes) (f .played .bytes .within) i in
-          badEvent (f .more) x (p + sizeOf k) (w .1) (w .0)
+          let x : Event ℕ = format.bodyAt baseRecording k s p in
+          let w = events-lawful baseRecording .tells s p x (p + sizeOf baseRecording k) (said .bytes) (f .played .bytes .within) i in
+          badEvent (f .more) x (p + sizeOf baseRecording k) (w .1) (w .0)
           (subst (λ (j : ℕ). Earns (RecordBreaks (station ds ls) out (past [] es) x) j)
-          (sym (event-refused ltb-ranks baseLimits out t f i ∙ ap (λ (T : Table ℕ). refusedBy T out (past [] es) x) same)) (record-earned (station ds ls) (past [] es) out x)) n
+          (sym (event-refused ltb-ranks baseRecording base base-room out t f i ∙ ap (λ (T : Table ℕ). refusedBy T out (past [] es) x) same)) (record-earned (station ds ls) (past [] es) out x)) n
 
-  table-fine : {ds : List ℕ} {ls : List Link} {m : ℕ} → TableTo ltb baseLimits s ds ls m → Fine ds ls
-  table-fine {ds} {ls} t = allowed-judged ltb (length ds) baseLimits ls (t .tasked .kept .few) (t .linked .kept .few) (t .linked .kept .allowed)
+  table-fine : {ds : List ℕ} {ls : List Link} {m : ℕ} → TableTo ltb baseRecording s ds ls m → Fine ds ls
+  table-fine {ds} {ls} t = allowed-judged ltb (length ds) baseRecording base base-room ls (t .tasked .kept .few) (t .linked .kept .few) (t .linked .kept .allowed)
 
   -- the table and the first events stand there
-  events-begun : {ds : List ℕ} {ls : List Link} {m : ℕ} → TableTo ltb baseLimits s ds ls m → (es : List (Event ℕ)) (E p : ℕ) → E ≤ 10000 → FitEach events es
-      → Stands s m (bytesOf 2 E ++ encodes events es) p → EventsBegun s ds ls E es p
+  events-begun : {ds : List ℕ} {ls : List Link} {m : ℕ} → TableTo ltb baseRecording s ds ls m → (es : List (Event ℕ)) (E p : ℕ) → E ≤ baseRecording .events → FitEach (events baseRecording) es
+      → Stands s m (encodeBegun (events baseRecording) E es) p → EventsBegun s ds ls E es p
   events-begun t es E p few fits b =
       let k = table-begun s t in
       record { few = few; keeps = k .keeps; fits = (k .fits .0, (k .fits .1, fits)); bytes = stands-join (t .tasked .bytes) (stands-join (t .linked .bytes) b) }
@@ -130,7 +134,7 @@ module _ {s out list : List ℕ} {a : Answer} (said : Replays s out a list) wher
   pub every-answer : Explained s out a list
   every-answer = go (answered said)
     where
-      go : RecordingOutcome ltb baseLimits (coreOf ltb base out) s (replied a list) → Explained s out a list
+      go : RecordingOutcome ltb baseRecording (coreOf ltb base out) s (replied a list) → Explained s out a list
       go (taskCount r n u e) = inl (at-table e (task-count-fault s u))
       go (taskRecord ds r p n f e) = inl (at-table e (task-fault s n f))
       go (linkCount ds r p n t u e) = inl (at-table e (link-count-fault s t u))
@@ -138,11 +142,12 @@ module _ {s out list : List ℕ} {a : Answer} (said : Replays s out a list) wher
       go (eventCount ds ls r p n t u e) = inl (at-table e (event-count-fault s t u))
       go (eventRecord ds ls m es r p n t f e) =
           let w = went out ds ls es (table-fine t) (f .played .allowed) in
-          inr (at-events e w (f .total) (events-begun t es (f .total) p (events-within baseLimits (f .total) (f .few)) (f .played .fits) (stands-join (f .count) (f .played .bytes)))
+          inr (at-events e w (f .total) (events-begun t es (f .total) p (events-within baseRecording (f .total) (f .few)) (f .played .fits) (stands-join (f .count) (f .played .bytes)))
           (record-fault t f (w .same) n))
       go (extraBytes ds ls m es p t k h e) =
           let w = went out ds ls es (table-fine t) (k .kept .allowed) in
-          inr (at-events e w (length es) (events-begun t es (length es) p (events-within baseLimits (length es) (k .kept .few)) (k .kept .fits) (k .bytes)) (recordings.extra refl (omega arith)))
-      go (accepted ds ls m es t k e) =
+          inr (at-events e w (length es) (events-begun t es (length es) p (events-within baseRecording (length es) (k .kept .few)) (k .kept .fits) (k .bytes)) (recordings.extra refl (omega arith)))
+      go (lastFault ds ls m es t k n e) = absurd (n refl)
+      go (accepted ds ls m es t k z e) =
           let w = went out ds ls es (table-fine t) (k .kept .allowed) in
-          inr (at-events e w (length es) (events-begun t es (length es) (length s) (events-within baseLimits (length es) (k .kept .few)) (k .kept .fits) (k .bytes)) (recordings.whole refl refl))
+          inr (at-events e w (length es) (events-begun t es (length es) (length s) (events-within baseRecording (length es) (k .kept .few)) (k .kept .fits) (k .bytes)) (recordings.whole refl refl))

@@ -5,7 +5,7 @@ use mathlib.Core.Logic.{_≢_}
 use mathlib.Core.List.{List, [], _++_}
 use Prim.Native.Nat.{ℕ, _+_, _<_}
 use native.Mathlib.Omega.{arith}
-use lib.Dec.{ltb, lit<}
+use lib.Dec.{ltb}
 use lib.ListN.{length}
 use Rattle.protocol.specs.Event.{Event}
 use Rattle.protocol.specs.Table.{Table}
@@ -21,9 +21,10 @@ use Rattle.byte_format.proofs.Kinded as kinded
 use Rattle.recording_format.specs.Task.{tasks}
 use Rattle.recording_format.specs.Link.{Link, links, listed}
 use Rattle.recording_format.specs.Event.{eventKinds, events, eventAt, sizeOf}
-use Rattle.recording_format.specs.Limits.{baseLimits, eventLimit}
+use Rattle.recording_format.specs.RecordingKind.{baseRecording, eventLimit}
 use Rattle.recording_format.specs.Recording.{encodeRecording, stateAfter}
 use Rattle.recording_format.specs.Outcome.{TableTo, RecordingOutcome, eventRecord, extraBytes, accepted}
+use Rattle.recording_format.proofs.Base.{base-room, base-counts}
 use Rattle.recording_format.proofs.Sizes.{within-events, events-fit}
 use Rattle.recording_format.proofs.LinkRules.{recorded-judged}
 use Rattle.recording_format.proofs.EventKinds.{byteOf, events-told, kind-unknown}
@@ -42,72 +43,72 @@ use Rattle.demands.proofs.TableFaults.{begun-table}
 use Rattle.demands.proofs.Explained.{kind-known, known-kind}
 
 -- ---- the table and the events es stand at the beginning of the bytes s, and the events could happen
-module _ {s out ds : List ℕ} {ls : List Link} {es : List (Event ℕ)} {E p : ℕ} (b : EventsBegun s ds ls E es p) (alone : Genuine (encodeRecording ds ls es) out ds ls es) where
+module _ {s out ds : List ℕ} {ls : List Link} {es : List (Event ℕ)} {E p : ℕ} (b : EventsBegun s ds ls E es p) (alone : Genuine (encodeRecording baseRecording ds ls es) out ds ls es) where
   -- the place of E
   abbrev tableEnds : ℕ
-  tableEnds = 0 + length (encodeSection tasks ds) + length (encodeSection links ls)
+  tableEnds = 0 + length (encodeSection (tasks baseRecording) ds) + length (encodeSection (links baseRecording) ls)
 
-  from-links : Stands s (0 + length (encodeSection tasks ds)) (encodeSection links ls ++ (bytesOf 2 E ++ encodes events es)) p
-  from-links = stands-left (encodeSection tasks ds) _ (b .bytes)
+  from-links : Stands s (0 + length (encodeSection (tasks baseRecording) ds)) (encodeSection (links baseRecording) ls ++ (bytesOf (baseRecording .eventCountWidth) E ++ encodes (events baseRecording) es)) p
+  from-links = stands-left (encodeSection (tasks baseRecording) ds) _ (b .bytes)
 
-  from-events : Stands s tableEnds (bytesOf 2 E ++ encodes events es) p
-  from-events = stands-left (encodeSection links ls) _ from-links
+  from-events : Stands s tableEnds (bytesOf (baseRecording .eventCountWidth) E ++ encodes (events baseRecording) es) p
+  from-events = stands-left (encodeSection (links baseRecording) ls) _ from-links
 
-  table-there : TableTo ltb baseLimits s ds ls tableEnds
+  table-there : TableTo ltb baseRecording s ds ls tableEnds
   table-there = begun-table s (record {
     few = b .keeps .links;
     keeps = b .keeps;
     fits = (b .fits .0, b .fits .1 .0);
-    bytes = stands-join (stands-first (encodeSection tasks ds) _ (b .bytes)) (stands-first (encodeSection links ls) _ from-links);
+    bytes = stands-join (stands-first (encodeSection (tasks baseRecording) ds) _ (b .bytes)) (stands-first (encodeSection (links baseRecording) ls) _ from-links);
   })
 
   allowed-there : Allowed (judgedIn ltb) (steppedIn ltb) (coreOf ltb base out .start ds (listed ls)) es
   allowed-there = genuine-kept alone .played .allowed
 
   pub went-there : Went out ds ls es (stateAfter (coreOf ltb base out) ds ls es)
-  went-there = went out ds ls es (recorded-judged ltb baseLimits (coreOf ltb base out) (encodeRecording ds ls es) ds ls es (genuine-kept alone)) allowed-there
+  went-there = went out ds ls es (recorded-judged ltb baseRecording base base-room (coreOf ltb base out) (encodeRecording baseRecording ds ls es) ds ls es (genuine-kept alone)) allowed-there
 
   -- what the reader finds at the place
-  faulty : (r : ℕ) → length es < E → r ≡ refusalOf (eventAt s p) (judgedIn ltb (stateAfter (coreOf ltb base out) ds ls es))
-      → Faulty events (eventLimit baseLimits) (judgedIn ltb) (steppedIn ltb) s (coreOf ltb base out .start ds (listed ls)) tableEnds es r p
+  faulty : (r : ℕ) → length es < E → r ≡ refusalOf (eventAt baseRecording s p) (judgedIn ltb (stateAfter (coreOf ltb base out) ds ls es))
+      → Faulty (events baseRecording) (eventLimit baseRecording) (judgedIn ltb) (steppedIn ltb) s (coreOf ltb base out .start ds (listed ls)) tableEnds es r p
   faulty r more e =
-      let few = within-events baseLimits (E) (b .few) in
+      let few = within-events baseRecording (E) (b .few) in
       record {
         total = E;
-        counted = events-fit baseLimits (E) (lit< tt) few;
+        counted = events-fit baseRecording (E) base-counts few;
         few = few;
-        first = tableEnds + length (bytesOf 2 (E));
-        count = stands-first (bytesOf 2 (E)) _ from-events;
-        played = record { fits = b .fits .1 .1; allowed = allowed-there; bytes = stands-left (bytesOf 2 (E)) _ from-events };
+        first = tableEnds + length (bytesOf (baseRecording .eventCountWidth) (E));
+        count = stands-first (bytesOf (baseRecording .eventCountWidth) (E)) _ from-events;
+        played = record { fits = b .fits .1 .1; allowed = allowed-there; bytes = stands-left (bytesOf (baseRecording .eventCountWidth) (E)) _ from-events };
         more = more;
         fault = e;
       }
 
   -- a record that stops the reader
-  stops : (r : ℕ) → length es < E → r ≢ 0 → eventAt s p ≡ stop r
-      → RecordingOutcome ltb baseLimits (coreOf ltb base out) s (verdict r p (stateAfter (coreOf ltb base out) ds ls es))
+  stops : (r : ℕ) → length es < E → r ≢ 0 → eventAt baseRecording s p ≡ stop r
+      → RecordingOutcome ltb baseRecording (coreOf ltb base out) s (verdict r p (stateAfter (coreOf ltb base out) ds ls es))
   stops r more n i =
       eventRecord ds ls tableEnds es r p n table-there
       (faulty r more (sym (ap (λ (y : Got (Event ℕ)). refusalOf y (judgedIn ltb (stateAfter (coreOf ltb base out) ds ls es))) i))) refl
 
   pub found : {r : ℕ} → Ending (station ds ls) s out (E) es p r
-      → RecordingOutcome ltb baseLimits (coreOf ltb base out) s (verdict r p (stateAfter (coreOf ltb base out) ds ls es))
+      → RecordingOutcome ltb baseRecording (coreOf ltb base out) s (verdict r p (stateAfter (coreOf ltb base out) ds ls es))
   found (recordings.whole e i) =
       accepted ds ls tableEnds es table-there
-      (record { kept = genuine-kept alone .played; bytes = rw (← i) (subst (λ (n : ℕ). Stands s tableEnds (bytesOf 2 n ++ encodes events es) p) (sym e) from-events) })
-      (ap (λ (k : ℕ). verdict 0 k (stateAfter (coreOf ltb base out) ds ls es)) i)
+      (record { kept = genuine-kept alone .played; bytes = rw (← i) (subst (λ (n : ℕ). Stands s tableEnds (bytesOf (baseRecording .eventCountWidth) n ++ encodes (events baseRecording) es) p) (sym e) from-events) })
+      refl (ap (λ (k : ℕ). verdict 0 k (stateAfter (coreOf ltb base out) ds ls es)) i)
   found (recordings.extra e h) =
       extraBytes ds ls tableEnds es p table-there
-      (record { kept = genuine-kept alone .played; bytes = subst (λ (n : ℕ). Stands s tableEnds (bytesOf 2 n ++ encodes events es) p) (sym e) from-events }) h refl
-  found (noKind more i) = stops 1 more (λ z. omega arith) (kinded.kind-missing eventKinds byteOf events-told s p (omega arith))
+      (record { kept = genuine-kept alone .played; bytes = subst (λ (n : ℕ). Stands s tableEnds (bytesOf (baseRecording .eventCountWidth) n ++ encodes (events baseRecording) es) p) (sym e) from-events }) h refl
+  found (noKind more i) = stops 1 more (λ z. omega arith) (kinded.kind-missing (eventKinds baseRecording) byteOf (events-told baseRecording) s p (omega arith))
   found (unknownKind more h u) =
       stops 11 more (λ z. omega arith)
-      (kinded.kind-unknown eventKinds byteOf events-told s p h (kind-unknown _ (λ k e. u (sizeOf k) (kind-known k e))))
+      (kinded.kind-unknown (eventKinds baseRecording) byteOf (events-told baseRecording) s p h (kind-unknown _ (λ k e. u (sizeOf baseRecording k) (kind-known k e))))
   found (cutEvent more h n k l) =
       let w = known-kind k in
-      stops 1 more (λ z. omega arith) (kinded.rest-missing eventKinds byteOf events-told s p (w .0) h (w .1) (omega (arith, w .2)))
+      stops 1 more (λ z. omega arith) (kinded.rest-missing (eventKinds baseRecording) byteOf (events-told baseRecording) s p (w .0) h (w .1) (omega (arith, w .2)))
   found (badEvent {r} more e q x f g n) =
-      let i : eventAt s p ≡ got e q = events-lawful .reads s p e q f x in
+      let i : eventAt baseRecording s p ≡ got e q = events-lawful baseRecording .reads s p e q f x in
       let j : judgedIn ltb (stateAfter (coreOf ltb base out) ds ls es) e ≡ refusedBy (station ds ls) out (past [] es) e =
       refused-by (went-there .right) e ∙ ap (λ (T : Table ℕ). refusedBy T out (past [] es) e) (went-there .same) in
       eventRecord ds ls tableEnds es r p n table-there

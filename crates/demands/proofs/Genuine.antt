@@ -1,11 +1,11 @@
 -- Demand 2's exactly-when of a recording, and an accepted recording as calls.
 -- Assumes nothing.
-use mathlib.Core.Path.{_≡_, sym, ap, subst, _∙_}
+use mathlib.Core.Path.{_≡_, refl, sym, ap, subst, _∙_}
 use mathlib.Core.Logic.{_↔_}
 use mathlib.Core.List.{List, []}
 use Prim.Native.Nat.{ℕ, _+_, _<_, _≤_}
 use native.Mathlib.Omega.{arith}
-use lib.Dec.{ltb, lit<}
+use lib.Dec.{ltb}
 use lib.ListN.{length, replicate, length-replicate}
 use Rattle.protocol.specs.Event.{Event}
 use Rattle.protocol.specs.Table.{Table}
@@ -16,15 +16,16 @@ use Rattle.protocol_state.specs.Rules.{Obeys}
 use Rattle.protocol_state.proofs.Rules.{ltb-ranks}
 use Rattle.byte_format.specs.Play.{Verdict, verdict}
 use Rattle.recording_format.specs.Link.{Link, Links}
-use Rattle.recording_format.specs.Limits.{baseLimits}
+use Rattle.recording_format.specs.RecordingKind.{baseRecording}
 use Rattle.recording_format.specs.Recording.{stateAfter, Recorded}
+use Rattle.recording_format.proofs.Base.{base-room, base-counts}
 use Rattle.recording_format.proofs.LinkRules.{recorded-judged}
 use Rattle.recording_format.proofs.Recordings.{recorded-accepted}
 use Rattle.recording_format.proofs.Unique.{recorded-unique}
 use Rattle.recording_core.specs.Playing.{Playing, coreOf}
 use Rattle.recording_core.specs.Promise as core
 use Rattle.recording_core.proofs.Promises.{genuine-recorded}
-use Rattle.mailbox.specs.States.{stateOf}
+use Rattle.mailbox.proofs.Packed.{packed-is}
 use Rattle.mailbox.specs.declared.State.{State}
 use Rattle.recording.specs.Answers.{replied}
 use Rattle.recording.specs.declared.Answer.{Answer}
@@ -42,7 +43,7 @@ abbrev Ruled : List ℕ → List Link → Links → Type 0
 Ruled ds ls c = (l : ℕ) → l < length ls → Obeys ltb (length ds) (at (c .writer)) (at (c .reader)) (at (c .kind)) l
 
 module _ {s out ds : List ℕ} {ls : List Link} {es : List (Event ℕ)} where
-  pub genuine-core : Genuine s out ds ls es → core.CoreGenuine ltb baseLimits s out ds ls es
+  pub genuine-core : Genuine s out ds ls es → core.CoreGenuine ltb baseRecording base s out ds ls es
   unfolding reads AllPossible
   genuine-core g = record {
     bytes = g .bytes;
@@ -56,7 +57,7 @@ module _ {s out ds : List ℕ} {ls : List Link} {es : List (Event ℕ)} where
     room = omega (arith, past-reads [] es, g .room);
   }
 
-  pub core-genuine : core.CoreGenuine ltb baseLimits s out ds ls es → Genuine s out ds ls es
+  pub core-genuine : core.CoreGenuine ltb baseRecording base s out ds ls es → Genuine s out ds ls es
   unfolding reads
   core-genuine g = record {
     keeps = record { tasks = g .few-tasks; links = g .few-links; rules = subst (λ (c : Links). Ruled ds ls c) (listed-columns ls) (g .rules) };
@@ -69,8 +70,8 @@ module _ {s out ds : List ℕ} {ls : List Link} {es : List (Event ℕ)} where
   }
 
   -- a genuine recording, as the reader judges it
-  pub genuine-kept : Genuine s out ds ls es → Recorded ltb baseLimits (coreOf ltb base out) s ds ls es
-  genuine-kept g = genuine-recorded ltb-ranks baseLimits out (lit< tt) (lit< tt) (lit< tt) (genuine-core g)
+  pub genuine-kept : Genuine s out ds ls es → Recorded ltb baseRecording (coreOf ltb base out) s ds ls es
+  genuine-kept g = genuine-recorded ltb-ranks baseRecording base base-room out base-counts (genuine-core g)
 
 -- another list with room for the numbers
 genuine-room : {s out out′ ds : List ℕ} {ls : List Link} {es : List (Event ℕ)} → Genuine s out ds ls es → reads es ≤ length out′ → Genuine s out′ ds ls es
@@ -84,7 +85,7 @@ one-reading {s} {out} {out′} {ds} {ds′} {ls} {ls′} {es} {es′} g g′ =
     let long = length-replicate {A = ℕ} n 0 in
     let k = genuine-kept (genuine-room {out′ = replicate {A = ℕ} n 0} g (omega arith)) in
     let k′ = genuine-kept (genuine-room {out′ = replicate {A = ℕ} n 0} g′ (omega arith)) in
-    let u = recorded-unique ltb baseLimits (coreOf ltb base (replicate {A = ℕ} n 0)) s ds ds′ ls ls′ es es′ k k′ in
+    let u = recorded-unique ltb baseRecording (coreOf ltb base (replicate {A = ℕ} n 0)) s ds ds′ ls ls′ es es′ k k′ in
     (u .0, u .1 .0, u .1 .1)
 
 module _ {s out list : List ℕ} {a : Answer} (said : Replays s out a list) where
@@ -95,10 +96,10 @@ module _ {s out list : List ℕ} {a : Answer} (said : Replays s out a list) wher
   )
 
 -- an answer with the state that some events came to
-module _ {out list : List ℕ} {a : Answer} {r p : ℕ} {ds : List ℕ} {ls : List Link} {es : List (Event ℕ)}
+module _ {s out list : List ℕ} {a : Answer} {r p : ℕ} {ds : List ℕ} {ls : List Link} {es : List (Event ℕ)} (said : Replays s out a list)
     (e : replied a list ≡ verdict r p (stateAfter (coreOf ltb base out) ds ls es)) (w : Went out ds ls es (stateAfter (coreOf ltb base out) ds ls es)) where
   pub calls-there : Calls (station ds ls) es (w .ns) (a .state)
-  calls-there = subst (λ (x : State). Calls (station ds ls) es (w .ns) x) (sym (ap (λ (x : Verdict Playing). stateOf (x .state .state)) e)) (w .calls)
+  calls-there = subst (λ (x : State). Calls (station ds ls) es (w .ns) x) (sym (packed-is (a .state) _ (said .whole) (ap (λ (x : Verdict Playing). x .state .state) e))) (w .calls)
 
   pub listed-there : Listed (w .ns) out list
   listed-there = subst (λ (x : List ℕ). Listed (w .ns) out x) (sym (ap (λ (x : Verdict Playing). x .state .list) e)) (w .listed)
@@ -108,6 +109,6 @@ pub accepted-calls : {s out list ds : List ℕ} {a : Answer} {ls : List Link} {e
     → (ns : List ℕ) × Calls (station ds ls) es ns (a .state) × Listed ns out list × (a .place ≡ length s)
 accepted-calls {s} {out} {list} {ds} {a} {ls} {es} said g =
     let k = genuine-kept g in
-    let e = said .answer ∙ recorded-accepted ltb baseLimits (coreOf ltb base out) s ds ls es k in
-    let w = went out ds ls es (recorded-judged ltb baseLimits (coreOf ltb base out) s ds ls es k) (k .played .allowed) in
-    (w .ns, calls-there e w, listed-there e w, ap (λ (x : Verdict Playing). x .place) e)
+    let e = said .answer ∙ recorded-accepted ltb baseRecording (coreOf ltb base out) s ds ls es k refl in
+    let w = went out ds ls es (recorded-judged ltb baseRecording base base-room (coreOf ltb base out) s ds ls es k) (k .played .allowed) in
+    (w .ns, calls-there said e w, listed-there said e w, ap (λ (x : Verdict Playing). x .place) e)

@@ -14,11 +14,13 @@ use Rattle.protocol.specs.ZeroTime.{ideals}
 use Rattle.protocol_state.specs.Saved.{base}
 use Rattle.byte_format.specs.Play.{Verdict, verdict}
 use Rattle.recording_format.specs.Link.{Link, listed}
-use Rattle.recording_format.specs.Limits.{baseLimits}
+use Rattle.recording_format.specs.RecordingKind.{baseRecording}
 use Rattle.recording_format.specs.Recording.{encodeRecording, stateAfter, recording}
 use Rattle.recording_format.proofs.Decided.{outcome-is}
 use Rattle.recording_core.specs.Playing.{Playing, coreOf}
-use Rattle.mailbox.specs.States.{saved, stateOf}
+use Rattle.protocol_state.specs.Fresh as fresh
+use Rattle.mailbox.specs.States.{saved, Whole}
+use Rattle.mailbox.proofs.Packed.{saved-packed, saved-same}
 use Rattle.mailbox.specs.declared.Made.{Made}
 use Rattle.recording.specs.Answers.{replied}
 use Rattle.recording.specs.declared.Answer.{Answer}
@@ -34,23 +36,24 @@ use Rattle.demands.specs.Recordings as recordings
 use Rattle.demands.proofs.Orders.{past-reads, possible-happen, length-turned}
 use Rattle.demands.proofs.Runs.{calls-possible, calls-ideals, calls-count}
 use Rattle.demands.proofs.Course.{one-course}
+use Rattle.demands.proofs.Calls.{calls-whole}
 use Rattle.demands.proofs.Replays.{Went}
 use Rattle.demands.proofs.TableFaults.{fault-found}
 use Rattle.demands.proofs.Explained.{single-made}
 
 -- the answer that the replay's definition gives
 abbrev defined : List ℕ → List ℕ → Verdict Playing
-defined s out = recording ltb baseLimits (coreOf ltb base out) s
+defined s out = recording ltb baseRecording (coreOf ltb base out) s
 
 -- ---- an answer in the table
 table-answer : {s out list : List ℕ} {a : Answer} → AtTable s out a list → replied a list ≡ defined s out
-table-answer {s} {out} {list} {a} x = same ∙ outcome-is ltb baseLimits (coreOf ltb base out) s (fault-found s out (x .fault))
+table-answer {s} {out} {list} {a} x = same ∙ outcome-is ltb baseRecording (coreOf ltb base out) s (fault-found s out (x .fault))
   where
-    state : a .state ≡ stateOf (coreOf ltb base out .single .state)
-    state = ap (λ (m : Made). m .state) (x .state ∙ sym single-made)
+    state : saved (a .state) ≡ coreOf ltb base out .single .state
+    state = ap (λ (m : fresh.Made). m .state) (x .state .answer) ∙ ap (λ (m : fresh.Made). m .state) single-made
 
     same : replied a list ≡ verdict (a .refusal) (a .place) (coreOf ltb base out .single)
-    same = λ i. verdict (a .refusal) (a .place) (record { state = saved (state i); counts = x .counted i; list = x .listed i })
+    same = λ i. verdict (a .refusal) (a .place) (record { state = state i; counts = x .counted i; list = x .listed i })
 
 -- ---- an answer in the events, or after them
 module _ {s out list : List ℕ} {a : Answer} (x : AtEvents s out a list) where
@@ -73,7 +76,7 @@ module _ {s out list : List ℕ} {a : Answer} (x : AtEvents s out a list) where
   within-total (badEvent h e q b f g n) = omega arith
 
   -- the events alone are a recording
-  alone : Genuine (encodeRecording ds ls es) out ds ls es
+  alone : Genuine (encodeRecording baseRecording ds ls es) out ds ls es
   unfolding reads
   alone = record {
     keeps = x .begun .keeps;
@@ -88,8 +91,8 @@ module _ {s out list : List ℕ} {a : Answer} (x : AtEvents s out a list) where
   course = went-there (x .begun) alone
 
   -- the state, the counts and the list are those that the events came to
-  same-state : a .state ≡ stateOf (stateAfter (coreOf ltb base out) ds ls es .state)
-  same-state = one-course (x .calls) (course .calls) .1
+  same-state : saved (a .state) ≡ stateAfter (coreOf ltb base out) ds ls es .state
+  same-state = ap saved (one-course (x .calls) (course .calls) .1) ∙ saved-packed _ (course .right .reached .shape)
 
   same-counts : fourCounts a ≡ stateAfter (coreOf ltb base out) ds ls es .counts
   same-counts = x .counted ∙ sym (course .right .counts ∙ ap (λ (T : Table ℕ). counts T (past [] es)) (course .same))
@@ -101,30 +104,35 @@ module _ {s out list : List ℕ} {a : Answer} (x : AtEvents s out a list) where
       ∙ sym (course .listed .holds)
 
   same-reply : replied a list ≡ verdict (a .refusal) (a .place) (stateAfter (coreOf ltb base out) ds ls es)
-  same-reply = λ i. verdict (a .refusal) (a .place) (record { state = saved (same-state i); counts = same-counts i; list = same-list i })
+  same-reply = λ i. verdict (a .refusal) (a .place) (record { state = same-state i; counts = same-counts i; list = same-list i })
 
   events-answer : replied a list ≡ defined s out
-  events-answer = same-reply ∙ outcome-is ltb baseLimits (coreOf ltb base out) s (found (x .begun) alone (x .ending))
+  events-answer = same-reply ∙ outcome-is ltb baseRecording (coreOf ltb base out) s (found (x .begun) alone (x .ending))
 
   -- "arrivals counted task by task equal finishes plus tasks still active"
   pub totals : a .arrivals ≡ a .finishes + count (busy (saved (a .state))) (length ds)
   unfolding freshOf
   totals =
       ap (λ (c : Counts). c .arrivals) same-counts ∙ answer-totals (course .right)
-      ∙ sym (λ i. same-counts i .finishes + count (busy (saved (same-state i))) (length ds))
+      ∙ sym (λ i. same-counts i .finishes + count (busy (same-state i)) (length ds))
 
 -- an answer that the bytes explain is the one that the replay's definition gives
 pub explained-is : {s out list : List ℕ} {a : Answer} → Explained s out a list → replied a list ≡ defined s out
 explained-is (inl x) = table-answer x
 explained-is (inr x) = events-answer x
 
+-- and its state has its arrays
+pub explained-whole : {s out list : List ℕ} {a : Answer} → Explained s out a list → Whole (a .state)
+explained-whole (inl x) = x .state .whole
+explained-whole (inr x) = calls-whole (x .calls)
+
 -- replies that are equal are equal answers and lists
-pub reply-parts : {list list′ : List ℕ} {a a′ : Answer} → replied a list ≡ replied a′ list′ → (a ≡ a′) × (list ≡ list′)
-reply-parts e = (
+pub reply-parts : {list list′ : List ℕ} {a a′ : Answer} → Whole (a .state) → Whole (a′ .state) → replied a list ≡ replied a′ list′ → (a ≡ a′) × (list ≡ list′)
+reply-parts {a = a} {a′ = a′} w w′ e = (
   λ i. record {
     refusal = e i .refusal;
     place = e i .place;
-    state = stateOf (e i .state .state);
+    state = saved-same (a .state) (a′ .state) w w′ (ap (λ (v : Verdict Playing). v .state .state) e) i;
     arrivals = e i .state .counts .arrivals;
     starts = e i .state .counts .starts;
     reads = e i .state .counts .reads;
@@ -134,4 +142,4 @@ reply-parts e = (
 )
 
 pub only : {s out list list′ : List ℕ} {a a′ : Answer} → Explained s out a list → Explained s out a′ list′ → (a ≡ a′) × (list ≡ list′)
-only x x′ = reply-parts (explained-is x ∙ sym (explained-is x′))
+only x x′ = reply-parts (explained-whole x) (explained-whole x′) (explained-is x ∙ sym (explained-is x′))

@@ -29,7 +29,7 @@ use Rattle.recording_core.specs.Promise.{placed, freshTable}
 use Rattle.protocol.specs.History.{past}
 use Rattle.recording_core.specs.Right.{Right}
 use Rattle.recording_core.proofs.Right.{both-zero, right-fresh, right-finally}
-use Rattle.mailbox.specs.States.{stateOf, madeOf, given}
+use Rattle.mailbox.proofs.Packed.{packed, stepTo, given-packed, madeTo, made-to}
 use Rattle.mailbox.specs.declared.State.{State}
 use Rattle.mailbox.specs.declared.Made.{Made}
 use Rattle.demands.specs.Station.{station, writers, readers, kinds, Keeps, firstTasks, firstLinks}
@@ -47,11 +47,11 @@ unfolding made
 made-ok T L D W R K ok = rw (eq-eqb _ 0 ok)
 
 pub begins : (T L : ℕ) (D W R K : List ℕ) → judgedTable ltb T (at W) (at R) (at K) base L ≡ 0
-    → Calls (station (firstTasks T D) (firstLinks L W R K)) [] [] (stateOf (freshOf base T L D W R K))
+    → Calls (station (firstTasks T D) (firstLinks L W R K)) [] [] (packed (freshOf base T L D W R K))
 begins T L D W R K ok =
     let i = made-ok T L D W R K ok in
-    subst (λ (m : state.Made). Calls (station (firstTasks T D) (firstLinks L W R K)) [] [] (stateOf (m .state))) i
-    (fresh T L D W R K (madeOf (made ltb base T L D W R K)) refl (ap (λ (m : state.Made). m .refusal) i))
+    subst (λ (m : state.Made). Calls (station (firstTasks T D) (firstLinks L W R K)) [] [] (packed (m .state))) i
+    (fresh T L D W R K (madeTo (made ltb base T L D W R K)) (made-to T L D W R K) (ap (λ (m : state.Made). m .refusal) i))
 
 -- an event that a replay does is a call that is accepted
 module _ {q₀ : Saved} {out : List ℕ} {h : List (Event ℕ)} {q : Playing} (R : Right ltb base q₀ out h q) (e : Event ℕ) (z : judgedIn ltb q e ≡ 0) where
@@ -59,12 +59,12 @@ module _ {q₀ : Saved} {out : List ℕ} {h : List (Event ℕ)} {q : Playing} (R
   unfolding judgedIn
   does = give-done ltb base (q .state) e (reached-sound (R .reached)) (both-zero (judgedOn ltb (q .state) e) _ z .0)
 
-  call-more : {T : Table ℕ} {es : List (Event ℕ)} {ns : List ℕ} → Calls T es ns (stateOf (q .state))
-      → Calls T (es ++ (e ∷ [])) (ns ++ numbersOf e (given (stateOf (q .state)) e)) (stateOf (steppedIn ltb q e .state))
+  call-more : {T : Table ℕ} {es : List (Event ℕ)} {ns : List ℕ} → Calls T es ns (packed (q .state))
+      → Calls T (es ++ (e ∷ [])) (ns ++ numbersOf e (stepTo (give ltb base (q .state) e))) (packed (steppedIn ltb q e .state))
   unfolding steppedIn
   call-more {T} {es} {ns} c =
-      subst (λ (x : State). Calls T (es ++ (e ∷ [])) (ns ++ numbersOf e (given (stateOf (q .state)) e)) x) (ap (λ (x : Reply). stateOf (x .state)) does)
-      (accepted c e (given (stateOf (q .state)) e) refl (ap (λ (x : Reply). x .refusal) does))
+      subst (λ (x : State). Calls T (es ++ (e ∷ [])) (ns ++ numbersOf e (stepTo (give ltb base (q .state) e))) x) (ap (λ (x : Reply). packed (x .state)) does)
+      (accepted c e (stepTo (give ltb base (q .state) e)) (given-packed (q .state) e (R .reached .shape)) (ap (λ (x : Reply). x .refusal) does))
 
   right-more : Right ltb base q₀ out (e ∷ h) (steppedIn ltb q e)
   unfolding past finally Allowed
@@ -72,14 +72,14 @@ module _ {q₀ : Saved} {out : List ℕ} {h : List (Event ℕ)} {q : Playing} (R
 
 -- all of them
 calls-more : {q₀ : Saved} {out : List ℕ} (T : Table ℕ) (xs es : List (Event ℕ)) (ns : List ℕ) {q : Playing} → Right ltb base q₀ out (past [] es) q
-    → Calls T es ns (stateOf (q .state)) → Allowed (judgedIn ltb) (steppedIn ltb) q xs
-    → (os : List ℕ) × Calls T (es ++ xs) os (stateOf (finally (steppedIn ltb) q xs .state))
+    → Calls T es ns (packed (q .state)) → Allowed (judgedIn ltb) (steppedIn ltb) q xs
+    → (os : List ℕ) × Calls T (es ++ xs) os (packed (finally (steppedIn ltb) q xs .state))
 unfolding Allowed finally
 calls-more T [] es ns {q} R c A = (ns, rw (append-nil es) c)
 calls-more {q₀} {out} T (e ∷ xs) es ns {q} R c A =
-    let i = calls-more T xs (es ++ (e ∷ [])) (ns ++ numbersOf e (given (stateOf (q .state)) e))
+    let i = calls-more T xs (es ++ (e ∷ [])) (ns ++ numbersOf e (stepTo (give ltb base (q .state) e)))
     (subst (λ (h : List (Event ℕ)). Right ltb base q₀ out h (steppedIn ltb q e)) (sym (past-snoc [] es e)) (right-more R e (A .0))) (call-more R e (A .0) c) (A .1) in
-    (i .0, subst (λ (ys : List (Event ℕ)). Calls T ys (i .0) (stateOf (finally (steppedIn ltb) (steppedIn ltb q e) xs .state))) (append-assoc es (e ∷ []) xs) (i .1))
+    (i .0, subst (λ (ys : List (Event ℕ)). Calls T ys (i .0) (packed (finally (steppedIn ltb) (steppedIn ltb q e) xs .state))) (append-assoc es (e ∷ []) xs) (i .1))
 
 -- the list then is the numbers of the calls and the untouched rest
 right-listed : {q₀ : Saved} {out : List ℕ} {q : Playing} {T : Table ℕ} {es : List (Event ℕ)} {ns : List ℕ} {x : State} → table ltb q₀ ≡ T
@@ -98,7 +98,7 @@ right-listed {q₀} {out} {q} {T} {es} {ns} i R c =
 -- what the events of a table come to in a replay
 pub record Went (out ds : List ℕ) (ls : List Link) (es : List (Event ℕ)) (q : Playing) : Type 0 where
   pub ns : List ℕ
-  pub calls : Calls (station ds ls) es ns (stateOf (q .state))
+  pub calls : Calls (station ds ls) es ns (packed (q .state))
   pub listed : Listed ns out (q .list)
   pub right : Right ltb base (freshTable base ds ls) out (past [] es) q
   pub same : table ltb (freshTable base ds ls) ≡ station ds ls
@@ -120,7 +120,7 @@ keeps-of ds ls ok =
     record { tasks = (n .0, n .1); links = n .2; rules = rules.obeyed ltb (length ds) (at (writers ls)) (at (readers ls)) (at (kinds ls)) base (length ls) ok }
 
 -- the arrays of a recording's table say it
-itself : (ds : List ℕ) (ls : List Link) → length ds ≤ 16 → length ls ≤ 32 → station (firstTasks (length ds) ds) (firstLinks (length ls) (writers ls) (readers ls) (kinds ls)) ≡ station ds ls
+itself : (ds : List ℕ) (ls : List Link) → length ds ≤ base .tasks → length ls ≤ base .links → station (firstTasks (length ds) ds) (firstLinks (length ls) (writers ls) (readers ls) (kinds ls)) ≡ station ds ls
 itself ds ls few least =
     sym (fresh-station (length ds) (length ls) ds (writers ls) (readers ls) (kinds ls) few least) ∙ ap (λ (q : Saved). table ltb q) (sym (fresh-columns ds ls)) ∙ recorded-station ds ls few least
 
@@ -131,9 +131,9 @@ went out ds ls es ok A =
     let flat = fine-columns ds ls ok in
     let few = rules.room ltb (length ds) (at (writers ls)) (at (readers ls)) (at (kinds ls)) base (length ls) flat in
     let R = right-fresh ltb base (length ds) (length (listed ls .writer)) ds (listed ls .writer) (listed ls .reader) (listed ls .kind) out ok in
-    let c : Calls (station ds ls) [] [] (stateOf (freshTable base ds ls)) =
-    subst (λ (x : Saved). Calls (station ds ls) [] [] (stateOf x)) (sym (fresh-columns ds ls))
-    (subst (λ (t : Table ℕ). Calls t [] [] (stateOf (freshOf base (length ds) (length ls) ds (writers ls) (readers ls) (kinds ls)))) (itself ds ls (few .0) (few .1))
+    let c : Calls (station ds ls) [] [] (packed (freshTable base ds ls)) =
+    subst (λ (x : Saved). Calls (station ds ls) [] [] (packed x)) (sym (fresh-columns ds ls))
+    (subst (λ (t : Table ℕ). Calls t [] [] (packed (freshOf base (length ds) (length ls) ds (writers ls) (readers ls) (kinds ls)))) (itself ds ls (few .0) (few .1))
     (begins (length ds) (length ls) ds (writers ls) (readers ls) (kinds ls) flat)) in
     let m = calls-more (station ds ls) es [] [] R c A in
     let F = right-finally ltb-ranks es R A in

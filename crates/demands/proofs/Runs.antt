@@ -41,7 +41,7 @@ use Rattle.demands.specs.Outputs.{Output}
 use Rattle.demands.proofs.Orders.{part-possible, each-more, each-read, each-so, looked-each}
 use Rattle.demands.proofs.Readers.{Apart, sound-apart, run-mailboxes}
 use Rattle.demands.proofs.Outputs.{due-output}
-use Rattle.demands.proofs.Calls.{Come, comes}
+use Rattle.demands.proofs.Calls.{calls-whole, Come, comes}
 
 module _ {T : Table ℕ} {es : List (Event ℕ)} {ns : List ℕ} {q : State} (c : Calls T es ns q) where
   C : Come T es ns q
@@ -60,7 +60,7 @@ module _ {T : Table ℕ} {es : List (Event ℕ)} {ns : List ℕ} {q : State} (c 
   -- demand 2: a refusal is what the table and the accepted events say
   pub calls-refusal : (e : Event ℕ) (r : Step) → Gives q e r → r .answer .refusal ≡ judged T (urgent T) (past [] es) e
   calls-refusal e r call =
-      ap (λ (x : Step). x .answer .refusal) call ∙ reached-refusal (C .reached) e ∙ ap (λ (t : Table ℕ). judged t (urgent t) (past [] es) e) (C .same)
+      ap (λ (x : Reply). x .refusal) (call .answer) ∙ reached-refusal (C .reached) e ∙ ap (λ (t : Table ℕ). judged t (urgent t) (past [] es) e) (C .same)
 
   pub calls-event : (e : Event ℕ) (r : Step) → Gives q e r → (r .answer .refusal ≡ 0) ↔ Possible T (urgent T) (past [] es) e
   calls-event e r call = (
@@ -84,7 +84,7 @@ module _ {T : Table ℕ} {es : List (Event ℕ)} {ns : List ℕ} {q : State} (c 
   -- demand 2: the state is sound, of the same table, and its tasks stand as the history says
   pub calls-there : IsWhole q × IsSound q × (tableIn q ≡ T) × ((t : ℕ) → StandsAlike (standingIn q) (byHistory (past [] es)) t)
   calls-there = (
-    C .reached .shape,
+    calls-whole c,
     C .reached .sound,
     C .reached .same ∙ C .same,
     λ t. let p = C .reached .agrees t in record { active = sym (active-is p); waiting = sym (waiting-is p); running = sym (running-is p) },
@@ -121,9 +121,9 @@ module _ {T : Table ℕ} {es : List (Event ℕ)} {ns : List ℕ} {q : State} (c 
   -- the number of an accepted read is what its link is due
   read-due : (l : ℕ) (r : Step) → Gives q (read l) r → r .answer .refusal ≡ 0 → there (r .answer .value) ≡ due T (past [] es) l
   read-due l r call z =
-      let j : judgedOn ltb (saved q) (read l) ≡ 0 = sym (give-refusal ltb base (saved q) (read l) (reached-sound (C .reached))) ∙ ap (λ (x : Step). x .answer .refusal) (sym call) ∙ z in
+      let j : judgedOn ltb (saved q) (read l) ≡ 0 = sym (give-refusal ltb base (saved q) (read l) (reached-sound (C .reached))) ∙ ap (λ (x : Reply). x .refusal) (sym (call .answer)) ∙ z in
       let v : r .answer .value ≡ number T₀ (boxes (saved q)) l =
-      ap (λ (x : Step). x .answer .value) call ∙ ap (λ (x : Reply). x .value) (give-done ltb base (saved q) (read l) (reached-sound (C .reached)) j) ∙ reached-number (C .reached) l j in
+      ap (λ (x : Reply). x .value) (call .answer) ∙ ap (λ (x : Reply). x .value) (give-done ltb base (saved q) (read l) (reached-sound (C .reached)) j) ∙ reached-number (C .reached) l j in
       let p : Possible T₀ (urgent T₀) (past [] es) (read l) = judged-possible T₀ (urgent T₀) (past [] es) (read l) (sym (judged-history (C .reached) (read l)) ∙ j) in
       ap (λ (x : ℕ). there x) v
       ∙ zero-time T₀ (urgent T₀) (table-lawful ltb-ranks (C .reached)) (urgent-fair T₀) (lowest-only T₀) (C .reached .run) p .0

@@ -108,7 +108,7 @@ module _ (ds : List ℕ) (ls : List Link) where
           ∙ rw (← nth-column (λ l. l .writer) j refl, ← nth-column (λ l. l .reader) j refl, ← nth-column (λ l. l .kind) j refl)
 
   -- a link that is not at fault obeys the rules, among the first links too
-  first-keeps : (j : ℕ) → j ≤ length ls → (1 ≤ length ds) × (length ds ≤ 16) → length ls ≤ 32 → ((i : ℕ) → i < j → faults i ≡ 0) → Keeps ds (take j ls)
+  first-keeps : (j : ℕ) → j ≤ length ls → (1 ≤ length ds) × (length ds ≤ base .tasks) → length ls ≤ base .links → ((i : ℕ) → i < j → faults i ≡ 0) → Keeps ds (take j ls)
   first-keeps j h few least z = record {
     tasks = few;
     links = omega (arith, length-take-le j ls h);
@@ -125,9 +125,9 @@ module _ (ds : List ℕ) (ls : List Link) where
 
   pub judged-table-earned : TableEarns ds ls judgedHere
   unfolding judgedTable
-  judged-table-earned = counts (eqb (length ds) 0 || ltb 16 (length ds)) refl
+  judged-table-earned = counts (eqb (length ds) 0 || ltb (base .tasks) (length ds)) refl
     where
-      links : (1 ≤ length ds) × (length ds ≤ 16) → length ls ≤ 32 → (x : ℕ) → leading faults (length ls) ≡ x → Dec (x ≡ 0) → TableEarns ds ls x
+      links : (1 ≤ length ds) × (length ds ≤ base .tasks) → length ls ≤ base .links → (x : ℕ) → leading faults (length ls) ≡ x → Dec (x ≡ 0) → TableEarns ds ls x
       links few least x e (yes z) =
           rw z (refusals.kept (record { tasks = few; links = least; rules = λ l h. obeys ltb (length ds) (at (writers ls)) (at (readers ls)) (at (kinds ls)) l (leading-zero faults (length ls) l (e ∙ z) h) }))
       links few least x e (no n) =
@@ -137,29 +137,29 @@ module _ (ds : List ℕ) (ls : List Link) where
           (first-keeps (w .0) (omega (arith, w .1)) few least (w .2))
           (subst (λ (k : ℕ). Earns (LinkBreaks ds (take (w .0) ls) (nth (w .0))) k) (w .3 ∙ e) (fault-nth (w .0) (w .1))) n
 
-      second : (1 ≤ length ds) × (length ds ≤ 16) → (b : Bool) → ltb 32 (length ls) ≡ b → TableEarns ds ls (cond b 3 (leading faults (length ls)))
-      second few true e = refusals.links (few .0) (few .1) (ltb-true 32 (length ls) e)
-      second few false e = links few (ltb-false 32 (length ls) e) (leading faults (length ls)) refl (ℕ-discrete (leading faults (length ls)) 0)
+      second : (1 ≤ length ds) × (length ds ≤ base .tasks) → (b : Bool) → ltb (base .links) (length ls) ≡ b → TableEarns ds ls (cond b 3 (leading faults (length ls)))
+      second few true e = refusals.links (few .0) (few .1) (ltb-true (base .links) (length ls) e)
+      second few false e = links few (ltb-false (base .links) (length ls) e) (leading faults (length ls)) refl (ℕ-discrete (leading faults (length ls)) 0)
 
-      wrong : (eqb (length ds) 0 ≡ true) ⊎ (ltb 16 (length ds) ≡ true) → (length ds ≡ 0) ⊎ (16 < length ds)
+      wrong : (eqb (length ds) 0 ≡ true) ⊎ (ltb (base .tasks) (length ds) ≡ true) → (length ds ≡ 0) ⊎ (base .tasks < length ds)
       wrong (inl e) = inl (eqb-true (length ds) 0 e)
-      wrong (inr e) = inr (ltb-true 16 (length ds) e)
+      wrong (inr e) = inr (ltb-true (base .tasks) (length ds) e)
 
-      counts : (b : Bool) → (eqb (length ds) 0 || ltb 16 (length ds)) ≡ b → TableEarns ds ls (cond b 2 (cond (ltb 32 (length ls)) 3 (leading faults (length ls))))
-      counts true e = refusals.tasks (wrong (either (eqb (length ds) 0) (ltb 16 (length ds)) e))
+      counts : (b : Bool) → (eqb (length ds) 0 || ltb (base .tasks) (length ds)) ≡ b → TableEarns ds ls (cond b 2 (cond (ltb (base .links) (length ls)) 3 (leading faults (length ls))))
+      counts true e = refusals.tasks (wrong (either (eqb (length ds) 0) (ltb (base .tasks) (length ds)) e))
       counts false e =
           let some-task : length ds ≢ 0 = eqb-false (length ds) 0 (or-left (eqb (length ds) 0) _ e) in
-          second (omega arith, ltb-false 16 (length ds) (or-right (eqb (length ds) 0) _ e)) (ltb 32 (length ls)) refl
+          second (omega arith, ltb-false (base .tasks) (length ds) (or-right (eqb (length ds) 0) _ e)) (ltb (base .links) (length ls)) refl
 
 -- no other number is earned
 pub table-earns-one : (ds : List ℕ) (ls : List Link) {n : ℕ} → TableEarns ds ls n → n ≡ judgedHere ds ls
 unfolding judgedTable
 table-earns-one ds ls (refusals.tasks (inl z)) = rw (eq-eqb (length ds) 0 z)
-table-earns-one ds ls (refusals.tasks (inr h)) = rw (or-second (eqb (length ds) 0) (lt-ltb 16 (length ds) h))
-table-earns-one ds ls (refusals.links a b h) = rw (ne-eqb (length ds) 0 (λ z. omega arith), le-ltb 16 (length ds) b, lt-ltb 32 (length ls) h)
+table-earns-one ds ls (refusals.tasks (inr h)) = rw (or-second (eqb (length ds) 0) (lt-ltb (base .tasks) (length ds) h))
+table-earns-one ds ls (refusals.links a b h) = rw (ne-eqb (length ds) 0 (λ z. omega arith), le-ltb (base .tasks) (length ds) b, lt-ltb (base .links) (length ls) h)
 table-earns-one ds ls (refusals.kept k) = sym (no-refusal ltb (length ds) (at (writers ls)) (at (readers ls)) (at (kinds ls)) base (length ls) (k .tasks .0) (k .tasks .1) (k .links) (k .rules))
 table-earns-one ds ls {n} (refusals.link least before l after e k g ne) =
-    rw (ne-eqb (length ds) 0 (λ z. omega (arith, k .tasks .0)), le-ltb 16 (length ds) (k .tasks .1), le-ltb 32 (length ls) least) (sym there)
+    rw (ne-eqb (length ds) 0 (λ z. omega (arith, k .tasks .0)), le-ltb (base .tasks) (length ds) (k .tasks .1), le-ltb (base .links) (length ls) least) (sym there)
   where
     j : ℕ
     j = length before
@@ -198,6 +198,6 @@ arrays-judged T L D W R K =
     let r : Firsts L R (readers (firstLinks L W R K)) = column (λ l. l .reader) link R (λ i. refl) L in
     let k : Firsts L K (kinds (firstLinks L W R K)) = column (λ l. l .kind) link K (λ i. refl) L in
     rw (t, n)
-    (ap (λ (x : ℕ). cond (eqb T 0 || ltb 16 T) 2 (cond (ltb 32 L) 3 x))
+    (ap (λ (x : ℕ). cond (eqb T 0 || ltb (base .tasks) T) 2 (cond (ltb (base .links) L) 3 x))
     (leading-same (fault ltb T (at W) (at R) (at K)) (fault ltb T (at (writers (firstLinks L W R K))) (at (readers (firstLinks L W R K))) (at (kinds (firstLinks L W R K)))) L
     (λ i h. fault-alike T (at K) (at (kinds (firstLinks L W R K))) i (λ j q. sym (w .at-first j (omega arith))) (λ j q. sym (r .at-first j (omega arith))) (sym (k .at-first i h)))))

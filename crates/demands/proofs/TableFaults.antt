@@ -7,7 +7,7 @@ use mathlib.Core.List.{List, [], _++_}
 use Prim.Native.Nat.{ℕ, _+_, _-_, _≤_, _<_}
 use native.Mathlib.Omega.{arith}
 use borrow.Author.Tests.{eqb-true, eq-eqb, ne-eqb, ltb-true, lt-ltb, leb-true, leb-false}
-use lib.Dec.{eqb, ltb, leb, lit<}
+use lib.Dec.{eqb, ltb, leb}
 use lib.ListN.{length}
 use Rattle.protocol_state.specs.Saved.{base}
 use Rattle.byte_format.specs.Number.{bytesOf, numberAt}
@@ -20,8 +20,10 @@ use Rattle.byte_format.proofs.Sized.{sized-reads, sized-ends}
 use Rattle.byte_format.proofs.Standing.{stands-join, stands-first, stands-left}
 use Rattle.recording_format.specs.Task.{tasks, anyDefault, andDefault}
 use Rattle.recording_format.specs.Link.{Link, links, linkAt, noLinks, andLink, listed, linkFault}
-use Rattle.recording_format.specs.Limits.{baseLimits, taskLimit, linkLimit, eventLimit}
+use Rattle.recording_format.specs.RecordingKind.{baseRecording, taskLimit, linkLimit, eventLimit}
+use Rattle.recording_format.specs.Recording.{taskCountAt, linkCountAt, eventCountAt}
 use Rattle.recording_format.specs.Outcome.{TasksTo, TableTo, RecordingOutcome, taskCount, taskRecord, linkCount, linkRecord, eventCount}
+use Rattle.recording_format.proofs.Base.{base-room, base-counts}
 use Rattle.recording_format.proofs.Sizes.{tasks-within, within-tasks, links-within, within-links, tasks-fit, links-fit}
 use Rattle.recording_format.proofs.LinkRules.{length-listed, no-fault-allowed, allowed-judged}
 use Rattle.recording_format.proofs.Onward.{any-allowed}
@@ -33,7 +35,7 @@ use Rattle.byte_format.specs.Play.{Allowed}
 use Rattle.recording_format.specs.Link.{Links}
 use Rattle.demands.specs.Station.{writers, readers, kinds, Keeps}
 use Rattle.demands.specs.Refusals.{Earns, LinkBreaks}
-use Rattle.demands.specs.Recordings.{TasksBegun, LinksBegun, TableFault, noTaskCount, badTaskCount, cutTask, noLinkCount, badLinkCount, cutLink, badLink, cutEventCount, badEventCount}
+use Rattle.demands.specs.Recordings.{TasksBegun, LinksBegun, TableFault, cutTaskCount, badTaskCount, cutTask, cutLinkCount, badLinkCount, cutLink, badLink, cutEventCount, badEventCount}
 use Rattle.demands.proofs.Tables.{listed-columns}
 use Rattle.demands.proofs.Earned.{earns-one}
 use Rattle.demands.proofs.Links.{either, or-second, link-earned}
@@ -72,20 +74,20 @@ module _ (w : ℕ) (limit : ℕ → ℕ) (s : List ℕ) (p : ℕ) where
           subst (λ (k : ℕ). CountFault w limit s p k) (stopped (sym (count-stops h (cut l)) ∙ e)) (cut l)
 
 -- the three limits
-task-over : (n : ℕ) → taskLimit baseLimits n ≢ 0 → (taskLimit baseLimits n ≡ 2) × ((n ≡ 0) ⊎ (16 < n))
-task-over n ne = go (eqb n 0 || ltb 16 n) refl ne
+task-over : (n : ℕ) → taskLimit baseRecording n ≢ 0 → (taskLimit baseRecording n ≡ 2) × ((n ≡ 0) ⊎ (baseRecording .tasks < n))
+task-over n ne = go (eqb n 0 || ltb (baseRecording .tasks) n) refl ne
   where
-    side : (eqb n 0 ≡ true) ⊎ (ltb 16 n ≡ true) → (n ≡ 0) ⊎ (16 < n)
+    side : (eqb n 0 ≡ true) ⊎ (ltb (baseRecording .tasks) n ≡ true) → (n ≡ 0) ⊎ (baseRecording .tasks < n)
     side (inl e) = inl (eqb-true n 0 e)
-    side (inr e) = inr (ltb-true 16 n e)
+    side (inr e) = inr (ltb-true (baseRecording .tasks) n e)
 
-    go : (b : Bool) → (eqb n 0 || ltb 16 n) ≡ b → cond {A = ℕ} b 2 0 ≢ 0 → (cond {A = ℕ} b 2 0 ≡ 2) × ((n ≡ 0) ⊎ (16 < n))
-    go true e m = (refl, side (either (eqb n 0) (ltb 16 n) e))
+    go : (b : Bool) → (eqb n 0 || ltb (baseRecording .tasks) n) ≡ b → cond {A = ℕ} b 2 0 ≢ 0 → (cond {A = ℕ} b 2 0 ≡ 2) × ((n ≡ 0) ⊎ (baseRecording .tasks < n))
+    go true e m = (refl, side (either (eqb n 0) (ltb (baseRecording .tasks) n) e))
     go false e m = absurd (m refl)
 
-over-tasks : (n : ℕ) → (n ≡ 0) ⊎ (16 < n) → taskLimit baseLimits n ≡ 2
+over-tasks : (n : ℕ) → (n ≡ 0) ⊎ (baseRecording .tasks < n) → taskLimit baseRecording n ≡ 2
 over-tasks n (inl e) = rw (eq-eqb n 0 e)
-over-tasks n (inr h) = rw (or-second (eqb n 0) (lt-ltb 16 n h))
+over-tasks n (inr h) = rw (or-second (eqb n 0) (lt-ltb (baseRecording .tasks) n h))
 
 -- a limit that is one number
 over-one : (most k n : ℕ) → cond {A = ℕ} (ltb most n) k 0 ≢ 0 → (cond {A = ℕ} (ltb most n) k 0 ≡ k) × (most < n)
@@ -96,8 +98,8 @@ over-one most k n ne = go (ltb most n) refl ne
     go false e m = absurd (m refl)
 
 -- ---- links that keep the rules, as the reader judges them
-pub allowed-keeps : (ds : List ℕ) (ls : List Link) → taskLimit baseLimits (length ds) ≡ 0 → length ls ≤ 32 → Allowed (linkFault ltb (length ds)) andLink noLinks ls → Keeps ds ls
-allowed-keeps ds ls t h a = keeps-of ds ls (fine-columns ds ls (allowed-judged ltb (length ds) baseLimits ls t (within-links baseLimits (length ls) h) a))
+pub allowed-keeps : (ds : List ℕ) (ls : List Link) → taskLimit baseRecording (length ds) ≡ 0 → length ls ≤ base .links → Allowed (linkFault ltb (length ds)) andLink noLinks ls → Keeps ds ls
+allowed-keeps ds ls t h a = keeps-of ds ls (fine-columns ds ls (allowed-judged ltb (length ds) baseRecording base base-room ls t (within-links baseRecording (length ls) h) a))
 
 pub keeps-allowed : (ds : List ℕ) (ls : List Link) → Keeps ds ls → Allowed (linkFault ltb (length ds)) andLink noLinks ls
 keeps-allowed ds ls k = no-fault-allowed ltb (length ds) ls
@@ -107,39 +109,39 @@ keeps-allowed ds ls k = no-fault-allowed ltb (length ds) ls
 
 module _ (s : List ℕ) where
   -- ---- what stands at the beginning
-  tasks-begun : {ds : List ℕ} {p : ℕ} → TasksTo baseLimits s ds p → TasksBegun s (length ds) ds p
-  tasks-begun {ds} t = record { few = tasks-within baseLimits (length ds) (t .kept .few); fits = t .kept .fits; bytes = t .bytes }
+  tasks-begun : {ds : List ℕ} {p : ℕ} → TasksTo baseRecording s ds p → TasksBegun s (length ds) ds p
+  tasks-begun {ds} t = record { few = tasks-within baseRecording (length ds) (t .kept .few); fits = t .kept .fits; bytes = t .bytes }
 
-  begun-tasks : {ds : List ℕ} {p : ℕ} → TasksBegun s (length ds) ds p → TasksTo baseLimits s ds p
+  begun-tasks : {ds : List ℕ} {p : ℕ} → TasksBegun s (length ds) ds p → TasksTo baseRecording s ds p
   begun-tasks {ds} b =
-      let few = within-tasks baseLimits (length ds) (b .few .0) (b .few .1) in
+      let few = within-tasks baseRecording (length ds) (b .few .0) (b .few .1) in
       record {
-        kept = record { counted = tasks-fit baseLimits (length ds) (lit< tt) few; few = few; fits = b .fits; allowed = any-allowed [] ds };
+        kept = record { counted = tasks-fit baseRecording (length ds) base-counts few; few = few; fits = b .fits; allowed = any-allowed [] ds };
         bytes = b .bytes;
       }
 
   -- all tasks of the links that are begun
-  links-tasks : {ds : List ℕ} {L p : ℕ} {ls : List Link} (b : LinksBegun s ds L ls p) → TasksTo baseLimits s ds (0 + length (encodeSection tasks ds))
+  links-tasks : {ds : List ℕ} {L p : ℕ} {ls : List Link} (b : LinksBegun s ds L ls p) → TasksTo baseRecording s ds (0 + length (encodeSection (tasks baseRecording) ds))
   links-tasks {ds} b =
-      begun-tasks (record { few = b .keeps .tasks; fits = b .fits .0; bytes = stands-first (encodeSection tasks ds) _ (b .bytes) })
+      begun-tasks (record { few = b .keeps .tasks; fits = b .fits .0; bytes = stands-first (encodeSection (tasks baseRecording) ds) _ (b .bytes) })
 
-  pub table-begun : {ds : List ℕ} {ls : List Link} {p : ℕ} → TableTo ltb baseLimits s ds ls p → LinksBegun s ds (length ls) ls p
+  pub table-begun : {ds : List ℕ} {ls : List Link} {p : ℕ} → TableTo ltb baseRecording s ds ls p → LinksBegun s ds (length ls) ls p
   table-begun {ds} {ls} t = record {
-    few = links-within baseLimits (length ls) (t .linked .kept .few);
-    keeps = allowed-keeps ds ls (t .tasked .kept .few) (links-within baseLimits (length ls) (t .linked .kept .few)) (t .linked .kept .allowed);
+    few = links-within baseRecording (length ls) (t .linked .kept .few);
+    keeps = allowed-keeps ds ls (t .tasked .kept .few) (links-within baseRecording (length ls) (t .linked .kept .few)) (t .linked .kept .allowed);
     fits = (t .tasked .kept .fits, t .linked .kept .fits);
     bytes = stands-join (t .tasked .bytes) (t .linked .bytes);
   }
 
-  pub begun-table : {ds : List ℕ} {ls : List Link} {p : ℕ} → LinksBegun s ds (length ls) ls p → TableTo ltb baseLimits s ds ls p
+  pub begun-table : {ds : List ℕ} {ls : List Link} {p : ℕ} → LinksBegun s ds (length ls) ls p → TableTo ltb baseRecording s ds ls p
   begun-table {ds} {ls} b =
-      let few = within-links baseLimits (length ls) (b .few) in
+      let few = within-links baseRecording (length ls) (b .few) in
       record {
-        place = 0 + length (encodeSection tasks ds);
+        place = 0 + length (encodeSection (tasks baseRecording) ds);
         tasked = links-tasks b;
         linked = record {
-          kept = record { counted = links-fit baseLimits (length ls) (lit< tt) few; few = few; fits = b .fits .1; allowed = keeps-allowed ds ls (b .keeps) };
-          bytes = stands-left (encodeSection tasks ds) _ (b .bytes);
+          kept = record { counted = links-fit baseRecording (length ls) base-counts few; few = few; fits = b .fits .1; allowed = keeps-allowed ds ls (b .keeps) };
+          bytes = stands-left (encodeSection (tasks baseRecording) ds) _ (b .bytes);
         };
       }
 
@@ -148,38 +150,38 @@ module _ (s : List ℕ) where
   given : {r k p : ℕ} → k ≡ r → TableFault s k p → TableFault s r p
   given {p = p} e f = subst (λ (n : ℕ). TableFault s n p) e f
 
-  pub task-count-fault : {r : ℕ} → countAt 1 (taskLimit baseLimits) s 0 ≡ stop r → TableFault s r 0
-  task-count-fault e = go (stops-count 1 (taskLimit baseLimits) s 0 (omega arith) e)
+  pub task-count-fault : {r : ℕ} → taskCountAt baseRecording s 0 ≡ stop r → TableFault s r 0
+  task-count-fault e = go (stops-count 1 (taskLimit baseRecording) s 0 (omega arith) e)
     where
-      go : {r : ℕ} → CountFault 1 (taskLimit baseLimits) s 0 r → TableFault s r 0
-      go (cut h) = noTaskCount (omega arith)
-      go (above h n) = let o = task-over (numberAt 1 s 0) n in given (sym (o .0)) (badTaskCount (omega arith) (o .1))
+      go : {r : ℕ} → CountFault 1 (taskLimit baseRecording) s 0 r → TableFault s r 0
+      go (cut h) = cutTaskCount (omega arith)
+      go (above h n) = let o = task-over (numberAt (baseRecording .taskCountWidth) s 0) n in given (sym (o .0)) (badTaskCount (omega arith) (o .1))
 
   -- a task record at fault is cut
-  pub task-fault : {ds : List ℕ} {r p : ℕ} → r ≢ 0 → Faulty tasks (taskLimit baseLimits) anyDefault andDefault s [] 0 ds r p → TableFault s r p
+  pub task-fault : {ds : List ℕ} {r p : ℕ} → r ≢ 0 → Faulty (tasks baseRecording) (taskLimit baseRecording) anyDefault andDefault s [] 0 ds r p → TableFault s r p
   task-fault {ds} {r} {p} n f = go (leb 4 (length s - p)) refl (f .fault)
     where
       go : (b : Bool) → leb 4 (length s - p) ≡ b → r ≡ refusalOf (cond b (got (numberAt 4 s p) (p + 4)) (stop 1)) (λ d. 0) → TableFault s r p
       go true i z = absurd (n z)
       go false i z =
           given (sym z)
-          (cutTask (record { few = tasks-within baseLimits (f .total) (f .few); fits = f .played .fits; bytes = stands-join (f .count) (f .played .bytes) }) (f .more)
+          (cutTask (record { few = tasks-within baseRecording (f .total) (f .few); fits = f .played .fits; bytes = stands-join (f .count) (f .played .bytes) }) (f .more)
           (omega (arith, leb-false 4 (length s - p) i, f .played .bytes .within)))
 
-  pub link-count-fault : {ds : List ℕ} {r p : ℕ} → TasksTo baseLimits s ds p → countAt 1 (linkLimit baseLimits) s p ≡ stop r → TableFault s r p
-  link-count-fault {ds} {r} {p} t e = go (stops-count 1 (linkLimit baseLimits) s p (t .bytes .within) e)
+  pub link-count-fault : {ds : List ℕ} {r p : ℕ} → TasksTo baseRecording s ds p → linkCountAt baseRecording s p ≡ stop r → TableFault s r p
+  link-count-fault {ds} {r} {p} t e = go (stops-count 1 (linkLimit baseRecording) s p (t .bytes .within) e)
     where
-      go : {r : ℕ} → CountFault 1 (linkLimit baseLimits) s p r → TableFault s r p
-      go (cut h) = noLinkCount (tasks-begun t) (omega (arith, t .bytes .within))
-      go (above h n) = let o = over-one 32 3 (numberAt 1 s p) n in given (sym (o .0)) (badLinkCount (tasks-begun t) (omega arith) (o .1))
+      go : {r : ℕ} → CountFault 1 (linkLimit baseRecording) s p r → TableFault s r p
+      go (cut h) = cutLinkCount (tasks-begun t) (omega (arith, t .bytes .within))
+      go (above h n) = let o = over-one (baseRecording .links) 3 (numberAt (baseRecording .linkCountWidth) s p) n in given (sym (o .0)) (badLinkCount (tasks-begun t) (omega arith) (o .1))
 
   -- a link record is cut, or breaks a rule
-  pub link-fault : {ds : List ℕ} {m : ℕ} {ls : List Link} {r p : ℕ} → r ≢ 0 → TasksTo baseLimits s ds m
-      → Faulty links (linkLimit baseLimits) (linkFault ltb (length ds)) andLink s noLinks m ls r p → TableFault s r p
+  pub link-fault : {ds : List ℕ} {m : ℕ} {ls : List Link} {r p : ℕ} → r ≢ 0 → TasksTo baseRecording s ds m
+      → Faulty (links baseRecording) (linkLimit baseRecording) (linkFault ltb (length ds)) andLink s noLinks m ls r p → TableFault s r p
   link-fault {ds} {m} {ls} {r} {p} n t f = go (leb 3 (length s - p)) refl (f .fault)
     where
-      few : f .total ≤ 32
-      few = links-within baseLimits (f .total) (f .few)
+      few : f .total ≤ baseRecording .links
+      few = links-within baseRecording (f .total) (f .few)
 
       begun : LinksBegun s ds (f .total) ls p
       begun = record {
@@ -195,80 +197,80 @@ module _ (s : List ℕ) where
           (subst (λ (k : ℕ). Earns (LinkBreaks ds ls (linkAt s p)) k) (sym z) (link-earned ds ls (linkAt s p))) n
       go false i z = given (sym z) (cutLink begun (f .more) (omega (arith, leb-false 3 (length s - p) i, begun .bytes .within)))
 
-  pub event-count-fault : {ds : List ℕ} {ls : List Link} {r p : ℕ} → TableTo ltb baseLimits s ds ls p → countAt 2 (eventLimit baseLimits) s p ≡ stop r → TableFault s r p
-  event-count-fault {ds} {ls} {r} {p} t e = go (stops-count 2 (eventLimit baseLimits) s p (t .linked .bytes .within) e)
+  pub event-count-fault : {ds : List ℕ} {ls : List Link} {r p : ℕ} → TableTo ltb baseRecording s ds ls p → eventCountAt baseRecording s p ≡ stop r → TableFault s r p
+  event-count-fault {ds} {ls} {r} {p} t e = go (stops-count 2 (eventLimit baseRecording) s p (t .linked .bytes .within) e)
     where
-      go : {r : ℕ} → CountFault 2 (eventLimit baseLimits) s p r → TableFault s r p
+      go : {r : ℕ} → CountFault 2 (eventLimit baseRecording) s p r → TableFault s r p
       go (cut h) = cutEventCount (table-begun t) h
-      go (above h n) = let o = over-one 10000 10 (numberAt 2 s p) n in given (sym (o .0)) (badEventCount (table-begun t) h (o .1))
+      go (above h n) = let o = over-one (baseRecording .events) 10 (numberAt (baseRecording .eventCountWidth) s p) n in given (sym (o .0)) (badEventCount (table-begun t) h (o .1))
 
   -- ---- and back
-  link-faulty : {ds : List ℕ} {L p : ℕ} {ls : List Link} → LinksBegun s ds L ls p → length ls < L → (r : ℕ) → r ≡ refusalOf (links .read s p) (linkFault ltb (length ds) (listed ls))
-      → Faulty links (linkLimit baseLimits) (linkFault ltb (length ds)) andLink s noLinks (0 + length (encodeSection tasks ds)) ls r p
+  link-faulty : {ds : List ℕ} {L p : ℕ} {ls : List Link} → LinksBegun s ds L ls p → length ls < L → (r : ℕ) → r ≡ refusalOf (links baseRecording .read s p) (linkFault ltb (length ds) (listed ls))
+      → Faulty (links baseRecording) (linkLimit baseRecording) (linkFault ltb (length ds)) andLink s noLinks (0 + length (encodeSection (tasks baseRecording) ds)) ls r p
   link-faulty {ds} {L} {p} {ls} b more r e =
-      let few = within-links baseLimits L (b .few) in
-      let from : Stands s (0 + length (encodeSection tasks ds)) (bytesOf 1 L ++ encodes links ls) p = stands-left (encodeSection tasks ds) _ (b .bytes) in
+      let few = within-links baseRecording L (b .few) in
+      let from : Stands s (0 + length (encodeSection (tasks baseRecording) ds)) (bytesOf (baseRecording .linkCountWidth) L ++ encodes (links baseRecording) ls) p = stands-left (encodeSection (tasks baseRecording) ds) _ (b .bytes) in
       record {
         total = L;
-        counted = links-fit baseLimits L (lit< tt) few;
+        counted = links-fit baseRecording L base-counts few;
         few = few;
-        first = 0 + length (encodeSection tasks ds) + length (bytesOf 1 L);
-        count = stands-first (bytesOf 1 L) _ from;
-        played = record { fits = b .fits .1; allowed = keeps-allowed ds ls (b .keeps); bytes = stands-left (bytesOf 1 L) _ from };
+        first = 0 + length (encodeSection (tasks baseRecording) ds) + length (bytesOf (baseRecording .linkCountWidth) L);
+        count = stands-first (bytesOf (baseRecording .linkCountWidth) L) _ from;
+        played = record { fits = b .fits .1; allowed = keeps-allowed ds ls (b .keeps); bytes = stands-left (bytesOf (baseRecording .linkCountWidth) L) _ from };
         more = more;
         fault = e;
       }
 
   module _ (out : List ℕ) where
     abbrev Found : ℕ → ℕ → Type 0
-    Found r p = RecordingOutcome ltb baseLimits (coreOf ltb base out) s (verdict r p (coreOf ltb base out .single))
+    Found r p = RecordingOutcome ltb baseRecording (coreOf ltb base out) s (verdict r p (coreOf ltb base out .single))
 
     pub fault-found : {r p : ℕ} → TableFault s r p → Found r p
-    fault-found (noTaskCount z) = taskCount 1 (λ y. omega arith) (count-stops 1 (taskLimit baseLimits) s 0 (omega arith) (cut (omega arith))) refl
+    fault-found (cutTaskCount z) = taskCount 1 (λ y. omega arith) (count-stops 1 (taskLimit baseRecording) s 0 (omega arith) (cut (omega arith))) refl
     fault-found (badTaskCount h o) = taskCount 2 (λ y. omega arith) (there ∙ ap (λ (k : ℕ). stop k) two) refl
       where
-        two : taskLimit baseLimits (numberAt 1 s 0) ≡ 2
-        two = over-tasks (numberAt 1 s 0) o
+        two : taskLimit baseRecording (numberAt (baseRecording .taskCountWidth) s 0) ≡ 2
+        two = over-tasks (numberAt (baseRecording .taskCountWidth) s 0) o
 
-        there : countAt 1 (taskLimit baseLimits) s 0 ≡ stop (taskLimit baseLimits (numberAt 1 s 0))
-        there = count-stops 1 (taskLimit baseLimits) s 0 (omega arith) (above (omega arith) (λ z. omega (arith, two)))
+        there : taskCountAt baseRecording s 0 ≡ stop (taskLimit baseRecording (numberAt (baseRecording .taskCountWidth) s 0))
+        there = count-stops 1 (taskLimit baseRecording) s 0 (omega arith) (above (omega arith) (λ z. omega (arith, two)))
     fault-found (cutTask {T} {p} {ds} b more h) = taskRecord ds 1 p (λ y. omega arith) (faulty b more h) refl
       where
-        faulty : TasksBegun s T ds p → length ds < T → length s < p + 4 → Faulty tasks (taskLimit baseLimits) anyDefault andDefault s [] 0 ds 1 p
+        faulty : TasksBegun s T ds p → length ds < T → length s < p + baseRecording .valueWidth → Faulty (tasks baseRecording) (taskLimit baseRecording) anyDefault andDefault s [] 0 ds 1 p
         faulty b more h =
-            let few = within-tasks baseLimits T (b .few .0) (b .few .1) in
+            let few = within-tasks baseRecording T (b .few .0) (b .few .1) in
             record {
               total = T;
-              counted = tasks-fit baseLimits T (lit< tt) few;
+              counted = tasks-fit baseRecording T base-counts few;
               few = few;
-              first = 0 + length (bytesOf 1 T);
-              count = stands-first (bytesOf 1 T) _ (b .bytes);
-              played = record { fits = b .fits; allowed = any-allowed [] ds; bytes = stands-left (bytesOf 1 T) _ (b .bytes) };
+              first = 0 + length (bytesOf (baseRecording .taskCountWidth) T);
+              count = stands-first (bytesOf (baseRecording .taskCountWidth) T) _ (b .bytes);
+              played = record { fits = b .fits; allowed = any-allowed [] ds; bytes = stands-left (bytesOf (baseRecording .taskCountWidth) T) _ (b .bytes) };
               more = more;
               fault = sym (ap (λ (y : Got ℕ). refusalOf y (anyDefault (finally andDefault [] ds))) (sized-ends 4 (numberAt 4 s p) s p (b .bytes .within) h));
             }
-    fault-found (noLinkCount {p} {ds} b z) =
-        linkCount ds 1 p (λ y. omega arith) (begun-tasks b) (count-stops 1 (linkLimit baseLimits) s p (b .bytes .within) (cut (omega arith))) refl
+    fault-found (cutLinkCount {p} {ds} b z) =
+        linkCount ds 1 p (λ y. omega arith) (begun-tasks b) (count-stops 1 (linkLimit baseRecording) s p (b .bytes .within) (cut (omega arith))) refl
     fault-found (badLinkCount {p} {ds} b h o) = linkCount ds 3 p (λ y. omega arith) (begun-tasks b) (there ∙ ap (λ (k : ℕ). stop k) three) refl
       where
-        three : linkLimit baseLimits (numberAt 1 s p) ≡ 3
-        three = rw (lt-ltb 32 (numberAt 1 s p) o)
+        three : linkLimit baseRecording (numberAt (baseRecording .linkCountWidth) s p) ≡ 3
+        three = rw (lt-ltb (baseRecording .links) (numberAt (baseRecording .linkCountWidth) s p) o)
 
-        there : countAt 1 (linkLimit baseLimits) s p ≡ stop (linkLimit baseLimits (numberAt 1 s p))
-        there = count-stops 1 (linkLimit baseLimits) s p (b .bytes .within) (above (omega arith) (λ z. omega (arith, three)))
+        there : linkCountAt baseRecording s p ≡ stop (linkLimit baseRecording (numberAt (baseRecording .linkCountWidth) s p))
+        there = count-stops 1 (linkLimit baseRecording) s p (b .bytes .within) (above (omega arith) (λ z. omega (arith, three)))
     fault-found (cutLink {L} {p} {ds} {ls} b more h) =
-        linkRecord ds (0 + length (encodeSection tasks ds)) ls 1 p (λ y. omega arith) (links-tasks b)
+        linkRecord ds (0 + length (encodeSection (tasks baseRecording) ds)) ls 1 p (λ y. omega arith) (links-tasks b)
         (link-faulty b more 1 (sym (ap (λ (y : Got Link). refusalOf y (linkFault ltb (length ds) (listed ls))) (sized-ends 3 (linkAt s p) s p (b .bytes .within) h)))) refl
     fault-found (badLink {L} {p} {r} {ds} {ls} b more h g n) =
-        linkRecord ds (0 + length (encodeSection tasks ds)) ls r p n (links-tasks b)
+        linkRecord ds (0 + length (encodeSection (tasks baseRecording) ds)) ls r p n (links-tasks b)
         (link-faulty b more r
         (earns-one g (link-earned ds ls (linkAt s p)) ∙ sym (ap (λ (y : Got Link). refusalOf y (linkFault ltb (length ds) (listed ls))) (sized-reads 3 (linkAt s p) s p h)))) refl
     fault-found (cutEventCount {p} {ds} {ls} b h) =
-        eventCount ds ls 1 p (λ y. omega arith) (begun-table b) (count-stops 2 (eventLimit baseLimits) s p (b .bytes .within) (cut h)) refl
+        eventCount ds ls 1 p (λ y. omega arith) (begun-table b) (count-stops 2 (eventLimit baseRecording) s p (b .bytes .within) (cut h)) refl
     fault-found (badEventCount {p} {ds} {ls} b h o) = eventCount ds ls 10 p (λ y. omega arith) (begun-table b) (there ∙ ap (λ (k : ℕ). stop k) ten) refl
       where
-        ten : eventLimit baseLimits (numberAt 2 s p) ≡ 10
-        ten = rw (lt-ltb 10000 (numberAt 2 s p) o)
+        ten : eventLimit baseRecording (numberAt (baseRecording .eventCountWidth) s p) ≡ 10
+        ten = rw (lt-ltb (baseRecording .events) (numberAt (baseRecording .eventCountWidth) s p) o)
 
-        there : countAt 2 (eventLimit baseLimits) s p ≡ stop (eventLimit baseLimits (numberAt 2 s p))
-        there = count-stops 2 (eventLimit baseLimits) s p (b .bytes .within) (above h (λ z. omega (arith, ten)))
+        there : eventCountAt baseRecording s p ≡ stop (eventLimit baseRecording (numberAt (baseRecording .eventCountWidth) s p))
+        there = count-stops 2 (eventLimit baseRecording) s p (b .bytes .within) (above h (λ z. omega (arith, ten)))

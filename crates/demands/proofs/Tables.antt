@@ -78,22 +78,22 @@ column f g xs law n =
     }
 
 -- the table of a fresh state, by what the five lists of a station look like
-module _ (T L : ℕ) (D W R K : List ℕ) (few : T ≤ 16) (least : L ≤ 32) (ds : List ℕ) (ls : List Link) (many : length ds ≡ T) (links : length ls ≡ L)
+module _ (T L : ℕ) (D W R K : List ℕ) (few : T ≤ base .tasks) (least : L ≤ base .links) (ds : List ℕ) (ls : List Link) (many : length ds ≡ T) (links : length ls ≡ L)
     (d : Firsts T D ds) (w : Firsts L W (writers ls)) (r : Firsts L R (readers ls)) (k : Firsts L K (kinds ls)) where
   fresh-as : table ltb (freshOf base T L D W R K) ≡ station ds ls
   unfolding freshOf
   fresh-as = λ i. record {
     tasks = sym many i;
     links = sym links i;
-    default = fun-ext (firsts-same T (firsts-copied 16 T D few) d) i;
-    writer = fun-ext (firsts-same L (firsts-copied 32 L W least) w) i;
-    reader = fun-ext (firsts-same L (firsts-copied 32 L R least) r) i;
-    delayed = λ l. eqb (firsts-same L (firsts-copied 32 L K least) k l i) 1;
+    default = fun-ext (firsts-same T (firsts-copied (base .tasks) T D few) d) i;
+    writer = fun-ext (firsts-same L (firsts-copied (base .links) L W least) w) i;
+    reader = fun-ext (firsts-same L (firsts-copied (base .links) L R least) r) i;
+    delayed = λ l. eqb (firsts-same L (firsts-copied (base .links) L K least) k l i) 1;
     ahead = ltb;
   }
 
 -- of a table in arrays
-pub fresh-station : (T L : ℕ) (D W R K : List ℕ) → T ≤ 16 → L ≤ 32 → table ltb (freshOf base T L D W R K) ≡ station (firstTasks T D) (firstLinks L W R K)
+pub fresh-station : (T L : ℕ) (D W R K : List ℕ) → T ≤ base .tasks → L ≤ base .links → table ltb (freshOf base T L D W R K) ≡ station (firstTasks T D) (firstLinks L W R K)
 fresh-station T L D W R K few least =
     let link : ℕ → Link = λ l. record { writer = at W l; reader = at R l; kind = at K l } in
     fresh-as T L D W R K few least (firstTasks T D) (firstLinks L W R K) (length-numbered (at D) 0 T) (length-numbered link 0 L) (firsts-numbered T D)
@@ -113,7 +113,7 @@ fresh-columns ds ls =
 own : (f : Link → ℕ) (ls : List Link) → Firsts (length ls) (map f ls) (map f ls)
 own f ls = rw (← length-map ls f) (firsts-itself (map f ls))
 
-pub recorded-station : (ds : List ℕ) (ls : List Link) → length ds ≤ 16 → length ls ≤ 32 → table ltb (freshTable base ds ls) ≡ station ds ls
+pub recorded-station : (ds : List ℕ) (ls : List Link) → length ds ≤ base .tasks → length ls ≤ base .links → table ltb (freshTable base ds ls) ≡ station ds ls
 recorded-station ds ls few least =
     ap (λ (q : Saved). table ltb q) (fresh-columns ds ls)
     ∙ fresh-as (length ds) (length ls) ds (writers ls) (readers ls) (kinds ls) few least ds ls refl refl (firsts-itself ds)

@@ -10,6 +10,7 @@ use lib.Dec.{ltb}
 use lib.ListN.{length, getD}
 use Rattle.protocol.specs.Event.{Event}
 use Rattle.byte_format.specs.Play.{Verdict}
+use Rattle.recording_format.specs.RecordingKind.{baseRecording}
 use Rattle.recording_format.specs.Link.{Link, linkAt, listed, linkFault}
 use Rattle.recording_format.specs.Recording.{encodeRecording}
 use Rattle.recording_core.specs.Playing.{Playing}
@@ -24,7 +25,7 @@ use Rattle.demands.proofs.TableFaults.{fault-found}
 use Rattle.demands.proofs.Found.{found}
 
 pub unknown-event : {s out list ds : List ℕ} {a : Answer} {ls : List Link} {es : List (Event ℕ)} {E p : ℕ} → Replays s out a list →
-    Genuine (encodeRecording ds ls es) out ds ls es → EventsBegun s ds ls E es p → length es < E → p < length s → ((n : ℕ) → KindOf (getD s p 0) n → ⊥) →
+    Genuine (encodeRecording baseRecording ds ls es) out ds ls es → EventsBegun s ds ls E es p → length es < E → p < length s → ((n : ℕ) → KindOf (getD s p 0) n → ⊥) →
     (a .refusal ≡ 11) × (a .place ≡ p)
 unknown-event said g b more h u =
     let e = sym (only-answer said (found b g (recordings.unknownKind more h u))) in

@@ -4,13 +4,10 @@ use mathlib.Core.Path.{_≡_}
 use mathlib.Core.Logic.{_≢_}
 use mathlib.Core.List.{List, [], _∷_, _++_}
 use Prim.Native.Nat.{ℕ}
-use lib.Dec.{ltb}
 use lib.ListN.{drop}
 use Rattle.protocol.specs.Event.{Event, arrival, start, read, finish}
 use Rattle.protocol.specs.Table.{Table}
-use Rattle.protocol_state.specs.Saved.{base}
-use Rattle.protocol_state.specs.Fresh.{made}
-use Rattle.mailbox.specs.States.{madeOf, given}
+use Rattle.mailbox.specs.States.{MadeFrom, Given}
 use Rattle.mailbox.specs.declared.State.{State}
 use Rattle.mailbox.specs.declared.Step.{Step}
 use Rattle.mailbox.specs.declared.Made.{Made}
@@ -18,11 +15,11 @@ use Rattle.demands.specs.Station.{station, firstTasks, firstLinks}
 
 -- `State::fresh` answers m to T tasks with the defaults D and L links with the writers W, the readers R and the kinds K
 abbrev pub Makes : ℕ → ℕ → List ℕ → List ℕ → List ℕ → List ℕ → Made → Type 0
-Makes T L D W R K m = m ≡ madeOf (made ltb base T L D W R K)
+Makes = MadeFrom
 
 -- an event e given to the state q, any state, by `arrival`, `start`, `read`, `finish` or `event`, is answered r
 abbrev pub Gives : State → Event ℕ → Step → Type 0
-Gives q e r = r ≡ given q e
+Gives = Given
 
 -- the part of the recording s that `recording::rest` hands back for the place p
 abbrev pub Rests : List ℕ → ℕ → List ℕ → Type 0

@@ -8,11 +8,12 @@ use lib.ListN.{length, drop, getD}
 use Rattle.protocol.specs.Event.{Event}
 use Rattle.protocol.specs.Table.{Table}
 use Rattle.protocol.specs.History.{Counts, counts, reads, past}
-use Rattle.byte_format.specs.Number.{bytesOf, numberAt}
+use Rattle.byte_format.specs.Number.{numberAt}
 use Rattle.byte_format.specs.Stands.{Stands}
-use Rattle.byte_format.specs.Format.{FitEach, encodes, encodeSection}
+use Rattle.byte_format.specs.Format.{FitEach, encodes, encodeBegun, encodeSection}
+use Rattle.recording_format.specs.RecordingKind.{baseRecording}
 use Rattle.recording_format.specs.Task.{tasks}
-use Rattle.recording_format.specs.Link.{Link, links, linkAt}
+use Rattle.recording_format.specs.Link.{Link, linkSize, links, linkAt}
 use Rattle.recording_format.specs.Event.{events, encodeEvent, EventFits}
 use Rattle.recording_format.specs.Recording.{encodeRecording, throughE}
 use Rattle.recording.specs.declared.Answer.{Answer}
@@ -23,13 +24,13 @@ use Rattle.demands.specs.Refusals.{Earns, LinkBreaks, RecordBreaks}
 
 -- the bytes of a recording, of its events, and through its count of events
 abbrev pub recordingBytes : List ℕ → List Link → List (Event ℕ) → List ℕ
-recordingBytes ds ls es = encodeRecording ds ls es
+recordingBytes ds ls es = encodeRecording baseRecording ds ls es
 
 abbrev pub eventBytes : List (Event ℕ) → List ℕ
-eventBytes es = encodes events es
+eventBytes es = encodes (events baseRecording) es
 
 abbrev pub throughCount : List ℕ → List Link → ℕ
-throughCount ds ls = throughE ds ls
+throughCount ds ls = throughE baseRecording ds ls
 
 -- the bytes s are the tasks ds, the links ls and the events es, within every limit, with room for the numbers of its reads in the lent list out, and could happen
 pub record Genuine (s out : List ℕ) (ds : List ℕ) (ls : List Link) (es : List (Event ℕ)) : Type 0 where
@@ -37,8 +38,8 @@ pub record Genuine (s out : List ℕ) (ds : List ℕ) (ls : List Link) (es : Lis
   pub keeps : Keeps ds ls
   -- "its bytes .. the stated limits"
   pub bytes : s ≡ recordingBytes ds ls es
-  pub fits : FitEach tasks ds × (FitEach links ls × FitEach events es)
-  pub few : length es ≤ 10000
+  pub fits : FitEach (tasks baseRecording) ds × (FitEach (links baseRecording) ls × FitEach (events baseRecording) es)
+  pub few : length es ≤ baseRecording .events
   -- "and list room"
   pub room : reads es ≤ length out
   -- "and its events could happen"
@@ -48,43 +49,46 @@ pub record Genuine (s out : List ℕ) (ds : List ℕ) (ls : List Link) (es : Lis
 
 -- a count of tasks, and the first tasks
 pub record TasksBegun (s : List ℕ) (T : ℕ) (ds : List ℕ) (p : ℕ) : Type 0 where
-  pub few : (1 ≤ T) × (T ≤ 16)
-  pub fits : FitEach tasks ds
-  pub bytes : Stands s 0 (bytesOf 1 T ++ encodes tasks ds) p
+  pub few : (1 ≤ T) × (T ≤ baseRecording .tasks)
+  pub fits : FitEach (tasks baseRecording) ds
+  pub bytes : Stands s 0 (encodeBegun (tasks baseRecording) T ds) p
 
 -- all tasks, a count of links, and the first links, which keep the rules
 pub record LinksBegun (s : List ℕ) (ds : List ℕ) (L : ℕ) (ls : List Link) (p : ℕ) : Type 0 where
-  pub few : L ≤ 32
+  pub few : L ≤ baseRecording .links
   pub keeps : Keeps ds ls
-  pub fits : FitEach tasks ds × FitEach links ls
-  pub bytes : Stands s 0 (encodeSection tasks ds ++ (bytesOf 1 L ++ encodes links ls)) p
+  pub fits : FitEach (tasks baseRecording) ds × FitEach (links baseRecording) ls
+  pub bytes : Stands s 0 (encodeSection (tasks baseRecording) ds ++ encodeBegun (links baseRecording) L ls) p
 
 -- the table, a count of events, and the first events
 pub record EventsBegun (s : List ℕ) (ds : List ℕ) (ls : List Link) (E : ℕ) (es : List (Event ℕ)) (p : ℕ) : Type 0 where
-  pub few : E ≤ 10000
+  pub few : E ≤ baseRecording .events
   pub keeps : Keeps ds ls
-  pub fits : FitEach tasks ds × (FitEach links ls × FitEach events es)
-  pub bytes : Stands s 0 (encodeSection tasks ds ++ (encodeSection links ls ++ (bytesOf 2 E ++ encodes events es))) p
+  pub fits : FitEach (tasks baseRecording) ds × (FitEach (links baseRecording) ls × FitEach (events baseRecording) es)
+  pub bytes : Stands s 0 (encodeSection (tasks baseRecording) ds ++ (encodeSection (links baseRecording) ls ++ encodeBegun (events baseRecording) E es)) p
 
 -- ---- refusals whose place is in the tasks, the links or one of the three counts
 
 -- `TableFault s r p`: the first fault of the bytes s has the number r and lies there, at the place p
 pub data TableFault (s : List ℕ) : ℕ → ℕ → Type 0 where
   -- T: 1 "the bytes end inside a count", 2 "T is 0 or above 16"
-  noTaskCount : length s ≡ 0 → TableFault s 1 0
-  badTaskCount : 1 ≤ length s → (numberAt 1 s 0 ≡ 0) ⊎ (16 < numberAt 1 s 0) → TableFault s 2 0
+  cutTaskCount : length s < baseRecording .taskCountWidth → TableFault s 1 0
+  badTaskCount : baseRecording .taskCountWidth ≤ length s →
+      (numberAt (baseRecording .taskCountWidth) s 0 ≡ 0) ⊎ (baseRecording .tasks < numberAt (baseRecording .taskCountWidth) s 0) → TableFault s 2 0
   -- a task: 1 "the bytes end inside a .. record"
-  cutTask : {T p : ℕ} {ds : List ℕ} → TasksBegun s T ds p → length ds < T → length s < p + 4 → TableFault s 1 p
+  cutTask : {T p : ℕ} {ds : List ℕ} → TasksBegun s T ds p → length ds < T → length s < p + baseRecording .valueWidth → TableFault s 1 p
   -- L: 1, 3 "L is above 32"
-  noLinkCount : {p : ℕ} {ds : List ℕ} → TasksBegun s (length ds) ds p → length s ≡ p → TableFault s 1 p
-  badLinkCount : {p : ℕ} {ds : List ℕ} → TasksBegun s (length ds) ds p → p < length s → 32 < numberAt 1 s p → TableFault s 3 p
+  cutLinkCount : {p : ℕ} {ds : List ℕ} → TasksBegun s (length ds) ds p → length s < p + baseRecording .linkCountWidth → TableFault s 1 p
+  badLinkCount : {p : ℕ} {ds : List ℕ} → TasksBegun s (length ds) ds p → p + baseRecording .linkCountWidth ≤ length s →
+      baseRecording .links < numberAt (baseRecording .linkCountWidth) s p → TableFault s 3 p
   -- a link: "any byte missing (1), then rising order", 4 to 9
-  cutLink : {L p : ℕ} {ds : List ℕ} {ls : List Link} → LinksBegun s ds L ls p → length ls < L → length s < p + 3 → TableFault s 1 p
-  badLink : {L p r : ℕ} {ds : List ℕ} {ls : List Link} → LinksBegun s ds L ls p → length ls < L → p + 3 ≤ length s →
+  cutLink : {L p : ℕ} {ds : List ℕ} {ls : List Link} → LinksBegun s ds L ls p → length ls < L → length s < p + linkSize baseRecording → TableFault s 1 p
+  badLink : {L p r : ℕ} {ds : List ℕ} {ls : List Link} → LinksBegun s ds L ls p → length ls < L → p + linkSize baseRecording ≤ length s →
       Earns (LinkBreaks ds ls (linkAt s p)) r → r ≢ 0 → TableFault s r p
   -- E: 1, 10 "E is above 10,000"
-  cutEventCount : {p : ℕ} {ds : List ℕ} {ls : List Link} → LinksBegun s ds (length ls) ls p → length s < p + 2 → TableFault s 1 p
-  badEventCount : {p : ℕ} {ds : List ℕ} {ls : List Link} → LinksBegun s ds (length ls) ls p → p + 2 ≤ length s → 10000 < numberAt 2 s p → TableFault s 10 p
+  cutEventCount : {p : ℕ} {ds : List ℕ} {ls : List Link} → LinksBegun s ds (length ls) ls p → length s < p + baseRecording .eventCountWidth → TableFault s 1 p
+  badEventCount : {p : ℕ} {ds : List ℕ} {ls : List Link} → LinksBegun s ds (length ls) ls p → p + baseRecording .eventCountWidth ≤ length s →
+      baseRecording .events < numberAt (baseRecording .eventCountWidth) s p → TableFault s 10 p
 
 -- the four counts of an answer
 abbrev pub fourCounts : Answer → Counts
@@ -118,7 +122,7 @@ pub data Ending (T : Table ℕ) (s out : List ℕ) (E : ℕ) (es : List (Event �
   unknownKind : length es < E → p < length s → ((n : ℕ) → KindOf (getD s p 0) n → ⊥) → Ending T s out E es p 11
   cutEvent : length es < E → p < length s → (n : ℕ) → KindOf (getD s p 0) n → length s < p + n → Ending T s out E es p 1
   -- then rising order of number": 12 to 16, 18
-  badEvent : {r : ℕ} → length es < E → (e : Event ℕ) (q : ℕ) → Stands s p (encodeEvent e) q → EventFits e →
+  badEvent : {r : ℕ} → length es < E → (e : Event ℕ) (q : ℕ) → Stands s p (encodeEvent baseRecording e) q → EventFits baseRecording e →
       Earns (RecordBreaks T out (past [] es) e) r → r ≢ 0 → Ending T s out E es p r
 
 -- the list that was lent as `out` begins with the numbers ns, which fit, and its rest is untouched

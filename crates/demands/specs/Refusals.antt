@@ -11,7 +11,7 @@ use Rattle.protocol.specs.Event.{Event, arrival, start, read, finish, has}
 use Rattle.protocol.specs.Table.{Table, behinds}
 use Rattle.protocol.specs.History as history
 use Rattle.protocol.specs.History.{reads}
-use Rattle.protocol_state.specs.Saved.{at}
+use Rattle.protocol_state.specs.Saved.{base, at}
 use Rattle.recording_format.specs.Link.{Link}
 use Rattle.demands.specs.Station.{ahead, writers, readers, Keeps}
 
@@ -38,11 +38,11 @@ pub data LinkBreaks (ds : List ℕ) (ls : List Link) (l : Link) : ℕ → Type 0
 -- ---- a table that is handed over whole: its counts first, then the first link at fault
 pub data TableEarns (ds : List ℕ) (ls : List Link) : ℕ → Type 0 where
   -- 2: "T is 0 or above 16"
-  tasks : (length ds ≡ 0) ⊎ (16 < length ds) → TableEarns ds ls 2
+  tasks : (length ds ≡ 0) ⊎ (base .tasks < length ds) → TableEarns ds ls 2
   -- 3: "L is above 32"
-  links : 1 ≤ length ds → length ds ≤ 16 → 32 < length ls → TableEarns ds ls 3
+  links : 1 ≤ length ds → length ds ≤ base .tasks → base .links < length ls → TableEarns ds ls 3
   -- 4 to 9: the links before it keep the rules
-  link : {r : ℕ} → length ls ≤ 32 → (before : List Link) (l : Link) (after : List Link) → ls ≡ before ++ (l ∷ after) → Keeps ds before →
+  link : {r : ℕ} → length ls ≤ base .links → (before : List Link) (l : Link) (after : List Link) → ls ≡ before ++ (l ∷ after) → Keeps ds before →
       Earns (LinkBreaks ds before l) r → r ≢ 0 → TableEarns ds ls r
   -- 0
   kept : Keeps ds ls → TableEarns ds ls 0

@@ -5,9 +5,9 @@ use Prim.Native.Nat.{ℕ}
 use lib.Dec.{eqb}
 use Rattle.protocol.specs.Table.{Table}
 use Rattle.protocol.specs.Published.{Boxes}
-use Rattle.protocol_state.specs.Saved.{Shape, base, at, busy, table, boxes}
+use Rattle.protocol_state.specs.Saved.{base, at, busy, table, boxes}
 use Rattle.protocol_state.specs.Sound.{Sound}
-use Rattle.mailbox.specs.States.{saved}
+use Rattle.mailbox.specs.States.{saved, Whole}
 use Rattle.mailbox.specs.declared.State.{State}
 use Rattle.demands.specs.Station.{ahead, firstTasks}
 use Rattle.demands.specs.Refusals.{Standing}
@@ -21,9 +21,9 @@ tasksIn q = firstTasks (saved q .tasks) (saved q .defaults)
 abbrev pub IsSound : State → Type 0
 IsSound q = Sound (ahead (tasksIn q)) base (saved q)
 
--- each of its arrays has its length, as in every state that the code holds: an array's length is its type
+-- its two arrays have their lengths, as in every state that the code holds: an array's length is its type
 abbrev pub IsWhole : State → Type 0
-IsWhole q = Shape base (saved q)
+IsWhole q = Whole q
 
 -- the table that it holds
 abbrev pub tableIn : State → Table ℕ

@@ -7,7 +7,7 @@ use lib.Dec.{eqb, ltb}
 use lib.ListN.{length}
 use Rattle.protocol.specs.Table.{Table}
 use Rattle.protocol.specs.Instant.{upward}
-use Rattle.protocol_state.specs.Saved.{at}
+use Rattle.protocol_state.specs.Saved.{base, at}
 use Rattle.protocol_state.specs.Rules.{Obeys}
 use Rattle.recording_format.specs.Link.{Link}
 
@@ -41,10 +41,10 @@ station ds ls = record {
 abbrev pub mostUrgentFirst : Table ℕ → List ℕ
 mostUrgentFirst T = upward 0 (T .tasks)
 
--- "its links obey the published rules", each of them rules 4 to 9; and there are 1 to 16 tasks and at most 32 links
+-- "its links obey the published rules", each of them rules 4 to 9; and "T, 1 to 16", "L, 0 to 32", which is the room of a state
 pub record Keeps (ds : List ℕ) (ls : List Link) : Type 0 where
-  pub tasks : (1 ≤ length ds) × (length ds ≤ 16)
-  pub links : length ls ≤ 32
+  pub tasks : (1 ≤ length ds) × (length ds ≤ base .tasks)
+  pub links : length ls ≤ base .links
   pub rules : (l : ℕ) → l < length ls → Obeys (ahead ds) (length ds) (at (writers ls)) (at (readers ls)) (at (kinds ls)) l
 
 -- a table handed over in arrays: the first T of the defaults D

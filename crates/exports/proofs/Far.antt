@@ -26,13 +26,13 @@ module _ (q : Saved) (i : ℕ) (far : 255 < i) where
   task-far : (k : ℕ) → isSound ltb base q ≡ true → judgedTask ltb k i (q .tasks) (at (q .phase)) ≡ 12
   unfolding judgedTask
   task-far k s =
-      let c = sound-room _ _ _ _ _ _ _ _ _ _ _ s in
+      let c = sound-room ltb base q s in
       let h : leb (q .tasks) i ≡ true = le-leb (q .tasks) i (omega arith) in rw h
 
   link-far : isSound ltb base q ≡ true → judgedRead ltb i (q .tasks) (q .links) (at (q .reader)) (at (q .phase)) ≡ 12
   unfolding judgedRead
   link-far s =
-      let c = sound-room _ _ _ _ _ _ _ _ _ _ _ s in
+      let c = sound-room ltb base q s in
       let h : leb (q .links) i ≡ true = le-leb (q .links) i (omega arith) in rw h
 
   pub start-far : settled (isSound ltb base q) 12 q q 0 ≡ give ltb base q (start i)

@@ -14,8 +14,8 @@ use Rattle.recording.specs.declared.Answer.{Answer}
 use Rattle.exports.specs.Replies.{madeAs}
 use Rattle.exports.specs.Replayed.{hostReply, countsIn, Replayed}
 
-pub made-filled : {m : Made} {k : fresh.Made} {q : Saved} → m ≡ madeOf k → q ≡ saved (m .state) → madeAs (m .refusal) q ≡ k
-made-filled {m} i f = ap (madeAs (m .refusal)) f ∙ ap (λ (x : Made). madeAs (x .refusal) (saved (x .state))) i
+pub made-filled : (m : Made) {k : fresh.Made} {q : Saved} → madeOf m ≡ k → q ≡ saved (m .state) → madeAs (m .refusal) q ≡ k
+made-filled m i f = ap (madeAs (m .refusal)) f ∙ i
 
 module _ (s out : List ℕ) (a : Answer) {out′ : List ℕ} (i : replied a out′ ≡ hostReply s out) where
   pub replay-filled : {q : Saved} → q ≡ saved (a .state) → Replayed s out (a .refusal) (a .place) (countsIn (replied a out′ .state .counts)) q out′

@@ -3,7 +3,7 @@
 use mathlib.Core.Path.{_≡_, sym, ap, _∙_}
 use mathlib.Core.Logic.{⊎-elim}
 use mathlib.Core.Bool.{Bool, true, false, not}
-use mathlib.Core.List.{List, [], _∷_}
+use mathlib.Core.List.{[], _∷_}
 use Prim.Native.Nat.{ℕ}
 use native.Mathlib.Omega.{arith}
 use borrow.Author.Tests.{not-true}
@@ -13,13 +13,12 @@ use lib.Dec.{ltb}
 use Rattle.lists.proofs.Bools.{passed}
 use Rattle.protocol_state.specs.Saved.{Saved, base}
 use Rattle.protocol_state.specs.Sound.{isSound}
-use Rattle.protocol_state.specs.Give.{reply}
+use Rattle.protocol_state.specs.Give.{Reply, reply, give}
 use Rattle.protocol_state.proofs.Give.{unsound, refused, give-unsound}
-use Rattle.mailbox_parts.specs.Becomes.{savedOf}
+use Rattle.mailbox_parts.specs.Plain.{plain}
 use Rattle.mailbox_parts.specs.declared.event.Event.{Event}
-use Rattle.mailbox_give.specs.GivenParts.{GivenParts}
 use Rattle.exports.specs.Calls.{Call, known, unknown, called, callReply}
-use Rattle.exports.specs.Replies.{heard, askedNumber, CallAnswered}
+use Rattle.exports.specs.Replies.{heard, askedNumber}
 use Rattle.exports.specs.declared.call.Asked.{Asked}
 use Rattle.exports.specs.declared.call.Asked.the-variants as asked
 use Rattle.exports.proofs.call.Asked as A
@@ -35,19 +34,16 @@ none q (asked.Known e) s o = ⊎-elim (λ (u : _≡_ {A = ℕ} 0 1). absurd (ome
 none q asked.Outside s o = refused 12 q q 0 s (λ z. omega arith)
 none q asked.Unknown s o = refused 11 q q 0 s (λ z. omega arith)
 
--- the parts that are lent, whatever the defaults are
-module _ {T L : ℕ} {W R K ph n p C x : List ℕ} where
-  module _ {kind which value : ℕ} where
-    pub answered-unsound : {b : Bool} → b ≡ isSound ltb base (savedOf T L [] ph n p C W R K x) → not b ≡ true → CallAnswered kind which value T L W R K ph n p C x ph n p C x 19 0
-    answered-unsound {b} test h = record { call = λ D. sym (never (savedOf T L D ph n p C W R K x) (called kind which value) (sym test ∙ not-true b h)) }
+-- the state that is lent
+module _ (q : Saved) (kind which value : ℕ) where
+  pub answered-unsound : {b : Bool} → b ≡ isSound ltb base q → not b ≡ true → reply q 19 0 ≡ callReply q (called kind which value)
+  answered-unsound {b} test h = sym (never q (called kind which value) (sym test ∙ not-true b h))
 
-    module _ (a : Asked) (says : (q : Saved) → heard q a ≡ callReply q (called kind which value)) where
-      pub answered-none :
-          {b : Bool} {r : ℕ} → b ≡ isSound ltb base (savedOf T L [] ph n p C W R K x) → not b ≡ false → OneOf (1 ∷ 2 ∷ []) (tagOf A.the-type a) → r ≡ askedNumber a →
-          CallAnswered kind which value T L W R K ph n p C x ph n p C x r 0
-      answered-none test h o i = record { call = λ D. rw i (sym (none (savedOf T L D ph n p C W R K x) a (passed test h) o) ∙ says (savedOf T L D ph n p C W R K x)) }
+  module _ (a : Asked) (says : (q : Saved) → heard q a ≡ callReply q (called kind which value)) where
+    pub answered-none :
+        {b : Bool} {r : ℕ} → b ≡ isSound ltb base q → not b ≡ false → OneOf (1 ∷ 2 ∷ []) (tagOf A.the-type a) → r ≡ askedNumber a →
+        reply q r 0 ≡ callReply q (called kind which value)
+    answered-none test h o i = rw i (sym (none q a (passed test h) o) ∙ says q)
 
-      pub answered-event :
-          {e : Event} {ph′ n′ p′ C′ x′ : List ℕ} {r v : ℕ} → a ≡ asked.Known e → GivenParts e T L W R K ph n p C x ph′ n′ p′ C′ x′ r v →
-          CallAnswered kind which value T L W R K ph n p C x ph′ n′ p′ C′ x′ r v
-      answered-event g d = record { call = λ D. d .event D ∙ ap (heard (savedOf T L D ph n p C W R K x)) (sym g) ∙ says (savedOf T L D ph n p C W R K x) }
+    pub answered-event : {e : Event} {x : Reply} → a ≡ asked.Known e → x ≡ give ltb base q (plain e) → x ≡ callReply q (called kind which value)
+    answered-event g d = d ∙ ap (heard q) (sym g) ∙ says q

@@ -6,14 +6,14 @@ use Prim.Native.Nat.{ℕ}
 use lib.Dec.{ltb}
 use Rattle.protocol.specs.History.{Counts}
 use Rattle.protocol_state.specs.Saved.{Saved, base}
-use Rattle.recording_format.specs.Limits.{baseLimits}
+use Rattle.recording_format.specs.RecordingKind.{baseRecording}
 use Rattle.byte_format.specs.Play.{Verdict}
 use Rattle.recording_format.specs.Recording.{recording}
 use Rattle.recording_core.specs.Playing.{Playing, coreOf}
 
 -- the recording's reply to the bytes s, with the lent list `out`
 abbrev pub hostReply : List ℕ → List ℕ → Verdict Playing
-hostReply s out = recording ltb baseLimits (coreOf ltb base out) s
+hostReply s out = recording ltb baseRecording (coreOf ltb base out) s
 
 -- the four counts in their order
 abbrev pub countsIn : Counts → List ℕ

@@ -1,15 +1,19 @@
-// One event given to the lent parts of a state.
-ghost use Rattle.exports.specs.Replies.{CallAnswered};
+// One event given to a lent state.
+ghost use mathlib.Core.Path.{_≡_};
+ghost use mathlib.Core.Logic.{_≢_};
+ghost use Rattle.protocol_state.specs.Give.{reply};
+ghost use Rattle.mailbox_layout.specs.Layout.{stateOf};
+ghost use Rattle.exports.specs.Calls.{called, callReply};
 use crate::call::Asked;
 use crate::call::ask;
 use crate::call::number_of;
-use mailbox_base::numbers::CELLS;
-use mailbox_base::numbers::LINKS;
-use mailbox_base::numbers::TASKS;
 use mailbox_checks::sound::is_sound;
 use mailbox_give::give;
+use mailbox_layout::CONTROL;
+use mailbox_layout::VALUES;
 
-// One event given to a state: 19 where the state isn't sound, then 11 for an unknown kind, then 12 to 16, else it is done.
+// One event given to a state: 19 where the state isn't sound, then 11 for an unknown kind, then 12 to 16, else it is done. A refusal leaves
+// both arrays as they were lent.
 #[no_mangle]
 pub extern "C" fn parnusild_event(
     kind: u8,
@@ -18,47 +22,19 @@ pub extern "C" fn parnusild_event(
     number: &mut u32,
     tasks: usize,
     links: usize,
-    writer: &[u8; LINKS],
-    reader: &[u8; LINKS],
-    kinds: &[u8; LINKS],
-    phase: &mut [u8; TASKS],
-    newest: &mut [u8; TASKS],
-    previous: &mut [u8; TASKS],
-    cells: &mut [u32; CELLS],
-    pointer: &mut [u8; LINKS],
+    control: &mut [u8; CONTROL],
+    values: &mut [u32; VALUES],
 ) -> u8
-    ensures { λ r. ⌜ CallAnswered kind which value tasks links (now (writer .entry)) (now (reader .entry)) (now (kinds .entry)) (now (phase .entry)) (now (newest .entry)) (now (previous .entry)) (now (cells .entry)) (now (pointer .entry)) (now (phase .exit)) (now (newest .exit)) (now (previous .exit)) (now (cells .exit)) (now (pointer .exit)) r (now (number .exit)) ⌝ }
+    ensures answer { λ r. ⌜ reply (stateOf tasks links (now (control .exit)) (now (values .exit))) r (now (number .exit)) ≡ callReply (stateOf tasks links (now (control .entry)) (now (values .entry))) (called kind which value) ⌝ }
+    ensures kept { λ r. ⌜ (r ≢ 0 → (now (control .exit) ≡ now (control .entry)) × (now (values .exit) ≡ now (values .entry))) ⌝ }
 {
     let call = ask(kind, which, value);
     let Asked::Known(e) = call else {
         *number = 0;
-        if !is_sound(
-            tasks,
-            links,
-            writer,
-            reader,
-            kinds,
-            phase,
-            newest,
-            previous,
-            pointer,
-        ) {
+        if !is_sound(tasks, links, control) {
             return 19;
         }
         return number_of(call);
     };
-    give(
-        e,
-        number,
-        tasks,
-        links,
-        writer,
-        reader,
-        kinds,
-        phase,
-        newest,
-        previous,
-        cells,
-        pointer,
-    )
+    give(e, number, tasks, links, control, values)
 }

@@ -1,15 +1,16 @@
-// The fresh state of a table, into the lent parts of a state.
+// The fresh state of a table, into a lent state.
 ghost use mathlib.Core.Path.{_≡_};
 ghost use lib.Dec.{ltb};
 ghost use Rattle.protocol_state.specs.Saved.{base};
 ghost use Rattle.protocol_state.specs.Fresh.{made};
-ghost use Rattle.mailbox_parts.specs.Becomes.{savedOf};
+ghost use Rattle.mailbox_layout.specs.Layout.{stateOf};
 ghost use Rattle.exports.specs.Replies.{madeAs};
 use crate::parts::put_state;
 use mailbox::State;
-use mailbox_base::numbers::CELLS;
 use mailbox_base::numbers::LINKS;
 use mailbox_base::numbers::TASKS;
+use mailbox_layout::CONTROL;
+use mailbox_layout::VALUES;
 
 // The fresh state of a table: the refusal that the table earns, 0 for none, and its fresh state, else that of a single task.
 #[no_mangle]
@@ -22,17 +23,10 @@ pub extern "C" fn parnusild_fresh(
     table_kind: &[u8; LINKS],
     tasks: &mut usize,
     links: &mut usize,
-    defaults: &mut [u32; TASKS],
-    phase: &mut [u8; TASKS],
-    newest: &mut [u8; TASKS],
-    previous: &mut [u8; TASKS],
-    cells: &mut [u32; CELLS],
-    writer: &mut [u8; LINKS],
-    reader: &mut [u8; LINKS],
-    kind: &mut [u8; LINKS],
-    pointer: &mut [u8; LINKS],
+    control: &mut [u8; CONTROL],
+    values: &mut [u32; VALUES],
 ) -> u8
-    ensures { λ r. ⌜ madeAs r (savedOf (now (tasks .exit)) (now (links .exit)) (now (defaults .exit)) (now (phase .exit)) (now (newest .exit)) (now (previous .exit)) (now (cells .exit)) (now (writer .exit)) (now (reader .exit)) (now (kind .exit)) (now (pointer .exit))) ≡ made ltb base «table_tasks» «table_links» (now («table_defaults» .entry)) (now («table_writer» .entry)) (now («table_reader» .entry)) (now («table_kind» .entry)) ⌝ }
+    ensures { λ r. ⌜ madeAs r (stateOf (now (tasks .exit)) (now (links .exit)) (now (control .exit)) (now (values .exit))) ≡ made ltb base «table_tasks» «table_links» (now («table_defaults» .entry)) (now («table_writer» .entry)) (now («table_reader» .entry)) (now («table_kind» .entry)) ⌝ }
 {
     let made = State::fresh(
         table_tasks,
@@ -42,19 +36,6 @@ pub extern "C" fn parnusild_fresh(
         *table_reader,
         *table_kind,
     );
-    put_state(
-        made.state,
-        tasks,
-        links,
-        defaults,
-        phase,
-        newest,
-        previous,
-        cells,
-        writer,
-        reader,
-        kind,
-        pointer,
-    );
+    put_state(made.state, tasks, links, control, values);
     made.refusal
 }

@@ -1,4 +1,4 @@
-// The calls of a host in C or Rust: thin functions on numbers and lent arrays, the host's saved state among them, field by field.
+// The calls of a host in C or Rust: thin functions on numbers and lent arrays, the two of the host's saved state among them.
 //
 // Nothing is asked of the caller but that what is lent is there, and that nothing is lent twice. `include/parnusild.h` has the same
 // calls on a struct.

@@ -1,11 +1,10 @@
-// The replay of a whole recording, into the lent parts of a state.
+// The replay of a whole recording, into a lent state.
 ghost use Rattle.byte_format.specs.Number.{Bytes};
-ghost use Rattle.mailbox_parts.specs.Becomes.{savedOf};
+ghost use Rattle.mailbox_layout.specs.Layout.{stateOf};
 ghost use Rattle.exports.specs.Replayed.{Replayed};
 use crate::parts::put_state;
-use mailbox_base::numbers::CELLS;
-use mailbox_base::numbers::LINKS;
-use mailbox_base::numbers::TASKS;
+use mailbox_layout::CONTROL;
+use mailbox_layout::VALUES;
 
 // Arrivals task by task, starts, reads, finishes.
 const COUNTS: usize = 4;
@@ -20,17 +19,10 @@ pub extern "C" fn parnusild_replay(
     counts: &mut [usize; COUNTS],
     tasks: &mut usize,
     links: &mut usize,
-    defaults: &mut [u32; TASKS],
-    phase: &mut [u8; TASKS],
-    newest: &mut [u8; TASKS],
-    previous: &mut [u8; TASKS],
-    cells: &mut [u32; CELLS],
-    writer: &mut [u8; LINKS],
-    reader: &mut [u8; LINKS],
-    kind: &mut [u8; LINKS],
-    pointer: &mut [u8; LINKS],
+    control: &mut [u8; CONTROL],
+    values: &mut [u32; VALUES],
 ) -> u8
-    ensures answer { λ r. ⌜ Replayed (now (bytes .entry)) (now (numbers .entry)) r (now (place .exit)) (now (counts .exit)) (savedOf (now (tasks .exit)) (now (links .exit)) (now (defaults .exit)) (now (phase .exit)) (now (newest .exit)) (now (previous .exit)) (now (cells .exit)) (now (writer .exit)) (now (reader .exit)) (now (kind .exit)) (now (pointer .exit))) (now (numbers .exit)) ⌝ }
+    ensures answer { λ r. ⌜ Replayed (now (bytes .entry)) (now (numbers .entry)) r (now (place .exit)) (now (counts .exit)) (stateOf (now (tasks .exit)) (now (links .exit)) (now (control .exit)) (now (values .exit))) (now (numbers .exit)) ⌝ }
     ensures bytes { λ r. ⌜ Bytes (now (bytes .entry)) ⌝ }
 {
     let answer = recording::replay(bytes, numbers);
@@ -41,19 +33,6 @@ pub extern "C" fn parnusild_replay(
         answer.reads,
         answer.finishes,
     ];
-    put_state(
-        answer.state,
-        tasks,
-        links,
-        defaults,
-        phase,
-        newest,
-        previous,
-        cells,
-        writer,
-        reader,
-        kind,
-        pointer,
-    );
+    put_state(answer.state, tasks, links, control, values);
     answer.refusal
 }

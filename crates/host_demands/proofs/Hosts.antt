@@ -1,6 +1,6 @@
 -- The calls of hosts are the calls that the demands speak of.
 -- Assumes nothing.
-use mathlib.Core.Path.{_≡_, refl, ap, _∙_}
+use mathlib.Core.Path.{_≡_, refl, sym, ap, _∙_}
 use mathlib.Core.List.{List}
 use Prim.Native.Nat.{ℕ, _-_, _≤_}
 use native.Mathlib.Omega.{arith}
@@ -10,10 +10,11 @@ use lib.ListN.{length, drop, length-drop}
 use Rattle.protocol.specs.Event.{Event, arrival, start, read, finish}
 use Rattle.protocol_state.specs.Saved.{Saved, base, at}
 use Rattle.protocol_state.specs.Sound.{isSound, Sound}
-use Rattle.protocol_state.specs.Give.{reply, settled}
+use Rattle.protocol_state.specs.Give.{reply, settled, give}
 use Rattle.protocol_state.proofs.Sound.{says-sound}
 use Rattle.protocol_state.proofs.Give.{unsound, refused}
-use Rattle.mailbox.specs.States.{stateOf, stepOf, madeOf}
+use Rattle.mailbox.specs.declared.State.{State}
+use Rattle.exports.specs.Replies.{madeAs}
 use Rattle.recording.specs.declared.Answer.{Answer}
 use Rattle.recording_demands.specs.Ensured.{Replays}
 use Rattle.recording_demands.specs.Rest.{Unread}
@@ -22,7 +23,7 @@ use Rattle.recording_write_demands.specs.Ensured.{Writes}
 use Rattle.demands.specs.Calls.{Gives}
 use Rattle.demands.proofs.Demands.{not-sound}
 use Rattle.exports.specs.Calls.{Call, known, unknown, called, callReply}
-use Rattle.host_demands.specs.Hosts.{HostGives, HostReplays, HostWrites, HostRests, HostAsksNothing, HostTells, HostSays, anArrival, aStart, aRead, aFinish, hostAnswer, lastOf, Hosts}
+use Rattle.host_demands.specs.Hosts.{HostGives, HostReplays, HostWrites, HostRests, HostAsksNothing, HostTells, HostSays, anArrival, aStart, aRead, aFinish, Holds, hostAnswer, lastOf, Hosts}
 
 host-asks : HostAsksNothing
 host-asks = record { fresh = λ κs lent. tt; event = λ κs lent. tt; replay = λ κs lent. tt; write = λ κs lent. tt; rest = λ κs lent. tt }
@@ -30,7 +31,7 @@ host-asks = record { fresh = λ κs lent. tt; event = λ κs lent. tt; replay = 
 host-tells : HostTells
 host-tells = record {
   fresh = λ κs lent r left learnt. learnt;
-  event = λ κs lent r left learnt. learnt .call;
+  event = λ κs lent r left learnt. (learnt .0, λ n. let k = learnt .1 n in record { control = k .0; values = k .1 });
   replay = λ κs lent r left learnt. learnt;
   write = λ κs lent r left learnt. learnt;
   rest = λ κs lent n left learnt. learnt;
@@ -66,21 +67,26 @@ module _ (q q′ : Saved) (kind which value r v : ℕ) (said : HostGives q kind 
   answer-is : {c : Call} → called kind which value ≡ c → reply q′ r v ≡ callReply q c
   answer-is i = said ∙ ap (λ (c : Call). callReply q c) i
 
-  event-is : (e : Event ℕ) → HostSays kind which value e → Gives (stateOf q) e (stepOf (reply q′ r v))
-  event-is e s = ap stepOf (answer-is (says-known s))
+  event-is : (e : Event ℕ) → HostSays kind which value e → (p p′ : State) → Holds p q → Holds p′ q′ → Gives p e (record { state = p′; answer = record { refusal = r; value = v } })
+  event-is e s p p′ h h′ = record {
+    answer = ap (λ (x : Saved). reply x r v) (h′ .same) ∙ answer-is (says-known s) ∙ ap (λ (x : Saved). give ltb base x e) (sym (h .same));
+    lent = h .whole;
+    whole = h′ .whole;
+  }
 
   unknown-is :
       ((e : Event ℕ) → HostSays kind which value e → ⊥) → (Sound ltb base q → reply q′ r v ≡ reply q 11 0) × ((Sound ltb base q → ⊥) → reply q′ r v ≡ reply q 19 0)
   unknown-is none = unknown-answer q q′ r v (answer-is (says-unknown kind which value none))
 
 -- the parts of a replay's answer
-replay-is : {s out cs list : List ℕ} {r m : ℕ} {q : Saved} → HostReplays s out r m cs q list → Replays s out (hostAnswer r m cs q) list
-replay-is {s} {out} {cs} (R, b) = record {
+replay-is : {s out cs list : List ℕ} {r m : ℕ} {q : Saved} → HostReplays s out r m cs q list → (p : State) → Holds p q → Replays s out (hostAnswer r m cs p) list
+replay-is {s} {out} {cs} (R, b) p h = record {
+  whole = h .whole;
   answer = λ i. record {
     refusal = R .refusal i;
     place = R .place i;
     state = record {
-      state = R .state i;
+      state = (h .same ∙ R .state) i;
       counts = record { arrivals = at (R .counts i) 0; starts = at (R .counts i) 1; reads = at (R .counts i) 2; finishes = at (R .counts i) 3 };
       list = R .list i;
     };
@@ -107,7 +113,7 @@ pub hosts : Hosts
 hosts = record {
   asks = host-asks;
   tells = host-tells;
-  fresh = λ T L D W R K r q said. ap madeOf said;
+  fresh = λ T L D W R K r q said p h. record { answer = ap (madeAs r) (h .same) ∙ said; whole = h .whole };
   event = event-is;
   unknown = unknown-is;
   replay = replay-is;

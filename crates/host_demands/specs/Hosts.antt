@@ -1,7 +1,8 @@
--- What C and Rust hosts link: each of their calls is one that the demands speak of, on a state that the host keeps in its parts. A reader begins at `Hosts`,
+-- What C and Rust hosts link: each of their calls is one that the demands speak of, on a state that the host keeps in its own memory. A reader begins at `Hosts`,
 -- the last record here; proofs/Hosts.antt has `hosts`.
 -- Assumes nothing.
 use mathlib.Core.Path.{_≡_}
+use mathlib.Core.Logic.{_≢_}
 use mathlib.Core.List.{List}
 use Prim.Native.Nat.{ℕ, _-_, _≤_}
 use lib.Dec.{ltb}
@@ -17,8 +18,9 @@ use Rattle.protocol_state.specs.Fresh.{made}
 use Rattle.protocol_state.specs.Give.{reply}
 use Rattle.byte_format.specs.Number.{Bytes}
 use Rattle.recording_format.specs.Words.{Words}
-use Rattle.mailbox_parts.specs.Becomes.{savedOf}
-use Rattle.mailbox.specs.States.{stateOf, stepOf}
+use Rattle.mailbox_layout.specs.Layout.{stateOf}
+use Rattle.mailbox.specs.States.{saved, Whole}
+use Rattle.mailbox.specs.declared.State.{State}
 use Rattle.recording.specs.declared.Answer.{Answer}
 use Rattle.recording_demands.specs.Ensured.{Replays}
 use Rattle.recording_demands.specs.Rest.{Unread}
@@ -63,9 +65,9 @@ HostRests s m n = n ≡ length (drop m s)
 
 -- "Whatever .. is handed over, an answer comes back": the host's calls ask nothing of what is lent
 pub record HostAsksNothing : Type 0 where
-  pub fresh : (κs : Lfts 15) (lent : Dens κs of-fresh.ps) → on-fresh.Asked κs lent
-  pub event : (κs : Lfts 9) (lent : Dens κs of-event.ps) → on-event.Asked κs lent
-  pub replay : (κs : Lfts 15) (lent : Dens κs of-replay.ps) → on-replay.Asked κs lent
+  pub fresh : (κs : Lfts 8) (lent : Dens κs of-fresh.ps) → on-fresh.Asked κs lent
+  pub event : (κs : Lfts 3) (lent : Dens κs of-event.ps) → on-event.Asked κs lent
+  pub replay : (κs : Lfts 8) (lent : Dens κs of-replay.ps) → on-replay.Asked κs lent
   pub write : (κs : Lfts 5) (lent : Dens κs of-write.ps) → on-write.Asked κs lent
   pub rest : (κs : Lfts 1) (lent : Dens κs of-rest.ps) → on-rest.Asked κs lent
 
@@ -76,33 +78,40 @@ Number = RefT ℕ
 abbrev pub Numbers : Type 0
 Numbers = RefT (List ℕ)
 
--- the five parts of a state that events change, lent one after the other: phases, newest, previous, cells, pointers
-abbrev pub Changing : Type 0
-Changing = Numbers × (Numbers × (Numbers × (Numbers × (Numbers × Unit {0}))))
+-- the two arrays of a state, lent one after the other: control, values
+abbrev pub Arrays : Type 0
+Arrays = Numbers × (Numbers × Unit {0})
 
--- the state that they are part of, with the counts T and L, the defaults D and the links' writers, readers and kinds
-abbrev pub stateWith : ℕ → ℕ → List ℕ → List ℕ → List ℕ → List ℕ → Changing → Saved
-stateWith T L D W R K (ph, (n, (p, (C, (x, u))))) = savedOf T L D (now ph) (now n) (now p) (now C) W R K (now x)
+-- the state in them, with the counts T and L
+abbrev pub stateWith : ℕ → ℕ → Arrays → Saved
+stateWith T L (c, (v, u)) = stateOf T L (now c) (now v)
 
--- all eleven parts, lent one after the other
+-- all its parts: the counts, then the arrays
 abbrev pub Parts : Type 0
-Parts = Number × (Number × (Numbers × (Numbers × (Numbers × (Numbers × (Numbers × (Numbers × (Numbers × (Numbers × (Numbers × Unit {0}))))))))))
+Parts = Number × (Number × Arrays)
 
 -- the state in them
 abbrev pub stateIn : Parts → Saved
-stateIn (T, (L, (D, (ph, (n, (p, (C, (W, (R, (K, (x, u))))))))))) = savedOf (now T) (now L) (now D) (now ph) (now n) (now p) (now C) (now W) (now R) (now K) (now x)
+stateIn (T, (L, arrays)) = stateWith (now T) (now L) arrays
+
+-- arrays that hold what they held, to the last byte
+pub record Kept (before after : Arrays) : Type 0 where
+  pub control : now (after .0) ≡ now (before .0)
+  pub values : now (after .1 .0) ≡ now (before .1 .0)
 
 -- the contracts: `lent` are the arguments of a call, in their order, `left` is what the references among them hold after it
 pub record HostTells : Type 0 where
-  pub fresh : (κs : Lfts 15) (lent : Dens κs of-fresh.ps) (r : resT of-fresh.r κs .Denot) (left : AtExit (endedOf 15 of-fresh.ps of-fresh.r) κs) →
+  pub fresh : (κs : Lfts 8) (lent : Dens κs of-fresh.ps) (r : resT of-fresh.r κs .Denot) (left : AtExit (endedOf 8 of-fresh.ps of-fresh.r) κs) →
       on-fresh.Learnt κs lent r left →
       HostMakes (lent .0) (lent .1 .0) (now (lent .1 .1 .0)) (now (lent .1 .1 .1 .0)) (now (lent .1 .1 .1 .1 .0)) (now (lent .1 .1 .1 .1 .1 .0)) r (stateIn (left .1 .1 .1 .1 .1 .1))
-  -- whatever the defaults D of the state are, which are not lent
-  pub event : (κs : Lfts 9) (lent : Dens κs of-event.ps) (r : resT of-event.r κs .Denot) (left : AtExit (endedOf 9 of-event.ps of-event.r) κs) →
-      on-event.Learnt κs lent r left → (D : List ℕ) →
-      let state = stateWith (lent .1 .1 .1 .1 .0) (lent .1 .1 .1 .1 .1 .0) D (now (lent .1 .1 .1 .1 .1 .1 .0)) (now (lent .1 .1 .1 .1 .1 .1 .1 .0)) (now (lent .1 .1 .1 .1 .1 .1 .1 .1 .0)) in
-      HostGives (state (lent .1 .1 .1 .1 .1 .1 .1 .1 .1)) (lent .0) (lent .1 .0) (lent .1 .1 .0) r (now (left .1 .1 .1 .0)) (state (left .1 .1 .1 .1 .1 .1 .1 .1 .1))
-  pub replay : (κs : Lfts 15) (lent : Dens κs of-replay.ps) (r : resT of-replay.r κs .Denot) (left : AtExit (endedOf 15 of-replay.ps of-replay.r) κs) →
+  -- and a refusal leaves both arrays as they were lent
+  pub event : (κs : Lfts 3) (lent : Dens κs of-event.ps) (r : resT of-event.r κs .Denot) (left : AtExit (endedOf 3 of-event.ps of-event.r) κs) →
+      on-event.Learnt κs lent r left →
+      let state = stateWith (lent .1 .1 .1 .1 .0) (lent .1 .1 .1 .1 .1 .0) in
+      let before = lent .1 .1 .1 .1 .1 .1 in
+      let after = left .1 .1 .1 .1 .1 .1 in
+      HostGives (state before) (lent .0) (lent .1 .0) (lent .1 .1 .0) r (now (left .1 .1 .1 .0)) (state after) × (r ≢ 0 → Kept before after)
+  pub replay : (κs : Lfts 8) (lent : Dens κs of-replay.ps) (r : resT of-replay.r κs .Denot) (left : AtExit (endedOf 8 of-replay.ps of-replay.r) κs) →
       on-replay.Learnt κs lent r left →
       HostReplays (now (lent .0)) (now (lent .1 .0)) r (now (left .1 .1 .0)) (now (left .1 .1 .1 .0)) (stateIn (left .1 .1 .1 .1)) (now (left .1 .0))
   pub write : (κs : Lfts 5) (lent : Dens κs of-write.ps) (r : resT of-write.r κs .Denot) (left : AtExit (endedOf 5 of-write.ps of-write.r) κs) →
@@ -120,9 +129,14 @@ pub data HostSays : ℕ → ℕ → ℕ → Event ℕ → Type 0 where
   aRead : {l value : ℕ} → HostSays 3 l value (read l)
   aFinish : {t value : ℕ} → HostSays 4 t value (finish t value)
 
+-- the code's state that holds what a host's arrays do: those have their lengths, which is what a host promises by its types
+pub record Holds (p : State) (q : Saved) : Type 0 where
+  pub same : saved p ≡ q
+  pub whole : Whole p
+
 -- the answer that a replay's parts are; the counts stand in their order
-abbrev pub hostAnswer : ℕ → ℕ → List ℕ → Saved → Answer
-hostAnswer r m cs q = record { refusal = r; place = m; state = stateOf q; arrivals = at cs 0; starts = at cs 1; reads = at cs 2; finishes = at cs 3 }
+abbrev pub hostAnswer : ℕ → ℕ → List ℕ → State → Answer
+hostAnswer r m cs p = record { refusal = r; place = m; state = p; arrivals = at cs 0; starts = at cs 1; reads = at cs 2; finishes = at cs 3 }
 
 -- the last n of the bytes s
 abbrev pub lastOf : ℕ → List ℕ → List ℕ
@@ -134,16 +148,18 @@ pub record Hosts : Type 0 where
   -- what the sentences below take of a call is what its contract in the source tells
   pub tells : HostTells
   -- a table handed to `parnusild_fresh` makes what it makes by `State::fresh`
-  pub fresh : (T L : ℕ) (D W R K : List ℕ) (r : ℕ) (q : Saved) → HostMakes T L D W R K r q → Makes T L D W R K (record { refusal = r; state = stateOf q })
+  pub fresh : (T L : ℕ) (D W R K : List ℕ) (r : ℕ) (q : Saved) → HostMakes T L D W R K r q →
+      (p : State) → Holds p q → Makes T L D W R K (record { refusal = r; state = p })
   -- an event, kinds 1 to 4, is given to the state by `parnusild_event` as by `State::event`
   pub event : (q q′ : Saved) (kind which value r v : ℕ) → HostGives q kind which value r v q′ →
-      (e : Event ℕ) → HostSays kind which value e → Gives (stateOf q) e (stepOf (reply q′ r v))
+      (e : Event ℕ) → HostSays kind which value e → (p p′ : State) → Holds p q → Holds p′ q′ → Gives p e (record { state = p′; answer = record { refusal = r; value = v } })
   -- "Nothing unknown ever becomes a default.": any other kind is 11 of a sound state and 19 of another, the state as it was, and no number
   pub unknown : (q q′ : Saved) (kind which value r v : ℕ) → HostGives q kind which value r v q′ →
       ((e : Event ℕ) → HostSays kind which value e → ⊥) →
       (Sound ltb base q → reply q′ r v ≡ reply q 11 0) × ((Sound ltb base q → ⊥) → reply q′ r v ≡ reply q 19 0)
   -- what `parnusild_replay` answers and leaves is what `recording::replay` does
-  pub replay : {s out cs list : List ℕ} {r m : ℕ} {q : Saved} → HostReplays s out r m cs q list → Replays s out (hostAnswer r m cs q) list
+  pub replay : {s out cs list : List ℕ} {r m : ℕ} {q : Saved} → HostReplays s out r m cs q list →
+      (p : State) → Holds p q → Replays s out (hostAnswer r m cs p) list
   -- what `parnusild_write` answers and leaves is what `recording_write::write` does
   pub write : {ds lw ew old new : List ℕ} {r m : ℕ} → HostWrites ds lw ew old r m new → Writes ds lw ew old (record { refusal = r; place = m }) new
   -- "On refusal the caller also gets the unread rest": so many bytes, the last of the recording, as `parnusild_rest` answers to a replay's place

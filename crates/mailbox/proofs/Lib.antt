@@ -1,2 +1,4 @@
-pub mod Answers
+-- Laws that several proofs cite.
 pub mod Makes
+pub mod Filling
+pub mod Packed

@@ -1,61 +1,46 @@
--- The code's state as the protocol's saved state and back, and what each call answers.
+-- The code's state as the protocol's saved state, and what each call answers.
 -- Assumes nothing.
 use mathlib.Core.Path.{_≡_}
 use mathlib.Core.Bool.{true}
+use mathlib.Core.List.{List}
 use Prim.Native.Nat.{ℕ}
 use lib.Dec.{ltb}
 use Rattle.protocol.specs.Event.{Event}
 use Rattle.protocol_state.specs.Saved.{Saved, base}
 use Rattle.protocol_state.specs.Sound.{isSound}
-use Rattle.protocol_state.specs.Give.{Reply, give}
+use Rattle.protocol_state.specs.Give.{Reply, reply, give}
 use Rattle.protocol_state.specs.Fresh as fresh
+use Rattle.mailbox_layout.specs.Layout.{stateOf, Filled}
 use Rattle.mailbox.specs.declared.State.{State}
 use Rattle.mailbox.specs.declared.Step.{Step}
 use Rattle.mailbox.specs.declared.Made.{Made}
 
 -- the code's state as the protocol's saved state
 abbrev pub saved : State → Saved
-saved q = record {
-  tasks = q .tasks;
-  links = q .links;
-  defaults = q .defaults;
-  phase = q .phase;
-  newest = q .newest;
-  previous = q .previous;
-  cells = q .cells;
-  writer = q .writer;
-  reader = q .reader;
-  kind = q .kind;
-  pointer = q .pointer;
-}
+saved q = stateOf (q .tasks) (q .links) (q .control) (q .values)
 
--- and back
-abbrev pub stateOf : Saved → State
-stateOf q = record {
-  tasks = q .tasks;
-  links = q .links;
-  defaults = q .defaults;
-  phase = q .phase;
-  newest = q .newest;
-  previous = q .previous;
-  cells = q .cells;
-  writer = q .writer;
-  reader = q .reader;
-  kind = q .kind;
-  pointer = q .pointer;
-}
+-- its arrays have their lengths, which is part of its type: so nothing of it lies outside what `saved` sees
+abbrev pub Whole : State → Type 0
+Whole q = Filled (q .control) (q .values)
 
--- a reply as the code hands it back
-abbrev pub stepOf : Reply → Step
-stepOf r = record { state = stateOf (r .state); answer = record { refusal = r .refusal; value = r .value } }
+-- what an event hands back, as the protocol's reply
+abbrev pub replyOf : Step → Reply
+replyOf r = reply (saved (r .state)) (r .answer .refusal) (r .answer .value)
 
--- what a table makes, as the code hands it back
-abbrev pub madeOf : fresh.Made → Made
-madeOf m = record { refusal = m .refusal; state = stateOf (m .state) }
+-- what a table makes, as the protocol has it
+abbrev pub madeOf : Made → fresh.Made
+madeOf m = record { refusal = m .refusal; state = saved (m .state) }
 
 -- the answer to an event: under fixed priorities, with room for 16 tasks and 32 links
-abbrev pub given : State → Event ℕ → Step
-given q e = stepOf (give ltb base (saved q) e)
+pub record Given (q : State) (e : Event ℕ) (r : Step) : Type 0 where
+  pub answer : replyOf r ≡ give ltb base (saved q) e
+  pub lent : Whole q
+  pub whole : Whole (r .state)
+
+-- the answer to T tasks with the defaults D and L links with the writers W, the readers R and the kinds K
+pub record MadeFrom (T L : ℕ) (D W R K : List ℕ) (m : Made) : Type 0 where
+  pub answer : madeOf m ≡ fresh.made ltb base T L D W R K
+  pub whole : Whole (m .state)
 
 -- a sound state stays sound
 abbrev pub StaysSound : State → Step → Type 0

@@ -5,48 +5,46 @@
 // the state holds, an answer comes back, and a refusal hands the state back as it was lent.
 ghost use mathlib.Core.Path.{_≡_};
 ghost use mathlib.Core.Bool.{true};
-ghost use Prim.Native.Nat.{_≤_};
 ghost use lib.Dec.{ltb};
 ghost use Rattle.protocol.specs.Event.{arrival, start, read, finish};
-ghost use Rattle.protocol_state.specs.Saved.{base};
-ghost use Rattle.protocol_state.specs.Fresh.{freshOf, single, made};
+ghost use Rattle.protocol_state.specs.Saved.{at, base};
+ghost use Rattle.protocol_state.specs.Fresh.{single};
 ghost use Rattle.protocol_state.specs.Sound.{isSound};
 ghost use Rattle.mailbox_parts.specs.Plain.{plain};
-ghost use Rattle.mailbox.specs.States.{saved, stateOf, madeOf, given, StaysSound};
-use crate::cells::fill_cells;
-use crate::tables::copy_links;
-use crate::tables::copy_tasks;
-use mailbox_base::numbers::CELLS;
+ghost use Rattle.mailbox.specs.States.{saved, Whole, MadeFrom, Given, StaysSound};
+use crate::tables::control_of;
+use crate::tables::values_of;
 use mailbox_base::numbers::EVENTS;
 use mailbox_base::numbers::LINKS;
 use mailbox_base::numbers::TASKS;
 use mailbox_checks::sound::is_sound;
 use mailbox_checks::table::judge_table;
 use mailbox_give::give;
+use mailbox_layout::CELL;
+use mailbox_layout::CONTROL;
+use mailbox_layout::DEFAULT;
+use mailbox_layout::KIND;
+use mailbox_layout::NEWEST;
+use mailbox_layout::PHASE;
+use mailbox_layout::POINTER;
+use mailbox_layout::PREVIOUS;
+use mailbox_layout::READER;
+use mailbox_layout::VALUES;
+use mailbox_layout::WRITER;
+use mailbox_layout::control_at;
+use mailbox_layout::fresh::fresh_control;
+use mailbox_layout::value_at;
 use mailbox_parts::event::Event;
 
-pub mod cells;
 mod tables;
 
-// All that a station has to keep between events. Slots past `tasks` and past `links` are never touched; when fresh they hold 0, newest
-// and previous 1.
+// All that a station has to keep between events: the counts, and the two arrays whose regions `mailbox_layout` names. Each field has an
+// accessor below. Slots past `tasks` and past `links` are never touched; when fresh they hold 0, newest and previous 1.
 pub struct State {
     pub tasks: usize,
     pub links: usize,
-    pub defaults: [u32; TASKS],
-    // 0 idle, 1 waiting, 2 running
-    pub phase: [u8; TASKS],
-    // a position, 1 to N + 2, where N is how many links the task has to readers behind
-    pub newest: [u8; TASKS],
-    pub previous: [u8; TASKS],
-    // position p of task t at t * 10 + p - 1
-    pub cells: [u32; CELLS],
-    pub writer: [u8; LINKS],
-    pub reader: [u8; LINKS],
-    // 0 direct, 1 delayed
-    pub kind: [u8; LINKS],
-    // 0: absent
-    pub pointer: [u8; LINKS],
+    pub control: [u8; CONTROL],
+    pub values: [u32; VALUES],
 }
 
 // The refusal, 0 for none, and the value: the number of an accepted read, else 0.
@@ -85,26 +83,33 @@ impl State {
         reader: [u8; LINKS],
         kind: [u8; LINKS],
     ) -> Made
-        ensures answer { λ r. ⌜ r ≡ madeOf (made ltb base tasks links defaults writer reader kind) ⌝ }
+        ensures answer { λ r. ⌜ MadeFrom tasks links defaults writer reader kind r ⌝ }
         ensures sound { λ r. ⌜ isSound ltb base (saved (r .state)) ≡ true ⌝ }
     {
-        let refusal = judge_table(tasks, links, &writer, &reader, &kind);
+        let control = control_of(links, &writer, &reader, &kind);
+        let refusal = judge_table(tasks, links, &control);
         if refusal != 0 {
             return Made {
                 refusal,
                 state: State::single(),
             };
         }
+        let values = values_of(tasks, &defaults);
         Made {
             refusal: 0,
-            state: State::fresh_of(tasks, links, &defaults, &writer, &reader, &kind),
+            state: State {
+                tasks,
+                links,
+                control,
+                values,
+            },
         }
     }
 
     // The arrival of a set of tasks, bit t for task t.
     // Refusals: 19; 12 an empty set or a task not in the table; 13 an active task.
     pub fn arrival(self, set: u32) -> Step
-        ensures answer { λ r. ⌜ r ≡ given self (arrival set) ⌝ }
+        ensures answer { λ r. ⌜ Given self (arrival set) r ⌝ }
         ensures sound { λ r. ⌜ StaysSound self r ⌝ }
     {
         self.event(Event::Arrival(set))
@@ -113,7 +118,7 @@ impl State {
     // The start of a task.
     // Refusals: 19; 12 no such task; 14 it isn't waiting; 16 a more urgent task is active.
     pub fn start(self, t: u8) -> Step
-        ensures answer { λ r. ⌜ r ≡ given self (start t) ⌝ }
+        ensures answer { λ r. ⌜ Given self (start t) r ⌝ }
         ensures sound { λ r. ⌜ StaysSound self r ⌝ }
     {
         self.event(Event::Start(t))
@@ -122,7 +127,7 @@ impl State {
     // The number that a link's reader reads by it.
     // Refusals: 19; 12 no such link; 15 its reader isn't running; 16 a more urgent task is active.
     pub fn read(self, l: u8) -> Step
-        ensures answer { λ r. ⌜ r ≡ given self (read l) ⌝ }
+        ensures answer { λ r. ⌜ Given self (read l) r ⌝ }
         ensures sound { λ r. ⌜ StaysSound self r ⌝ }
     {
         self.event(Event::Read(l))
@@ -131,7 +136,7 @@ impl State {
     // The finish of a task with a value.
     // Refusals: 19; 12 no such task; 15 it isn't running; 16 a more urgent task is active.
     pub fn finish(self, t: u8, value: u32) -> Step
-        ensures answer { λ r. ⌜ r ≡ given self (finish t value) ⌝ }
+        ensures answer { λ r. ⌜ Given self (finish t value) r ⌝ }
         ensures sound { λ r. ⌜ StaysSound self r ⌝ }
     {
         self.event(Event::Finish(t, value))
@@ -139,114 +144,122 @@ impl State {
 
     // Any event, already read: 19 if the state isn't sound, else 12 to 16 in rising order, else it is done.
     pub fn event(mut self, e: Event) -> Step
-        ensures answer { λ r. ⌜ r ≡ given self (plain e) ⌝ }
+        ensures answer { λ r. ⌜ Given self (plain e) r ⌝ }
         ensures sound { λ r. ⌜ StaysSound self r ⌝ }
     {
         let tasks = self.tasks;
         let links = self.links;
-        let writer = self.writer;
-        let reader = self.reader;
-        let kind = self.kind;
-        let mut phase = self.phase;
-        let mut newest = self.newest;
-        let mut previous = self.previous;
-        let mut cells = self.cells;
-        let mut pointer = self.pointer;
+        let mut control = self.control;
+        let mut values = self.values;
         let mut value: u32 = 0;
-        let refusal = give(
-            e,
-            &mut value,
-            tasks,
-            links,
-            &writer,
-            &reader,
-            &kind,
-            &mut phase,
-            &mut newest,
-            &mut previous,
-            &mut cells,
-            &mut pointer,
-        );
-        self.phase = phase;
-        self.newest = newest;
-        self.previous = previous;
-        self.cells = cells;
-        self.pointer = pointer;
+        let refusal = give(e, &mut value, tasks, links, &mut control, &mut values);
+        self.control = control;
+        self.values = values;
         Step {
-            state: self,
+            state: self.itself(),
             answer: Answer { refusal, value },
         }
+    }
+
+    // The same state. That its arrays have their lengths is part of its type, but an array that was lent is in a contract a list of any length:
+    // `whole` hands the fact on.
+    pub fn itself(self) -> State
+        ensures same { λ r. ⌜ r ≡ self ⌝ }
+        ensures whole { λ r. ⌜ Whole r ⌝ }
+    {
+        self
     }
 
     // Whether the state is sound: 19 is answered exactly when it isn't.
     pub fn sound(self) -> bool
         ensures { λ r. ⌜ r ≡ isSound ltb base (saved self) ⌝ }
     {
-        let tasks = self.tasks;
-        let links = self.links;
-        let writer = self.writer;
-        let reader = self.reader;
-        let kind = self.kind;
-        let phase = self.phase;
-        let newest = self.newest;
-        let previous = self.previous;
-        let pointer = self.pointer;
-        is_sound(
-            tasks,
-            links,
-            &writer,
-            &reader,
-            &kind,
-            &phase,
-            &newest,
-            &previous,
-            &pointer,
-        )
+        let control = self.control;
+        is_sound(self.tasks, self.links, &control)
     }
 
     // The fresh state of a single task with default 0 and no links.
     pub fn single() -> State
-        ensures { λ r. ⌜ r ≡ stateOf (single base) ⌝ }
+        ensures { λ r. ⌜ (saved r ≡ single base) × Whole r ⌝ }
     {
-        State::fresh_of(
-            1,
-            0,
-            &[0u32; TASKS],
-            &[0u8; LINKS],
-            &[0u8; LINKS],
-            &[0u8; LINKS],
-        )
+        let control = fresh_control();
+        State {
+            tasks: 1,
+            links: 0,
+            control,
+            values: [0u32; VALUES],
+        }
     }
 
-    // The fresh state of a table that keeps the rules.
-    fn fresh_of(
-        tasks: usize,
-        links: usize,
-        defaults: &[u32; TASKS],
-        writer: &[u8; LINKS],
-        reader: &[u8; LINKS],
-        kind: &[u8; LINKS],
-    ) -> State
-        requires { ⌜ (tasks ≤ base .tasks) × (links ≤ base .links) ⌝ }
-        ensures { λ r. ⌜ r ≡ stateOf (freshOf base tasks links (now (defaults .entry)) (now (writer .entry)) (now (reader .entry)) (now (kind .entry))) ⌝ }
+    // The default of task `t`; 0, here and below, for what lies past the room of the state.
+    pub fn defaults(self, t: usize) -> u32
+        ensures { λ r. ⌜ r ≡ at (saved self .defaults) t ⌝ }
     {
-        let kept = copy_tasks(tasks, defaults);
-        let cells = fill_cells(&kept);
-        let writers = copy_links(links, writer);
-        let readers = copy_links(links, reader);
-        let kinds = copy_links(links, kind);
-        State {
-            tasks,
-            links,
-            defaults: kept,
-            phase: [0u8; TASKS],
-            newest: [1u8; TASKS],
-            previous: [1u8; TASKS],
-            cells,
-            writer: writers,
-            reader: readers,
-            kind: kinds,
-            pointer: [0u8; LINKS],
-        }
+        let values = self.values;
+        value_at(&values, DEFAULT, t)
+    }
+
+    // The phase of task `t`: 0 idle, 1 waiting, 2 running.
+    pub fn phase(self, t: usize) -> u8
+        ensures { λ r. ⌜ r ≡ at (saved self .phase) t ⌝ }
+    {
+        let control = self.control;
+        control_at(&control, PHASE, t)
+    }
+
+    // The newest position of task `t`, 1 to N + 2, where N is how many links the task has to readers behind.
+    pub fn newest(self, t: usize) -> u8
+        ensures { λ r. ⌜ r ≡ at (saved self .newest) t ⌝ }
+    {
+        let control = self.control;
+        control_at(&control, NEWEST, t)
+    }
+
+    // Its previous position.
+    pub fn previous(self, t: usize) -> u8
+        ensures { λ r. ⌜ r ≡ at (saved self .previous) t ⌝ }
+    {
+        let control = self.control;
+        control_at(&control, PREVIOUS, t)
+    }
+
+    // The number at place `i` of the positions: position p of task t at t * 10 + p - 1.
+    pub fn cells(self, i: usize) -> u32
+        ensures { λ r. ⌜ r ≡ at (saved self .cells) i ⌝ }
+    {
+        let values = self.values;
+        value_at(&values, CELL, i)
+    }
+
+    // The writer of link `l`.
+    pub fn writer(self, l: usize) -> u8
+        ensures { λ r. ⌜ r ≡ at (saved self .writer) l ⌝ }
+    {
+        let control = self.control;
+        control_at(&control, WRITER, l)
+    }
+
+    // Its reader.
+    pub fn reader(self, l: usize) -> u8
+        ensures { λ r. ⌜ r ≡ at (saved self .reader) l ⌝ }
+    {
+        let control = self.control;
+        control_at(&control, READER, l)
+    }
+
+    // Its kind: 0 direct, 1 delayed.
+    pub fn kind(self, l: usize) -> u8
+        ensures { λ r. ⌜ r ≡ at (saved self .kind) l ⌝ }
+    {
+        let control = self.control;
+        control_at(&control, KIND, l)
+    }
+
+    // Its pointer, a position of its writer; 0: absent.
+    pub fn pointer(self, l: usize) -> u8
+        ensures { λ r. ⌜ r ≡ at (saved self .pointer) l ⌝ }
+    {
+        let control = self.control;
+        control_at(&control, POINTER, l)
     }
 }

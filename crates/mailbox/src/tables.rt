@@ -1,36 +1,52 @@
 // The arrays of a table, in a fresh state.
 ghost use mathlib.Core.Path.{_≡_};
+ghost use mathlib.Core.List.{[], _∷_};
 ghost use Prim.Native.Nat.{min};
 ghost use Rattle.protocol_state.specs.Saved.{base};
-ghost use Rattle.protocol_state.specs.Fresh.{copied};
+ghost use Rattle.protocol_state.specs.Fresh.{copied, filled};
+ghost use Rattle.mailbox_layout.specs.Layout.{cut, cutValues};
+ghost use Rattle.mailbox_layout.specs.Fresh.{freshControl};
 use lists::few;
 use mailbox_base::numbers::LINKS;
 use mailbox_base::numbers::TASKS;
+use mailbox_layout::CONTROL;
+use mailbox_layout::DEFAULT;
+use mailbox_layout::VALUES;
+use mailbox_layout::fresh::fill_cells;
+use mailbox_layout::fresh::fresh_control;
+use mailbox_layout::fresh::put_link;
+use mailbox_layout::put_value;
 
-// The first `n` defaults, of which there are at most 16; the slots past them hold 0.
-pub fn copy_tasks(n: usize, from: &[u32; TASKS]) -> [u32; TASKS]
-    ensures { λ r. ⌜ r ≡ copied (base .tasks) (min n (base .tasks)) (now (from .entry)) ⌝ }
-{
-    let end = few(n, TASKS);
-    let mut to = [0u32; TASKS];
-    let mut i = 0;
-    while i < end {
-        to[i] = from[i];
-        i += 1;
-    }
-    to
-}
-
-// The first `n` numbers of links, of which there are at most 32; the slots past them hold 0.
-pub fn copy_links(n: usize, from: &[u8; LINKS]) -> [u8; LINKS]
-    ensures { λ r. ⌜ r ≡ copied (base .links) (min n (base .links)) (now (from .entry)) ⌝ }
+// The control of the first `n` links, of which there are at most 32; the slots past them hold 0.
+pub(crate) fn control_of(
+    n: usize,
+    writer: &[u8; LINKS],
+    reader: &[u8; LINKS],
+    kind: &[u8; LINKS],
+) -> [u8; CONTROL]
+    ensures { λ r. ⌜ cut r ≡ freshControl (copied (base .links) (min n (base .links)) (now (writer .entry))) (copied (base .links) (min n (base .links)) (now (reader .entry))) (copied (base .links) (min n (base .links)) (now (kind .entry))) ⌝ }
 {
     let end = few(n, LINKS);
-    let mut to = [0u8; LINKS];
-    let mut i = 0;
-    while i < end {
-        to[i] = from[i];
-        i += 1;
+    let mut control = fresh_control();
+    let mut l = 0;
+    while l < end {
+        put_link(&mut control, l, writer[l], reader[l], kind[l]);
+        l += 1;
     }
-    to
+    control
+}
+
+// The values of the first `n` defaults, of which there are at most 16: the slots past them hold 0, and each position its task's default.
+pub(crate) fn values_of(n: usize, defaults: &[u32; TASKS]) -> [u32; VALUES]
+    ensures { λ r. ⌜ cutValues r ≡ copied (base .tasks) (min n (base .tasks)) (now (defaults .entry)) ∷ filled (base .tasks) (copied (base .tasks) (min n (base .tasks)) (now (defaults .entry))) ∷ [] ⌝ }
+{
+    let end = few(n, TASKS);
+    let mut values = [0u32; VALUES];
+    let mut t = 0;
+    while t < end {
+        put_value(&mut values, DEFAULT, t, defaults[t]);
+        t += 1;
+    }
+    fill_cells(&mut values);
+    values
 }

@@ -1,4 +1,4 @@
--- The writers' part of an arrival, task by task.
+-- The two parts of an arrival, turn by turn.
 -- Assumes nothing.
 use mathlib.Core.Path.{_≡_, refl, sym, ap, _∙_}
 use mathlib.Core.Bool.{Bool, true, false, cond, not, true≢false}
@@ -9,47 +9,64 @@ use native.Mathlib.Omega.{arith}
 use lib.Dec.{ltb}
 use lib.ListN.{set}
 use lib.Seq.{set-getD}
-use Rattle.lists.proofs.Lists.{upto-none, upto-past, upto-more}
+use Rattle.lists.specs.Lists.{upto}
+use Rattle.lists.proofs.Lists.{at-bound, upto-none, upto-past, upto-more}
 use Rattle.protocol.specs.Event.{has}
 use Rattle.protocol.specs.Free.{lowestFree}
-use Rattle.protocol_state.specs.Saved.{at}
+use Rattle.protocol_state.specs.Saved.{Saved, at}
 use Rattle.protocol_state.specs.Decision.{decided}
-use Rattle.protocol_state.specs.Next.{previousAt, newestAt, phaseAt}
-use Rattle.mailbox_arrival.specs.Arrives.{Moves, Moved}
+use Rattle.protocol_state.specs.Next.{withParts, phaseAt, arrived, newestAfter, previousAfter, pointerAfter, phaseAfter}
+use Rattle.mailbox_layout.specs.Layout.{withPhase, withNewest, withPrevious, withPointer}
+use Rattle.mailbox_arrival.specs.Arrives.{movedAt, moved, pointedAt, pointed, newestOn, previousOn, pointerOn}
 
-module _ {s t L : ℕ} {W R x ph n p : List ℕ} where
+module _ (s t : ℕ) (q : Saved) where
   -- a task that is not in the set stays as it is; b says whether it is
-  pub stays : (b : Bool) → b ≡ has s t → not b ≡ true → Moves s t L W R x ph n p ph n p
+  pub stays : (b : Bool) → b ≡ has s t → not b ≡ true → q ≡ movedAt s t q
   stays true e h = absurd (true≢false (sym h))
-  stays false e h =
-      record { previous = rw (← e) (sym (set-getD p t 0)); newest = rw (← e) (sym (set-getD n t 0)); phase = rw (← e) (sym (set-getD ph t 0)) }
+  stays false e h = rw (← e, set-getD (q .phase) t 0, set-getD (q .newest) t 0, set-getD (q .previous) t 0)
 
-  -- one that is moves on: y is its lowest free position, z its next phase
+  -- one that is moves on, in three steps: y is its lowest free position, z its next phase
   pub moves :
-      (b : Bool) {y z : ℕ} → b ≡ has s t → not b ≡ false → y ≡ lowestFree ltb (at W) (at R) (at x) L t (at n t) → z ≡ decided 0 (at ph t) →
-      Moves s t L W R x ph n p (set ph t z) (set n t y) (set p t (at n t))
-  moves true e h a d = record { previous = rw (← e); newest = rw (← e, a); phase = rw (← e, d) }
-  moves false e h a d = absurd (true≢false h)
+      (b : Bool) {x y z : ℕ} {q₁ q₂ q₃ : Saved} → b ≡ has s t → not b ≡ false → x ≡ at (q .newest) t →
+      y ≡ lowestFree ltb (at (q .writer)) (at (q .reader)) (at (q .pointer)) (q .links) t x → z ≡ decided 0 (at (q .phase) t) →
+      q₁ ≡ withPrevious (set (q .previous) t x) q → q₂ ≡ withNewest (set (q₁ .newest) t y) q₁ → q₃ ≡ withPhase (set (q₂ .phase) t z) q₂ →
+      q₃ ≡ movedAt s t q
+  moves true {x} {y} {z} e h a f d e₁ e₂ e₃ =
+      e₃ ∙ ap (λ (p : Saved). withPhase (set (p .phase) t z) p) (e₂ ∙ ap (λ (p : Saved). withNewest (set (p .newest) t y) p) e₁)
+      ∙ rw (← e, d, f, a)
+  moves false e h a f d e₁ e₂ e₃ = absurd (true≢false h)
 
-module _ {s L : ℕ} {W R x ph₀ n₀ p₀ : List ℕ} where
-  pub moved-none : Moved s 0 L W R x ph₀ n₀ p₀ ph₀ n₀ p₀
-  moved-none = record { previous = sym (upto-none _ _); newest = sym (upto-none _ _); phase = sym (upto-none _ _) }
+module _ (s : ℕ) (q₀ : Saved) where
+  pub moved-none : q₀ ≡ moved s 0 q₀
+  moved-none = rw (upto-none (phaseAt s) (q₀ .phase), upto-none (newestOn s q₀) (q₀ .newest), upto-none (previousOn s q₀) (q₀ .previous))
 
   -- the turn of task t: its newest position is still the one from before the loop
-  pub moved-more :
-      {t : ℕ} {ph n p ph′ n′ p′ : List ℕ} → Moved s t L W R x ph₀ n₀ p₀ ph n p → Moves s t L W R x ph n p ph′ n′ p′ →
-      Moved s (t + 1) L W R x ph₀ n₀ p₀ ph′ n′ p′
-  moved-more {t} {ph} {n} {p} m one =
-      let kept : at n t ≡ at n₀ t =
-      ap (λ (xs : List ℕ). at xs t) (m .newest) ∙ upto-past (newestAt ltb s (at W) (at R) (at x) L) t n₀ t 0 (le-refl t) in
-      record {
-        previous =
-            one .previous ∙ upto-more (previousAt s (at n₀)) t p₀ 0 (m .previous) (ap (λ (y : ℕ). cond (has s t) y (at p t)) kept);
-        newest = one .newest ∙ upto-more (newestAt ltb s (at W) (at R) (at x) L) t n₀ 0 (m .newest) refl;
-        phase = one .phase ∙ upto-more (phaseAt s) t ph₀ 0 (m .phase) refl;
-      }
+  pub moved-more : (t : ℕ) {q q′ : Saved} → q ≡ moved s t q₀ → q′ ≡ movedAt s t q → q′ ≡ moved s (t + 1) q₀
+  moved-more t e one =
+      let kept : at (upto (newestOn s q₀) t (q₀ .newest)) t ≡ at (q₀ .newest) t =
+      upto-past (newestOn s q₀) t (q₀ .newest) t 0 (le-refl t) in
+      one ∙ ap (movedAt s t) e
+      ∙ rw (
+        upto-more (phaseAt s) t (q₀ .phase) 0 refl refl,
+        upto-more (newestOn s q₀) t (q₀ .newest) 0 refl refl,
+        upto-more (previousOn s q₀) t (q₀ .previous) 0 refl
+            (ap (λ (y : ℕ). cond (has s t) y (at (upto (previousOn s q₀) t (q₀ .previous)) t)) kept),
+      )
 
-  pub moved-end : {i n : ℕ} {ph′ n′ p′ : List ℕ} → i ≤ n → n ≤ i → Moved s i L W R x ph₀ n₀ p₀ ph′ n′ p′ → Moved s n L W R x ph₀ n₀ p₀ ph′ n′ p′
-  moved-end {i} {n} l h m =
-      let e : i ≡ n = omega arith in
-      rw (← e) m
+  pub moved-end : (i n : ℕ) {q : Saved} → q ≡ moved s i q₀ → i ≤ n → n ≤ i → q ≡ moved s n q₀
+  moved-end = at-bound (λ (k : ℕ). moved s k q₀)
+
+  pub pointed-none : q₀ ≡ pointed s 0 q₀
+  pointed-none = rw (upto-none (pointerOn s q₀) (q₀ .pointer))
+
+  -- the turn of link l
+  pub pointed-more : (l : ℕ) {q q′ : Saved} → q ≡ pointed s l q₀ → q′ ≡ pointedAt s l q → q′ ≡ pointed s (l + 1) q₀
+  pointed-more l e one = one ∙ ap (pointedAt s l) e ∙ rw (upto-more (pointerOn s q₀) l (q₀ .pointer) 0 refl refl)
+
+  pub pointed-end : (i n : ℕ) {q : Saved} → q ≡ pointed s i q₀ → i ≤ n → n ≤ i → q ≡ pointed s n q₀
+  pointed-end = at-bound (λ (k : ℕ). pointed s k q₀)
+
+  -- both parts
+  pub both : {q₁ q₂ : Saved} → q₁ ≡ moved s (q₀ .tasks) q₀ → q₂ ≡ pointed s (q₀ .links) q₁ → q₂ ≡ arrived ltb s q₀
+  unfolding newestAfter previousAfter pointerAfter phaseAfter
+  both a b = b ∙ ap (pointed s (q₀ .links)) a

@@ -1,28 +1,39 @@
--- What an arrival makes of the lists that it changes: ph phases, n newest, p previous, x pointers; a prime marks what comes after.
--- T and L count tasks and links; W, R and K are the links' writers, readers and kinds.
+-- What an arrival makes of a state, step by step: the writers' part task by task, then the readers' part link by link.
 -- Assumes nothing.
-use mathlib.Core.Path.{_≡_}
-use mathlib.Core.List.{List}
 use Prim.Native.Nat.{ℕ}
 use lib.Dec.{ltb}
 use lib.ListN.{set}
 use Rattle.lists.specs.Lists.{upto}
-use Rattle.protocol_state.specs.Saved.{at}
-use Rattle.protocol_state.specs.Next.{previousAt, newestAt, pointerAt, phaseAt}
+use Rattle.protocol_state.specs.Saved.{Saved, at}
+use Rattle.protocol_state.specs.Next.{withParts, previousAt, newestAt, pointerAt, phaseAt}
+use Rattle.mailbox_layout.specs.Layout.{withPointer}
 
--- the writers' part of the arrival of the set s, for task t: previous, newest and phase move on where it is in the set
-pub record Moves (s t L : ℕ) (W R x ph n p ph′ n′ p′ : List ℕ) : Type 0 where
-  pub previous : p′ ≡ set p t (previousAt s (at n) t (at p t))
-  pub newest : n′ ≡ set n t (newestAt ltb s (at W) (at R) (at x) L t (at n t))
-  pub phase : ph′ ≡ set ph t (phaseAt s t (at ph t))
+-- what the arrival of the set s makes of task t's phase x, newest x and previous x, in the state q
+abbrev pub newestOn : ℕ → Saved → ℕ → ℕ → ℕ
+newestOn s q = newestAt ltb s (at (q .writer)) (at (q .reader)) (at (q .pointer)) (q .links)
 
--- the writers' part for each task of the set s
-pub record Moved (s T L : ℕ) (W R x ph n p ph′ n′ p′ : List ℕ) : Type 0 where
-  pub previous : p′ ≡ upto (previousAt s (at n)) T p
-  pub newest : n′ ≡ upto (newestAt ltb s (at W) (at R) (at x) L) T n
-  pub phase : ph′ ≡ upto (phaseAt s) T ph
+abbrev pub previousOn : ℕ → Saved → ℕ → ℕ → ℕ
+previousOn s q = previousAt s (at (q .newest))
 
--- the arrival of the set s: the readers' part comes after the writers'
-pub record Arrives (s T L : ℕ) (W R K ph n p x ph′ n′ p′ x′ : List ℕ) : Type 0 where
-  pub moved : Moved s T L W R x ph n p ph′ n′ p′
-  pub pointer : x′ ≡ upto (pointerAt s (at W) (at R) (at K) (at n′) (at p′)) L x
+-- and of link l's pointer x
+abbrev pub pointerOn : ℕ → Saved → ℕ → ℕ → ℕ
+pointerOn s q = pointerAt s (at (q .writer)) (at (q .reader)) (at (q .kind)) (at (q .newest)) (at (q .previous))
+
+-- the writers' part for task t
+abbrev pub movedAt : ℕ → ℕ → Saved → Saved
+movedAt s t q =
+    withParts q (set (q .phase) t (phaseAt s t (at (q .phase) t))) (set (q .newest) t (newestOn s q t (at (q .newest) t)))
+    (set (q .previous) t (previousOn s q t (at (q .previous) t))) (q .cells) (q .pointer)
+
+-- and for the first T tasks
+abbrev pub moved : ℕ → ℕ → Saved → Saved
+moved s T q =
+    withParts q (upto (phaseAt s) T (q .phase)) (upto (newestOn s q) T (q .newest)) (upto (previousOn s q) T (q .previous)) (q .cells) (q .pointer)
+
+-- the readers' part for link l
+abbrev pub pointedAt : ℕ → ℕ → Saved → Saved
+pointedAt s l q = withPointer (set (q .pointer) l (pointerOn s q l (at (q .pointer) l))) q
+
+-- and for the first L links
+abbrev pub pointed : ℕ → ℕ → Saved → Saved
+pointed s L q = withPointer (upto (pointerOn s q) L (q .pointer)) q

@@ -3,25 +3,35 @@ ghost use mathlib.Core.Path.{_≡_};
 ghost use mathlib.Core.Bool.{_&&_};
 ghost use Prim.Native.Nat.{ℕ, _≤_, _<_, min};
 ghost use lib.Dec.{eqb, ltb};
-ghost use Rattle.lists.specs.Lists.{upto, some};
-ghost use Rattle.protocol_state.specs.Saved.{at, base};
+ghost use Rattle.lists.specs.Lists.{some};
 ghost use Rattle.protocol.specs.Event.{has};
 ghost use Rattle.protocol.specs.Free.{holds, lowestFree};
-ghost use Rattle.protocol_state.specs.Next.{aimed, pointerAt};
+ghost use Rattle.protocol_state.specs.Saved.{at, base};
+ghost use Rattle.protocol_state.specs.Next.{aimed, arrived};
 ghost use Rattle.mailbox_free.specs.Marks.{lastBit};
 ghost use Rattle.mailbox_free.specs.Pattern.{AllLowest};
-ghost use Rattle.mailbox_arrival.specs.Arrives.{Moves, Moved, Arrives};
+ghost use Rattle.mailbox_layout.specs.Layout.{Becomes, newestIn, previousIn, pointerIn, writerIn, readerIn};
+ghost use Rattle.mailbox_arrival.specs.Arrives.{movedAt, moved, pointedAt, pointed};
 use lists::few;
 use mailbox_base::decision::ARRIVAL;
 use mailbox_base::decision::decide;
 use mailbox_base::numbers::LINKS;
 use mailbox_base::numbers::TASKS;
-use mailbox_base::numbers::at;
 use mailbox_base::numbers::has;
 use mailbox_base::numbers::pick;
 use mailbox_free::marks::lowest_unmarked;
 use mailbox_free::marks::mark;
 use mailbox_free::table::PATTERNS;
+use mailbox_layout::CONTROL;
+use mailbox_layout::KIND;
+use mailbox_layout::NEWEST;
+use mailbox_layout::PHASE;
+use mailbox_layout::POINTER;
+use mailbox_layout::PREVIOUS;
+use mailbox_layout::READER;
+use mailbox_layout::WRITER;
+use mailbox_layout::control_at;
+use mailbox_layout::put_control;
 
 // Whether a link with this writer and reader is one of task `t`'s to readers behind.
 fn is_behind(w: u8, r: u8, t: u8) -> bool
@@ -38,41 +48,35 @@ fn holds_at(w: u8, r: u8, x: u8, t: u8, p: u8) -> bool
 }
 
 // Whether one of the links holds position `p` of task `t`.
-fn held(
-    writer: &[u8; LINKS],
-    reader: &[u8; LINKS],
-    pointer: &[u8; LINKS],
-    links: usize,
-    t: u8,
-    p: u8,
-) -> bool
-    requires { ⌜ links ≤ base .links ⌝ }
-    ensures { λ r. ⌜ r ≡ some (holds ltb (at (now (writer .entry))) (at (now (reader .entry))) (at (now (pointer .entry))) t p) links ⌝ }
+fn held(control: &[u8; CONTROL], links: usize, t: u8, p: u8) -> bool
+    ensures { λ r. ⌜ r ≡ some (holds ltb (at (writerIn (now (control .entry)))) (at (readerIn (now (control .entry)))) (at (pointerIn (now (control .entry)))) t p) links ⌝ }
 {
     let mut found = false;
     let mut l = 0;
     while l < links {
-        found = holds_at(writer[l], reader[l], pointer[l], t, p) | found;
+        found = holds_at(
+            control_at(control, WRITER, l),
+            control_at(control, READER, l),
+            control_at(control, POINTER, l),
+            t,
+            p,
+        )
+            | found;
         l += 1;
     }
     found
 }
 
 // The marks of the positions of task `t` that the links hold.
-fn held_marks(
-    writer: &[u8; LINKS],
-    reader: &[u8; LINKS],
-    pointer: &[u8; LINKS],
-    links: usize,
-    t: u8,
-) -> u16
-    requires { ⌜ links ≤ base .links ⌝ }
-    ensures { λ r. ⌜ ((p : ℕ) → p < lastBit → has r p ≡ some (holds ltb (at (now (writer .entry))) (at (now (reader .entry))) (at (now (pointer .entry))) t p) links) ⌝ }
+fn held_marks(control: &[u8; CONTROL], links: usize, t: u8) -> u16
+    ensures { λ r. ⌜ ((p : ℕ) → p < lastBit → has r p ≡ some (holds ltb (at (writerIn (now (control .entry)))) (at (readerIn (now (control .entry)))) (at (pointerIn (now (control .entry)))) t p) links) ⌝ }
 {
     let mut marks = 0;
     let mut l = 0;
     while l < links {
-        marks = mark(is_behind(writer[l], reader[l], t), pointer[l]) | marks;
+        let w = control_at(control, WRITER, l);
+        let r = control_at(control, READER, l);
+        marks = mark(is_behind(w, r, t), control_at(control, POINTER, l)) | marks;
         l += 1;
     }
     marks
@@ -80,52 +84,31 @@ fn held_marks(
 
 // The lowest free position of task `t`, whose newest is `x`. Mostly no link holds the lowest position other than `x`, and one look at the
 // links shows it; else it is looked up. Where the links keep the rules at most nine of ten positions are taken, so the tenth needs no test.
-fn lowest_free(
-    lowest: &[u8; PATTERNS],
-    writer: &[u8; LINKS],
-    reader: &[u8; LINKS],
-    pointer: &[u8; LINKS],
-    links: usize,
-    t: u8,
-    x: u8,
-) -> u8
-    requires { ⌜ links ≤ base .links ⌝ }
-    ensures { λ r. ⌜ (AllLowest (now (lowest .entry)) → r ≡ lowestFree ltb (at (now (writer .entry))) (at (now (reader .entry))) (at (now (pointer .entry))) links t x) ⌝ }
+fn lowest_free(lowest: &[u8; PATTERNS], control: &[u8; CONTROL], links: usize, t: u8, x: u8) -> u8
+    ensures { λ r. ⌜ (AllLowest (now (lowest .entry)) → r ≡ lowestFree ltb (at (writerIn (now (control .entry)))) (at (readerIn (now (control .entry)))) (at (pointerIn (now (control .entry)))) links t x) ⌝ }
 {
     let next = pick(x == 1, 2, 1);
-    if !held(writer, reader, pointer, links, t, next) {
+    if !held(control, links, t, next) {
         return next;
     }
-    lowest_unmarked(
-        lowest,
-        mark(true, x) | held_marks(writer, reader, pointer, links, t),
-    )
+    lowest_unmarked(lowest, mark(true, x) | held_marks(control, links, t))
 }
 
 // The writers' part for task `t`, where it is in the set: its newest position becomes its previous, its lowest free one its newest,
 // and it is waiting.
-fn move_task(
-    lowest: &[u8; PATTERNS],
-    set: u32,
-    t: usize,
-    links: usize,
-    writer: &[u8; LINKS],
-    reader: &[u8; LINKS],
-    pointer: &[u8; LINKS],
-    phase: &mut [u8; TASKS],
-    newest: &mut [u8; TASKS],
-    previous: &mut [u8; TASKS],
-)
-    requires { ⌜ (t < base .tasks) × (links ≤ base .links) ⌝ }
-    ensures { λ _. ⌜ (AllLowest (now (lowest .entry)) → Moves set t links (now (writer .entry)) (now (reader .entry)) (now (pointer .entry)) (now (phase .entry)) (now (newest .entry)) (now (previous .entry)) (now (phase .exit)) (now (newest .exit)) (now (previous .exit))) ⌝ }
+fn move_task(lowest: &[u8; PATTERNS], set: u32, t: usize, links: usize, control: &mut [u8; CONTROL])
+    requires { ⌜ t < base .tasks ⌝ }
+    ensures { λ _. ⌜ (AllLowest (now (lowest .entry)) → (T : ℕ) → Becomes (movedAt set t) T links (now (control .entry)) (now (control .exit))) ⌝ }
 {
     if !has(set, t) {
         return;
     }
-    let x = newest[t];
-    previous[t] = x;
-    newest[t] = lowest_free(lowest, writer, reader, pointer, links, t as u8, x);
-    phase[t] = decide(ARRIVAL, phase[t]);
+    let x = control_at(control, NEWEST, t);
+    let free = lowest_free(lowest, control, links, t as u8, x);
+    let phase = decide(ARRIVAL, control_at(control, PHASE, t));
+    put_control(control, PREVIOUS, t, x);
+    put_control(control, NEWEST, t, free);
+    put_control(control, PHASE, t, phase);
 }
 
 // The writers' part: each task of the set moves.
@@ -134,78 +117,55 @@ fn move_tasks(
     set: u32,
     tasks: usize,
     links: usize,
-    writer: &[u8; LINKS],
-    reader: &[u8; LINKS],
-    pointer: &[u8; LINKS],
-    phase: &mut [u8; TASKS],
-    newest: &mut [u8; TASKS],
-    previous: &mut [u8; TASKS],
+    control: &mut [u8; CONTROL],
 )
-    requires { ⌜ (tasks ≤ base .tasks) × (links ≤ base .links) ⌝ }
-    ensures { λ _. ⌜ (AllLowest (now (lowest .entry)) → Moved set tasks links (now (writer .entry)) (now (reader .entry)) (now (pointer .entry)) (now (phase .entry)) (now (newest .entry)) (now (previous .entry)) (now (phase .exit)) (now (newest .exit)) (now (previous .exit))) ⌝ }
+    requires { ⌜ tasks ≤ base .tasks ⌝ }
+    ensures { λ _. ⌜ (AllLowest (now (lowest .entry)) → (T : ℕ) → Becomes (moved set tasks) T links (now (control .entry)) (now (control .exit))) ⌝ }
 {
     let mut t = 0;
     while t < tasks {
-        move_task(
-            lowest,
-            set,
-            t,
-            links,
-            writer,
-            reader,
-            pointer,
-            phase,
-            newest,
-            previous,
-        );
+        move_task(lowest, set, t, links, control);
         t += 1;
     }
 }
 
 // What becomes of the pointer `x` of a link from `w` to `r` of kind `k`: a delayed link (1) shows the writer's previous position.
-fn pointer_at(
-    set: u32,
-    w: u8,
-    r: u8,
-    k: u8,
-    newest: &[u8; TASKS],
-    previous: &[u8; TASKS],
-    x: u8,
-) -> u8
-    ensures { λ res. ⌜ res ≡ aimed set w r k (at (now (newest .entry))) (at (now (previous .entry))) x ⌝ }
+fn pointer_at(set: u32, w: u8, r: u8, k: u8, control: &[u8; CONTROL], x: u8) -> u8
+    ensures { λ res. ⌜ res ≡ aimed set w r k (at (newestIn (now (control .entry)))) (at (previousIn (now (control .entry)))) x ⌝ }
 {
     if has(set, r as usize) {
-        pick(k == 1, at(previous, w as usize), at(newest, w as usize))
+        pick(
+            k == 1,
+            control_at(control, PREVIOUS, w as usize),
+            control_at(control, NEWEST, w as usize),
+        )
     } else {
         x
     }
 }
 
+// The readers' part for link `l`.
+fn set_pointer(set: u32, l: usize, control: &mut [u8; CONTROL])
+    ensures { λ _. ⌜ ((T L : ℕ) → Becomes (pointedAt set l) T L (now (control .entry)) (now (control .exit))) ⌝ }
+{
+    let x = pointer_at(
+        set,
+        control_at(control, WRITER, l),
+        control_at(control, READER, l),
+        control_at(control, KIND, l),
+        control,
+        control_at(control, POINTER, l),
+    );
+    put_control(control, POINTER, l, x);
+}
+
 // The readers' part: the pointers of the links whose reader is in the set.
-fn set_pointers(
-    set: u32,
-    links: usize,
-    writer: &[u8; LINKS],
-    reader: &[u8; LINKS],
-    kind: &[u8; LINKS],
-    newest: &[u8; TASKS],
-    previous: &[u8; TASKS],
-    pointer: &mut [u8; LINKS],
-)
-    requires { ⌜ links ≤ base .links ⌝ }
-    ensures { λ _. ⌜ now (pointer .exit) ≡ upto (pointerAt set (at (now (writer .entry))) (at (now (reader .entry))) (at (now (kind .entry))) (at (now (newest .entry))) (at (now (previous .entry)))) links (now (pointer .entry)) ⌝ }
+fn set_pointers(set: u32, links: usize, control: &mut [u8; CONTROL])
+    ensures { λ _. ⌜ ((T L : ℕ) → Becomes (pointed set links) T L (now (control .entry)) (now (control .exit))) ⌝ }
 {
     let mut l = 0;
     while l < links {
-        pointer[l] = pointer_at(
-            set,
-            writer[l],
-            reader[l],
-            kind[l],
-            newest,
-            previous,
-            pointer[l],
-        );
+        set_pointer(set, l, control);
         l += 1;
     }
 }
@@ -217,28 +177,11 @@ pub fn arrive(
     set: u32,
     tasks: usize,
     links: usize,
-    writer: &[u8; LINKS],
-    reader: &[u8; LINKS],
-    kind: &[u8; LINKS],
-    phase: &mut [u8; TASKS],
-    newest: &mut [u8; TASKS],
-    previous: &mut [u8; TASKS],
-    pointer: &mut [u8; LINKS],
+    control: &mut [u8; CONTROL],
 )
-    ensures { λ _. ⌜ (AllLowest (now (lowest .entry)) → Arrives set (min tasks (base .tasks)) (min links (base .links)) (now (writer .entry)) (now (reader .entry)) (now (kind .entry)) (now (phase .entry)) (now (newest .entry)) (now (previous .entry)) (now (pointer .entry)) (now (phase .exit)) (now (newest .exit)) (now (previous .exit)) (now (pointer .exit))) ⌝ }
+    ensures { λ _. ⌜ (AllLowest (now (lowest .entry)) → Becomes (arrived ltb set) (min tasks (base .tasks)) (min links (base .links)) (now (control .entry)) (now (control .exit))) ⌝ }
 {
     let n = few(links, LINKS);
-    move_tasks(
-        lowest,
-        set,
-        few(tasks, TASKS),
-        n,
-        writer,
-        reader,
-        pointer,
-        phase,
-        newest,
-        previous,
-    );
-    set_pointers(set, n, writer, reader, kind, newest, previous, pointer);
+    move_tasks(lowest, set, few(tasks, TASKS), n, control);
+    set_pointers(set, n, control);
 }

@@ -4,6 +4,16 @@ use mailbox::State;
 use mailbox_base::numbers::CELLS;
 use mailbox_base::numbers::LINKS;
 use mailbox_base::numbers::TASKS;
+use mailbox_layout::CELL;
+use mailbox_layout::KIND;
+use mailbox_layout::NEWEST;
+use mailbox_layout::PHASE;
+use mailbox_layout::POINTER;
+use mailbox_layout::PREVIOUS;
+use mailbox_layout::READER;
+use mailbox_layout::WRITER;
+use mailbox_layout::put_control;
+use mailbox_layout::put_value;
 
 // Task 1 has 100, as in the long example; tasks 4 to 15 have their own number.
 const DEFAULTS: [u32; TASKS] = [0, 100, 0, 0, 4, 5, 6, 7, 8, 9, 10, 11, 12, 13, 14, 15];
@@ -56,22 +66,40 @@ impl Table {
     }
 }
 
-// The state with `x` in the part that this letter names, at `i` where it is an array; as it is for any other letter.
-pub(crate) fn with(mut s: State, part: u8, i: usize, x: u8) -> State {
+// The state with `x` in this region of its control, at `i`.
+fn with_control(mut s: State, region: usize, i: usize, x: u8) -> State {
+    let mut control = s.control;
+    put_control(&mut control, region, i, x);
+    s.control = control;
+    s
+}
+
+// The state with `x` in the field that this letter names, at `i` where it is an array; as it is for any other letter.
+pub(crate) fn with(mut s: State, field: u8, i: usize, x: u8) -> State {
     let t = i % TASKS;
     let l = i % LINKS;
-    match part {
-        b't' => s.tasks = x as usize,
-        b'l' => s.links = x as usize,
-        b'p' => s.phase[t] = x,
-        b'n' => s.newest[t] = x,
-        b'o' => s.previous[t] = x,
-        b'c' => s.cells[i % CELLS] = x as u32,
-        b'w' => s.writer[l] = x,
-        b'r' => s.reader[l] = x,
-        b'k' => s.kind[l] = x,
-        b'x' => s.pointer[l] = x,
-        _ => {}
+    match field {
+        b't' => {
+            s.tasks = x as usize;
+            s
+        }
+        b'l' => {
+            s.links = x as usize;
+            s
+        }
+        b'p' => with_control(s, PHASE, t, x),
+        b'n' => with_control(s, NEWEST, t, x),
+        b'o' => with_control(s, PREVIOUS, t, x),
+        b'c' => {
+            let mut values = s.values;
+            put_value(&mut values, CELL, i % CELLS, x as u32);
+            s.values = values;
+            s
+        }
+        b'w' => with_control(s, WRITER, l, x),
+        b'r' => with_control(s, READER, l, x),
+        b'k' => with_control(s, KIND, l, x),
+        b'x' => with_control(s, POINTER, l, x),
+        _ => s,
     }
-    s
 }

@@ -1,83 +1,64 @@
-// Whether two states are the same, field by field, slots past the counts too.
+// The fields of a state, by their letters, and whether two states are the same, field by field, slots past the counts too.
 use mailbox::State;
 use mailbox::Step;
+use mailbox_base::numbers::CELLS;
 use mailbox_base::numbers::LINKS;
 use mailbox_base::numbers::TASKS;
 
-fn same_bytes(a: &[u8], b: &[u8]) -> bool {
-    let mut same = a.len() == b.len();
+// The entry `i` of the field that this letter names, by its accessor; 0 for any other letter.
+pub(crate) fn entry_of(s: State, field: u8, i: usize) -> u32 {
+    match field {
+        b'd' => s.defaults(i),
+        b'p' => s.phase(i) as u32,
+        b'n' => s.newest(i) as u32,
+        b'o' => s.previous(i) as u32,
+        b'c' => s.cells(i),
+        b'w' => s.writer(i) as u32,
+        b'r' => s.reader(i) as u32,
+        b'k' => s.kind(i) as u32,
+        b'x' => s.pointer(i) as u32,
+        _ => 0,
+    }
+}
+
+// How many entries a field has.
+pub(crate) fn size_of(field: u8) -> usize {
+    match field {
+        b'c' => CELLS,
+        b'd' | b'p' | b'n' | b'o' => TASKS,
+        _ => LINKS,
+    }
+}
+
+// Whether two states have the same in a field.
+fn same_field(a: State, b: State, field: u8) -> bool {
+    let size = size_of(field);
+    let mut same = true;
     let mut i = 0;
-    while i < a.len() {
-        same = same & (byte_at(a, i) == byte_at(b, i));
+    while i < size {
+        same = same & (entry_of(a, field, i) == entry_of(b, field, i));
         i += 1;
     }
     same
 }
 
-fn same_numbers(a: &[u32], b: &[u32]) -> bool {
-    let mut same = a.len() == b.len();
-    let mut i = 0;
-    while i < a.len() {
-        same = same & (number_at(a, i) == number_at(b, i));
-        i += 1;
-    }
-    same
-}
-
-// What stands at `i`, and 0 past the end.
-pub(crate) fn byte_at(a: &[u8], i: usize) -> u8 {
-    if i < a.len() { a[i] } else { 0 }
-}
-
-pub(crate) fn number_at(a: &[u32], i: usize) -> u32 {
-    if i < a.len() { a[i] } else { 0 }
-}
-
-// Two arrays over the tasks.
-fn same_tasks(a: &[u8; TASKS], b: &[u8; TASKS]) -> bool {
-    same_bytes(a, b)
-}
-
-// Two arrays over the links.
-fn same_links(a: &[u8; LINKS], b: &[u8; LINKS]) -> bool {
-    same_bytes(a, b)
-}
-
-// The parts that no event may change.
+// The fields that no event may change.
 pub(crate) fn same_table(a: State, b: State) -> bool {
-    let a_defaults = a.defaults;
-    let b_defaults = b.defaults;
-    let a_writer = a.writer;
-    let b_writer = b.writer;
-    let a_reader = a.reader;
-    let b_reader = b.reader;
-    let a_kind = a.kind;
-    let b_kind = b.kind;
-    same_numbers(&a_defaults, &b_defaults)
+    same_field(a, b, b'd')
         & (a.tasks == b.tasks)
         & (a.links == b.links)
-        & same_links(&a_writer, &b_writer)
-        & same_links(&a_reader, &b_reader)
-        & same_links(&a_kind, &b_kind)
+        & same_field(a, b, b'w')
+        & same_field(a, b, b'r')
+        & same_field(a, b, b'k')
 }
 
-// The parts that events change.
+// The fields that events change.
 fn same_boxes(a: State, b: State) -> bool {
-    let a_phase = a.phase;
-    let b_phase = b.phase;
-    let a_newest = a.newest;
-    let b_newest = b.newest;
-    let a_previous = a.previous;
-    let b_previous = b.previous;
-    let a_cells = a.cells;
-    let b_cells = b.cells;
-    let a_pointer = a.pointer;
-    let b_pointer = b.pointer;
-    same_numbers(&a_cells, &b_cells)
-        & same_tasks(&a_phase, &b_phase)
-        & same_tasks(&a_newest, &b_newest)
-        & same_tasks(&a_previous, &b_previous)
-        & same_links(&a_pointer, &b_pointer)
+    same_field(a, b, b'c')
+        & same_field(a, b, b'p')
+        & same_field(a, b, b'n')
+        & same_field(a, b, b'o')
+        & same_field(a, b, b'x')
 }
 
 pub(crate) fn same(a: State, b: State) -> bool {

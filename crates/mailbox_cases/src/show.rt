@@ -1,16 +1,14 @@
 // What is printed of tables, states and answers.
-use crate::same::byte_at;
-use crate::same::number_at;
+use crate::same::entry_of;
 use crate::same::same;
 use crate::same::same_step;
 use crate::same::same_table;
+use crate::same::size_of;
 use libc::STDOUT_FILENO;
 use mailbox::Made;
 use mailbox::State;
 use mailbox::Step;
-use mailbox_base::numbers::LINKS;
 use mailbox_base::numbers::POSITIONS;
-use mailbox_base::numbers::TASKS;
 use mailbox_parts::event::Event;
 
 pub(crate) fn text(s: &[u8]) {
@@ -26,44 +24,35 @@ fn byte(n: u8) {
     number(n as u64);
 }
 
-// The first `n`.
-fn list(label: &[u8], a: &[u8], n: usize) {
+// The first `n` of a field.
+fn list(label: &[u8], s: State, field: u8, n: usize) {
     text(label);
     let mut i = 0;
     while i < n {
-        byte(byte_at(a, i));
+        number(entry_of(s, field, i) as u64);
         i += 1;
     }
 }
 
-// The largest number from `n` on.
-fn largest(a: &[u8], n: usize) -> u8 {
+// The largest number of a field from `n` on.
+fn largest(s: State, field: u8, n: usize) -> u32 {
+    let size = size_of(field);
     let mut most = 0;
     let mut i = n;
-    while i < a.len() {
-        most = larger(most, byte_at(a, i));
+    while i < size {
+        most = larger(most, entry_of(s, field, i));
         i += 1;
     }
     most
 }
 
-fn larger(x: u8, y: u8) -> u8 {
+fn larger(x: u32, y: u32) -> u32 {
     if x < y { y } else { x }
 }
 
-// The largest number past the tasks.
-fn past_tasks(a: &[u8; TASKS], tasks: usize) {
-    byte(largest(a, tasks));
-}
-
-// The largest number past the links.
-fn past_links(a: &[u8; LINKS], links: usize) {
-    byte(largest(a, links));
-}
-
 // The name of entry `i` of the cells or the defaults: a task and one of its positions, or a task.
-fn place(in_cells: bool, i: usize) {
-    if in_cells {
+fn place(field: u8, i: usize) {
+    if field == b'c' {
         text(b" cell");
         number((i / POSITIONS) as u64);
         number((i % POSITIONS + 1) as u64);
@@ -74,78 +63,53 @@ fn place(in_cells: bool, i: usize) {
 }
 
 // The entry `i`, which holds `y`, unless `x` stood there too.
-fn entry(in_cells: bool, i: usize, x: u32, y: u32) {
+fn entry(field: u8, i: usize, x: u32, y: u32) {
     if x != y {
-        place(in_cells, i);
+        place(field, i);
         number(y as u64);
     }
 }
 
-// The entries that hold another number than before.
-fn entries(in_cells: bool, before: &[u32], after: &[u32]) {
+// The entries of a field that hold another number than before.
+fn entries(before: State, after: State, field: u8) {
+    let size = size_of(field);
     let mut i = 0;
-    while i < after.len() {
-        entry(in_cells, i, number_at(before, i), number_at(after, i));
+    while i < size {
+        entry(
+            field,
+            i,
+            entry_of(before, field, i),
+            entry_of(after, field, i),
+        );
         i += 1;
     }
 }
 
-fn changed_defaults(before: State, after: State) {
-    let a = before.defaults;
-    let b = after.defaults;
-    entries(false, &a, &b);
-}
-
-fn changed_cells(before: State, after: State) {
-    let a = before.cells;
-    let b = after.cells;
-    entries(true, &a, &b);
-}
-
 // Phases, newest and previous of its tasks, pointers of its links.
 fn boxes(s: State) {
-    let tasks = s.tasks;
-    let links = s.links;
-    let phase = s.phase;
-    let newest = s.newest;
-    let previous = s.previous;
-    let pointer = s.pointer;
-    list(b" phase", &phase, tasks);
-    list(b" newest", &newest, tasks);
-    list(b" previous", &previous, tasks);
-    list(b" pointer", &pointer, links);
+    list(b" phase", s, b'p', s.tasks);
+    list(b" newest", s, b'n', s.tasks);
+    list(b" previous", s, b'o', s.tasks);
+    list(b" pointer", s, b'x', s.links);
 }
 
 // Writers, readers and kinds of its links.
 fn ends(s: State) {
-    let links = s.links;
-    let writer = s.writer;
-    let reader = s.reader;
-    let kind = s.kind;
-    list(b" writer", &writer, links);
-    list(b" reader", &reader, links);
-    list(b" kind", &kind, links);
+    list(b" writer", s, b'w', s.links);
+    list(b" reader", s, b'r', s.links);
+    list(b" kind", s, b'k', s.links);
 }
 
 // The largest number past the counts in phase, newest, previous, writer, reader, kind and pointer.
 pub(crate) fn past(s: State) {
-    let tasks = s.tasks;
-    let links = s.links;
-    let phase = s.phase;
-    let newest = s.newest;
-    let previous = s.previous;
-    let writer = s.writer;
-    let reader = s.reader;
-    let kind = s.kind;
-    let pointer = s.pointer;
     text(b" past");
-    past_tasks(&phase, tasks);
-    past_tasks(&newest, tasks);
-    past_tasks(&previous, tasks);
-    past_links(&writer, links);
-    past_links(&reader, links);
-    past_links(&kind, links);
-    past_links(&pointer, links);
+    number(largest(s, b'p', s.tasks) as u64);
+    number(largest(s, b'n', s.tasks) as u64);
+    number(largest(s, b'o', s.tasks) as u64);
+    number(largest(s, b'w', s.links) as u64);
+    number(largest(s, b'r', s.links) as u64);
+    number(largest(s, b'k', s.links) as u64);
+    number(largest(s, b'x', s.links) as u64);
 }
 
 // What a table made.
@@ -159,8 +123,8 @@ pub(crate) fn made(m: Made) {
     } else {
         ends(s);
         boxes(s);
-        changed_defaults(State::single(), s);
-        changed_cells(State::single(), s);
+        entries(State::single(), s, b'd');
+        entries(State::single(), s, b'c');
     }
     past(s);
 }
@@ -172,7 +136,7 @@ fn changed(before: State, after: State) {
     } else {
         text(b" changed");
         boxes(after);
-        changed_cells(before, after);
+        entries(before, after, b'c');
     }
     if !same_table(before, after) {
         text(b" table");

@@ -6,9 +6,9 @@ use Prim.Native.Nat.{ℕ, _≤_, _<_}
 use borrow.Author.Tests.{lt-ltb, le-ltb, eq-eqb, ne-eqb}
 use lib.Dec.{eqb, ltb}
 use Rattle.lists.specs.Lists.{every, leading}
-use Rattle.protocol_state.specs.Saved.{base}
+use Rattle.protocol_state.specs.Saved.{Saved, base, at}
 use Rattle.protocol_state.specs.Rules.{fault, judgedTable}
-use Rattle.protocol_state.specs.Sound.{taskOk, pointerOk, soundParts}
+use Rattle.protocol_state.specs.Sound.{taskOk, pointerOk, isSound}
 
 module _ (T L : ℕ) (W R K : ℕ → ℕ) where
   pub wrong-tasks : (eqb T 0 || ltb (base .tasks) T) ≡ true → 2 ≡ judgedTable ltb T W R K base L
@@ -23,14 +23,12 @@ module _ (T L : ℕ) (W R K : ℕ → ℕ) where
   unfolding judgedTable
   link-fault e l h = rw (e, le-ltb (base .links) L l) h
 
-  module _ (ph n p x : ℕ → ℕ) where
-    pub unsound : {r : ℕ} → r ≡ judgedTable ltb T W R K base L → (r ≡ 0 → ⊥) → false ≡ soundParts ltb base T L W R K ph n p x
-    unfolding soundParts
-    unsound e ne = rw (ne-eqb _ 0 (λ z. ne (e ∙ z)))
+-- whether a state is sound: k is what its table is judged
+module _ (q : Saved) {k : ℕ} (e : k ≡ judgedTable ltb (q .tasks) (at (q .writer)) (at (q .reader)) (at (q .kind)) base (q .links)) where
+  pub unsound : (k ≡ 0 → ⊥) → false ≡ isSound ltb base q
+  unfolding isSound
+  unsound ne = rw (ne-eqb _ 0 (λ z. ne (e ∙ z)))
 
-    pub sound :
-        {r : ℕ} {a b : Bool} → r ≡ judgedTable ltb T W R K base L → r ≡ 0 → a ≡ every (taskOk ltb L W R ph n p) T →
-        b ≡ every (pointerOk ltb L W R ph x) L →
-        (a && b) ≡ soundParts ltb base T L W R K ph n p x
-    unfolding soundParts
-    sound e z ea eb = rw (eq-eqb _ 0 (sym e ∙ z), ea, eb)
+  pub sound : {a b : Bool} → k ≡ 0 → a ≡ every (taskOk ltb q) (q .tasks) → b ≡ every (pointerOk ltb q) (q .links) → (a && b) ≡ isSound ltb base q
+  unfolding isSound
+  sound z ea eb = rw (eq-eqb _ 0 (sym e ∙ z), ea, eb)

@@ -7,9 +7,14 @@ ghost use Rattle.lists.specs.Lists.{some};
 ghost use Rattle.protocol.specs.Table.{behinds};
 ghost use Rattle.protocol_state.specs.Saved.{at, base};
 ghost use Rattle.protocol_state.specs.Rules.{joins};
+ghost use Rattle.mailbox_layout.specs.Layout.{writerIn, readerIn};
 use lists::few;
 use lists::one_if;
 use mailbox_base::numbers::LINKS;
+use mailbox_layout::CONTROL;
+use mailbox_layout::READER;
+use mailbox_layout::WRITER;
+use mailbox_layout::control_at;
 
 // Whether a link from `w0` to `r0` goes from `w` to `r`.
 fn is_pair(w0: u8, r0: u8, w: u8, r: u8) -> bool
@@ -19,14 +24,20 @@ fn is_pair(w0: u8, r0: u8, w: u8, r: u8) -> bool
 }
 
 // Whether one of the first `n` links goes from `w` to `r`.
-pub fn has_pair(writer: &[u8; LINKS], reader: &[u8; LINKS], n: usize, w: u8, r: u8) -> bool
-    ensures { λ res. ⌜ res ≡ some (joins (at (now (writer .entry))) (at (now (reader .entry))) w r) (min n (base .links)) ⌝ }
+pub fn has_pair(control: &[u8; CONTROL], n: usize, w: u8, r: u8) -> bool
+    ensures { λ res. ⌜ res ≡ some (joins (at (writerIn (now (control .entry)))) (at (readerIn (now (control .entry)))) w r) (min n (base .links)) ⌝ }
 {
     let end = few(n, LINKS);
     let mut found = false;
     let mut l = 0;
     while l < end {
-        found = is_pair(writer[l], reader[l], w, r) | found;
+        found = is_pair(
+            control_at(control, WRITER, l),
+            control_at(control, READER, l),
+            w,
+            r,
+        )
+            | found;
         l += 1;
     }
     found
@@ -40,14 +51,18 @@ fn is_behind(w: u8, r: u8, t: usize) -> bool
 }
 
 // N: how many of the first `n` links are task `t`'s to readers behind.
-pub fn readers_behind(writer: &[u8; LINKS], reader: &[u8; LINKS], n: usize, t: usize) -> usize
-    ensures { λ r. ⌜ (r ≡ behinds ltb (at (now (writer .entry))) (at (now (reader .entry))) t (min n (base .links))) × (r ≤ base .links) ⌝ }
+pub fn readers_behind(control: &[u8; CONTROL], n: usize, t: usize) -> usize
+    ensures { λ r. ⌜ (r ≡ behinds ltb (at (writerIn (now (control .entry)))) (at (readerIn (now (control .entry)))) t (min n (base .links))) × (r ≤ base .links) ⌝ }
 {
     let end = few(n, LINKS);
     let mut c = 0;
     let mut l = 0;
     while l < end {
-        c += one_if(is_behind(writer[l], reader[l], t));
+        c += one_if(is_behind(
+            control_at(control, WRITER, l),
+            control_at(control, READER, l),
+            t,
+        ));
         l += 1;
     }
     c

@@ -1,17 +1,23 @@
 // Soundness of a state: what refusal 19 tests.
 ghost use mathlib.Core.Path.{_≡_};
 ghost use mathlib.Core.Bool.{cond};
-ghost use Prim.Native.Nat.{_≤_};
+ghost use mathlib.Core.List.{List};
+ghost use Prim.Native.Nat.{ℕ, _≤_};
 ghost use lib.Dec.{ltb};
 ghost use Rattle.lists.specs.Lists.{every};
-ghost use Rattle.protocol.specs.Table.{behinds};
-ghost use Rattle.protocol_state.specs.Saved.{at, base};
-ghost use Rattle.protocol_state.specs.Sound.{within, taskIs, taskOk, pointerIs, pointerOk, soundParts};
+ghost use Rattle.protocol_state.specs.Saved.{base};
+ghost use Rattle.protocol_state.specs.Sound.{within, taskIs, taskOk, pointerIs, pointerOk, isSound};
+ghost use Rattle.mailbox_layout.specs.Layout.{stateOf};
 use crate::links::readers_behind;
 use crate::table::judge_table;
-use mailbox_base::numbers::LINKS;
-use mailbox_base::numbers::TASKS;
-use mailbox_base::numbers::at;
+use mailbox_layout::CONTROL;
+use mailbox_layout::NEWEST;
+use mailbox_layout::PHASE;
+use mailbox_layout::POINTER;
+use mailbox_layout::PREVIOUS;
+use mailbox_layout::READER;
+use mailbox_layout::WRITER;
+use mailbox_layout::control_at;
 
 // Whether `y` is one of a task's positions, 1 to `n` + 2.
 fn is_within(n: usize, y: u8) -> bool
@@ -29,40 +35,29 @@ fn task_is(phase: u8, newest: u8, previous: u8, n: usize) -> bool
     (phase < 3) & (is_within(n, newest) & is_within(n, previous))
 }
 
-// The same of task `t`, whose links are counted.
-fn task_ok(
-    links: usize,
-    writer: &[u8; LINKS],
-    reader: &[u8; LINKS],
-    t: usize,
-    phase: u8,
-    newest: u8,
-    previous: u8,
-) -> bool
+// Whether task `t` is as it may be: its links to readers behind are counted.
+fn task_ok(links: usize, control: &[u8; CONTROL], t: usize) -> bool
     requires { ⌜ links ≤ base .links ⌝ }
-    ensures { λ r. ⌜ r ≡ taskIs phase newest previous (behinds ltb (at (now (writer .entry))) (at (now (reader .entry))) t links) ⌝ }
+    ensures { λ r. ⌜ ((T : ℕ) (v : List ℕ) → r ≡ taskOk ltb (stateOf T links (now (control .entry)) v) t) ⌝ }
 {
-    let n = readers_behind(writer, reader, links, t);
-    task_is(phase, newest, previous, n)
+    let n = readers_behind(control, links, t);
+    task_is(
+        control_at(control, PHASE, t),
+        control_at(control, NEWEST, t),
+        control_at(control, PREVIOUS, t),
+        n,
+    )
 }
 
 // Whether each task is as it may be.
-fn tasks_ok(
-    tasks: usize,
-    links: usize,
-    writer: &[u8; LINKS],
-    reader: &[u8; LINKS],
-    phase: &[u8; TASKS],
-    newest: &[u8; TASKS],
-    previous: &[u8; TASKS],
-) -> bool
-    requires { ⌜ (tasks ≤ base .tasks) × (links ≤ base .links) ⌝ }
-    ensures { λ r. ⌜ r ≡ every (taskOk ltb links (at (now (writer .entry))) (at (now (reader .entry))) (at (now (phase .entry))) (at (now (newest .entry))) (at (now (previous .entry)))) tasks ⌝ }
+fn tasks_ok(tasks: usize, links: usize, control: &[u8; CONTROL]) -> bool
+    requires { ⌜ links ≤ base .links ⌝ }
+    ensures { λ r. ⌜ ((T : ℕ) (v : List ℕ) → r ≡ every (taskOk ltb (stateOf T links (now (control .entry)) v)) tasks) ⌝ }
 {
     let mut ok = true;
     let mut t = 0;
     while t < tasks {
-        ok = task_ok(links, writer, reader, t, phase[t], newest[t], previous[t]) & ok;
+        ok = task_ok(links, control, t) & ok;
         t += 1;
     }
     ok
@@ -84,72 +79,41 @@ fn pointer_is(w: u8, r: u8, y: u8, phase: u8, n: usize) -> bool
     (y as usize <= n + 2) & pick_test(phase == 0, !(w < r) | (y == 0), 1 <= y)
 }
 
-// The same, with the reader's phase looked up and the writer's links counted.
-fn pointer_ok(
-    links: usize,
-    writer: &[u8; LINKS],
-    reader: &[u8; LINKS],
-    phase: &[u8; TASKS],
-    w: u8,
-    r: u8,
-    y: u8,
-) -> bool
+// Whether link `l` has a pointer that it may have: its reader's phase is looked up, its writer's links are counted.
+fn pointer_ok(links: usize, control: &[u8; CONTROL], l: usize) -> bool
     requires { ⌜ links ≤ base .links ⌝ }
-    ensures { λ res. ⌜ res ≡ pointerIs ltb w r y (at (now (phase .entry)) r) (behinds ltb (at (now (writer .entry))) (at (now (reader .entry))) w links) ⌝ }
+    ensures { λ r. ⌜ ((T : ℕ) (v : List ℕ) → r ≡ pointerOk ltb (stateOf T links (now (control .entry)) v) l) ⌝ }
 {
-    let now = at(phase, r as usize);
-    let n = readers_behind(writer, reader, links, w as usize);
-    pointer_is(w, r, y, now, n)
+    let w = control_at(control, WRITER, l);
+    let r = control_at(control, READER, l);
+    let phase = control_at(control, PHASE, r as usize);
+    let n = readers_behind(control, links, w as usize);
+    pointer_is(w, r, control_at(control, POINTER, l), phase, n)
 }
 
 // Whether each pointer is as it may be.
-fn pointers_ok(
-    links: usize,
-    writer: &[u8; LINKS],
-    reader: &[u8; LINKS],
-    phase: &[u8; TASKS],
-    pointer: &[u8; LINKS],
-) -> bool
+fn pointers_ok(links: usize, control: &[u8; CONTROL]) -> bool
     requires { ⌜ links ≤ base .links ⌝ }
-    ensures { λ r. ⌜ r ≡ every (pointerOk ltb links (at (now (writer .entry))) (at (now (reader .entry))) (at (now (phase .entry))) (at (now (pointer .entry)))) links ⌝ }
+    ensures { λ r. ⌜ ((T : ℕ) (v : List ℕ) → r ≡ every (pointerOk ltb (stateOf T links (now (control .entry)) v)) links) ⌝ }
 {
     let mut ok = true;
     let mut l = 0;
     while l < links {
-        ok = pointer_ok(
-            links,
-            writer,
-            reader,
-            phase,
-            writer[l],
-            reader[l],
-            pointer[l],
-        )
-            & ok;
+        ok = pointer_ok(links, control, l) & ok;
         l += 1;
     }
     ok
 }
 
-// Whether a state with these parts is sound: its table keeps the rules, and each task and each pointer is as it may be.
-pub fn is_sound(
-    tasks: usize,
-    links: usize,
-    writer: &[u8; LINKS],
-    reader: &[u8; LINKS],
-    kind: &[u8; LINKS],
-    phase: &[u8; TASKS],
-    newest: &[u8; TASKS],
-    previous: &[u8; TASKS],
-    pointer: &[u8; LINKS],
-) -> bool
-    ensures { λ r. ⌜ r ≡ soundParts ltb base tasks links (at (now (writer .entry))) (at (now (reader .entry))) (at (now (kind .entry))) (at (now (phase .entry))) (at (now (newest .entry))) (at (now (previous .entry))) (at (now (pointer .entry))) ⌝ }
+// Whether a state with this control is sound: its table keeps the rules, and each task and each pointer is as it may be.
+pub fn is_sound(tasks: usize, links: usize, control: &[u8; CONTROL]) -> bool
+    ensures { λ r. ⌜ ((v : List ℕ) → r ≡ isSound ltb base (stateOf tasks links (now (control .entry)) v)) ⌝ }
 {
-    let refusal = judge_table(tasks, links, writer, reader, kind);
+    let refusal = judge_table(tasks, links, control);
     if refusal != 0 {
         return false;
     }
-    let a = tasks_ok(tasks, links, writer, reader, phase, newest, previous);
-    let b = pointers_ok(links, writer, reader, phase, pointer);
+    let a = tasks_ok(tasks, links, control);
+    let b = pointers_ok(links, control);
     a & b
 }

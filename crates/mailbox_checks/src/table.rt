@@ -5,12 +5,18 @@ ghost use Prim.Native.Nat.{_≤_, _<_, min};
 ghost use lib.Dec.{eqb, ltb};
 ghost use Rattle.lists.specs.Lists.{leading};
 ghost use Rattle.protocol_state.specs.Saved.{at, base};
+ghost use Rattle.mailbox_layout.specs.Layout.{writerIn, readerIn, kindIn};
 ghost use Rattle.protocol_state.specs.Rules.{faultOf, faultAfter, fault, judgedTable};
 use crate::links::has_pair;
 use crate::links::readers_behind;
 use mailbox_base::numbers::LINKS;
 use mailbox_base::numbers::TASKS;
 use mailbox_base::numbers::pick;
+use mailbox_layout::CONTROL;
+use mailbox_layout::KIND;
+use mailbox_layout::READER;
+use mailbox_layout::WRITER;
+use mailbox_layout::control_at;
 
 // The refusal that a link from `w` to `r` of kind `k` earns, the lowest that applies; `twice` and `n` speak of its writer's earlier links.
 fn fault_of(tasks: usize, w: u8, r: u8, k: u8, twice: bool, n: usize) -> u8
@@ -25,84 +31,54 @@ fn fault_of(tasks: usize, w: u8, r: u8, k: u8, twice: bool, n: usize) -> u8
 }
 
 // The refusal that a link from `w` to `r` of kind `k` earns after the first `n` links, of which there are at most 32.
-pub fn fault_after(
-    tasks: usize,
-    writer: &[u8; LINKS],
-    reader: &[u8; LINKS],
-    n: usize,
-    w: u8,
-    r: u8,
-    k: u8,
-) -> u8
-    ensures { λ res. ⌜ res ≡ faultAfter ltb tasks (at (now (writer .entry))) (at (now (reader .entry))) (min n (base .links)) w r k ⌝ }
+pub fn fault_after(tasks: usize, control: &[u8; CONTROL], n: usize, w: u8, r: u8, k: u8) -> u8
+    ensures { λ res. ⌜ res ≡ faultAfter ltb tasks (at (writerIn (now (control .entry)))) (at (readerIn (now (control .entry)))) (min n (base .links)) w r k ⌝ }
 {
-    let twice = has_pair(writer, reader, n, w, r);
-    let behind = readers_behind(writer, reader, n, w as usize);
+    let twice = has_pair(control, n, w, r);
+    let behind = readers_behind(control, n, w as usize);
     fault_of(tasks, w, r, k, twice, behind)
 }
 
 // The refusal that link `l` earns, 0 for none.
-fn fault_at(
-    tasks: usize,
-    writer: &[u8; LINKS],
-    reader: &[u8; LINKS],
-    kind: &[u8; LINKS],
-    l: usize,
-) -> u8
+fn fault_at(tasks: usize, control: &[u8; CONTROL], l: usize) -> u8
     requires { ⌜ l < base .links ⌝ }
-    ensures { λ r. ⌜ r ≡ fault ltb tasks (at (now (writer .entry))) (at (now (reader .entry))) (at (now (kind .entry))) l ⌝ }
+    ensures { λ r. ⌜ r ≡ fault ltb tasks (at (writerIn (now (control .entry)))) (at (readerIn (now (control .entry)))) (at (kindIn (now (control .entry)))) l ⌝ }
 {
-    fault_after(tasks, writer, reader, l, writer[l], reader[l], kind[l])
-}
-
-// The first fault: `earlier` where there is one, else that of link `l`.
-fn fault_or(
-    earlier: u8,
-    tasks: usize,
-    writer: &[u8; LINKS],
-    reader: &[u8; LINKS],
-    kind: &[u8; LINKS],
-    l: usize,
-) -> u8
-    requires { ⌜ l < base .links ⌝ }
-    ensures { λ r. ⌜ r ≡ cond (eqb earlier 0) (fault ltb tasks (at (now (writer .entry))) (at (now (reader .entry))) (at (now (kind .entry))) l) earlier ⌝ }
-{
-    pick(
-        earlier == 0,
-        fault_at(tasks, writer, reader, kind, l),
-        earlier,
+    fault_after(
+        tasks,
+        control,
+        l,
+        control_at(control, WRITER, l),
+        control_at(control, READER, l),
+        control_at(control, KIND, l),
     )
 }
 
+// The first fault: `earlier` where there is one, else that of link `l`.
+fn fault_or(earlier: u8, tasks: usize, control: &[u8; CONTROL], l: usize) -> u8
+    requires { ⌜ l < base .links ⌝ }
+    ensures { λ r. ⌜ r ≡ cond (eqb earlier 0) (fault ltb tasks (at (writerIn (now (control .entry)))) (at (readerIn (now (control .entry)))) (at (kindIn (now (control .entry)))) l) earlier ⌝ }
+{
+    pick(earlier == 0, fault_at(tasks, control, l), earlier)
+}
+
 // The refusal of the first link at fault, 0 for none.
-fn first_fault(
-    tasks: usize,
-    links: usize,
-    writer: &[u8; LINKS],
-    reader: &[u8; LINKS],
-    kind: &[u8; LINKS],
-) -> u8
+fn first_fault(tasks: usize, links: usize, control: &[u8; CONTROL]) -> u8
     requires { ⌜ links ≤ base .links ⌝ }
-    ensures { λ r. ⌜ r ≡ leading (fault ltb tasks (at (now (writer .entry))) (at (now (reader .entry))) (at (now (kind .entry)))) links ⌝ }
+    ensures { λ r. ⌜ r ≡ leading (fault ltb tasks (at (writerIn (now (control .entry)))) (at (readerIn (now (control .entry)))) (at (kindIn (now (control .entry))))) links ⌝ }
 {
     let mut found: u8 = 0;
     let mut l = 0;
     while l < links {
-        found = fault_or(found, tasks, writer, reader, kind, l);
+        found = fault_or(found, tasks, control, l);
         l += 1;
     }
     found
 }
 
 // The refusal that a table earns, 0 for none: its counts, then the first link at fault.
-pub fn judge_table(
-    tasks: usize,
-    links: usize,
-    writer: &[u8; LINKS],
-    reader: &[u8; LINKS],
-    kind: &[u8; LINKS],
-) -> u8
-    ensures { λ r. ⌜ r ≡ judgedTable ltb tasks (at (now (writer .entry))) (at (now (reader .entry))) (at (now (kind .entry))) base links ⌝ }
+pub fn judge_table(tasks: usize, links: usize, control: &[u8; CONTROL]) -> u8
+    ensures { λ r. ⌜ r ≡ judgedTable ltb tasks (at (writerIn (now (control .entry)))) (at (readerIn (now (control .entry)))) (at (kindIn (now (control .entry)))) base links ⌝ }
 {
     if (tasks == 0) | (TASKS < tasks) {
         return 2;
@@ -110,5 +86,5 @@ pub fn judge_table(
     if LINKS < links {
         return 3;
     }
-    first_fault(tasks, links, writer, reader, kind)
+    first_fault(tasks, links, control)
 }

@@ -1,34 +1,49 @@
--- An event given to lent parts, way by way: unsound, refused, done.
+-- An event given to a lent state, way by way: unsound, refused, done.
 -- Assumes nothing.
-use mathlib.Core.Path.{_≡_, sym, _∙_}
+use mathlib.Core.Path.{_≡_, sym, ap, _∙_}
 use mathlib.Core.Bool.{Bool, true, false, not}
-use mathlib.Core.List.{List, []}
-use Prim.Native.Nat.{ℕ}
+use mathlib.Core.List.{List}
+use Prim.Native.Nat.{ℕ, _≤_, min}
+use native.Mathlib.Nat.{min-eq-left}
 use borrow.Author.Tests.{not-true}
 use lib.Dec.{ltb}
+use Rattle.lists.proofs.Bools.{passed}
+use Rattle.protocol.specs.Event.{Event}
 use Rattle.protocol_state.specs.Saved.{Saved, base}
 use Rattle.protocol_state.specs.Judge.{judgedOn}
-use Rattle.protocol_state.specs.Next.{valueOf}
+use Rattle.protocol_state.specs.Next.{next, valueOf}
 use Rattle.protocol_state.specs.Sound.{isSound}
 use Rattle.protocol_state.specs.Give.{reply, give}
 use Rattle.protocol_state.proofs.Give.{give-unsound, give-refused, give-done}
-use Rattle.mailbox_parts.specs.Plain.{plain}
-use Rattle.mailbox_parts.specs.Becomes.{savedOf, Becomes}
-use Rattle.mailbox_parts.specs.declared.event.Event.{Event}
-use Rattle.mailbox_give.specs.GivenParts.{GivenParts}
+use Rattle.protocol_state.proofs.Sound.{sound-room}
+use Rattle.mailbox_layout.specs.Layout.{stateOf, viewOf}
 
-module _ {e : Event} {T L : ℕ} {W R K ph n p C x : List ℕ} where
-  pub given-unsound : {b : Bool} → b ≡ isSound ltb base (savedOf T L [] ph n p C W R K x) → not b ≡ true → GivenParts e T L W R K ph n p C x ph n p C x 19 0
-  given-unsound {b} test h = record { event = λ D. sym (give-unsound ltb base (savedOf T L D ph n p C W R K x) (plain e) (sym test ∙ not-true b h)) }
+-- counts that are within the room are taken as they are
+within : (T L : ℕ) (c v : List ℕ) → (T ≤ base .tasks) × (L ≤ base .links) → viewOf T L c v ≡ stateOf T L c v
+within T L c v room = rw (min-eq-left (room .0), min-eq-left (room .1))
+
+module _ (T L : ℕ) (c v : List ℕ) (e : Event ℕ) {b : Bool} (test : b ≡ isSound ltb base (stateOf T L c v)) where
+  pub given-unsound : not b ≡ true → reply (stateOf T L c v) 19 0 ≡ give ltb base (stateOf T L c v) e
+  given-unsound h = sym (give-unsound ltb base (stateOf T L c v) e (sym test ∙ not-true b h))
 
   -- a sound state, which judges the event k
-  module _ {k : ℕ} (s : isSound ltb base (savedOf T L [] ph n p C W R K x) ≡ true) (judged : k ≡ judgedOn ltb (savedOf T L [] ph n p C W R K x) (plain e)) where
-    pub given-refused : (k ≡ 0 → ⊥) → GivenParts e T L W R K ph n p C x ph n p C x k 0
-    given-refused z =
-        record { event = λ D. rw judged (sym (give-refused ltb base (savedOf T L D ph n p C W R K x) (plain e) s (λ j. z (judged ∙ j)))) }
+  module _ {k : ℕ} (h : not b ≡ false) (judged : k ≡ judgedOn ltb (viewOf T L c v) e) where
+    sound : isSound ltb base (stateOf T L c v) ≡ true
+    sound = passed test h
 
-    pub given-done :
-        {ph′ n′ p′ C′ x′ : List ℕ} {v : ℕ} → k ≡ 0 → v ≡ valueOf (savedOf T L [] ph n p C W R K x) (plain e) →
-        Becomes e T L W R K ph n p C x ph′ n′ p′ C′ x′ → GivenParts e T L W R K ph n p C x ph′ n′ p′ C′ x′ 0 v
-    given-done z t b =
-        record { event = λ D. rw (b .state D, t) (sym (give-done ltb base (savedOf T L D ph n p C W R K x) (plain e) s (sym judged ∙ z))) }
+    here : viewOf T L c v ≡ stateOf T L c v
+    here = within T L c v (sound-room ltb base (stateOf T L c v) sound)
+
+    pub given-refused : (k ≡ 0 → ⊥) → reply (stateOf T L c v) k 0 ≡ give ltb base (stateOf T L c v) e
+    given-refused z =
+        let j : k ≡ judgedOn ltb (stateOf T L c v) e = judged ∙ ap (λ (q : Saved). judgedOn ltb q e) here in
+        rw j (sym (give-refused ltb base (stateOf T L c v) e sound (λ i. z (j ∙ i))))
+
+    pub given-done : (c′ v′ : List ℕ) {x : ℕ} → k ≡ 0 → x ≡ valueOf (viewOf T L c v) e → viewOf T L c′ v′ ≡ next ltb (viewOf T L c v) e →
+        reply (stateOf T L c′ v′) 0 x ≡ give ltb base (stateOf T L c v) e
+    given-done c′ v′ {x} z value done =
+        let j : k ≡ judgedOn ltb (stateOf T L c v) e = judged ∙ ap (λ (q : Saved). judgedOn ltb q e) here in
+        let x-is : x ≡ valueOf (stateOf T L c v) e = value ∙ ap (λ (q : Saved). valueOf q e) here in
+        let after : stateOf T L c′ v′ ≡ next ltb (stateOf T L c v) e =
+        sym (within T L c′ v′ (sound-room ltb base (stateOf T L c v) sound)) ∙ done ∙ ap (λ (q : Saved). next ltb q e) here in
+        rw (after, x-is) (sym (give-done ltb base (stateOf T L c v) e sound (sym j ∙ z)))

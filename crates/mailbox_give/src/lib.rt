@@ -1,65 +1,42 @@
-// One event given to the lent parts of a state: 19 where they aren't sound, then 12 to 16 in rising order, else it is done.
-ghost use Rattle.mailbox_give.specs.GivenParts.{GivenParts};
-use mailbox_base::numbers::CELLS;
-use mailbox_base::numbers::LINKS;
-use mailbox_base::numbers::TASKS;
+// One event given to a lent state: 19 where it isn't sound, then 12 to 16 in rising order, else it is done.
+ghost use mathlib.Core.Path.{_≡_};
+ghost use mathlib.Core.Logic.{_≢_};
+ghost use lib.Dec.{ltb};
+ghost use Rattle.protocol_state.specs.Saved.{base};
+ghost use Rattle.protocol_state.specs.Give.{reply, give};
+ghost use Rattle.mailbox_layout.specs.Layout.{stateOf};
+ghost use Rattle.mailbox_parts.specs.Plain.{plain};
 use mailbox_checks::sound::is_sound;
 use mailbox_free::table::lowest_table;
+use mailbox_layout::CONTROL;
+use mailbox_layout::VALUES;
 use mailbox_parts::event::Event;
 use mailbox_parts::event::do_event;
 use mailbox_parts::event::judge;
 use mailbox_parts::event::value_of;
 
-// The refusal, 0 for none. `number` becomes that of an accepted read, else 0; a refusal leaves every part as it was lent.
+// The refusal, 0 for none. `number` becomes that of an accepted read, else 0; a refusal leaves both arrays as they were lent.
 pub fn give(
     e: Event,
     number: &mut u32,
     tasks: usize,
     links: usize,
-    writer: &[u8; LINKS],
-    reader: &[u8; LINKS],
-    kind: &[u8; LINKS],
-    phase: &mut [u8; TASKS],
-    newest: &mut [u8; TASKS],
-    previous: &mut [u8; TASKS],
-    cells: &mut [u32; CELLS],
-    pointer: &mut [u8; LINKS],
+    control: &mut [u8; CONTROL],
+    values: &mut [u32; VALUES],
 ) -> u8
-    ensures { λ r. ⌜ GivenParts e tasks links (now (writer .entry)) (now (reader .entry)) (now (kind .entry)) (now (phase .entry)) (now (newest .entry)) (now (previous .entry)) (now (cells .entry)) (now (pointer .entry)) (now (phase .exit)) (now (newest .exit)) (now (previous .exit)) (now (cells .exit)) (now (pointer .exit)) r (now (number .exit)) ⌝ }
+    ensures answer { λ r. ⌜ reply (stateOf tasks links (now (control .exit)) (now (values .exit))) r (now (number .exit)) ≡ give ltb base (stateOf tasks links (now (control .entry)) (now (values .entry))) (plain e) ⌝ }
+    ensures kept { λ r. ⌜ (r ≢ 0 → (now (control .exit) ≡ now (control .entry)) × (now (values .exit) ≡ now (values .entry))) ⌝ }
 {
     *number = 0;
-    if !is_sound(
-        tasks,
-        links,
-        writer,
-        reader,
-        kind,
-        phase,
-        newest,
-        previous,
-        pointer,
-    ) {
+    if !is_sound(tasks, links, control) {
         return 19;
     }
-    let refusal = judge(e, tasks, links, reader, phase);
+    let refusal = judge(e, tasks, links, control, values);
     if refusal != 0 {
         return refusal;
     }
-    *number = value_of(e, writer, pointer, cells);
+    *number = value_of(e, tasks, links, control, values);
     let lowest = lowest_table();
-    do_event(
-        &lowest,
-        e,
-        tasks,
-        links,
-        writer,
-        reader,
-        kind,
-        phase,
-        newest,
-        previous,
-        cells,
-        pointer,
-    );
+    do_event(&lowest, e, tasks, links, control, values);
     0
 }

@@ -41,7 +41,7 @@ module _ (k t T : ℕ) (ph : ℕ → ℕ) where
   unfolding judgedTask
   judged-outside l = rw (le-leb T t l)
 
-  -- d is the decision, b whether a task before t is active, u what that means for its turn
+  -- d is the decision, b whether a task before t is activePhase, u what that means for its turn
   pub judged-inside :
       {d u r : ℕ} {b : Bool} → t < T → d ≡ decided k (ph t) → b ≡ some (λ u. activePhase (ph u)) t → u ≡ cond b 16 0 → r ≡ cond (ltb d 12) u d →
       r ≡ judgedTask ltb k t T ph

@@ -1,40 +1,30 @@
--- What each kind of event makes of the parts, what it is judged, and its value.
+-- A finish, turn by turn.
 -- Assumes nothing.
 use mathlib.Core.Path.{_≡_, refl, sym, ap, _∙_}
 use mathlib.Core.List.{List}
-use Prim.Native.Nat.{ℕ}
+use Prim.Native.Nat.{ℕ, _+_, _≤_}
 use lib.Dec.{ltb}
-use Rattle.protocol_state.specs.Next.{newestAfter, previousAfter, pointerAfter, phaseAfter, phasesAfter, valueBy}
-use Rattle.protocol_state.specs.Judge.{judgedEvent}
-use Rattle.mailbox_arrival.specs.Arrives.{Arrives}
-use Rattle.mailbox_parts.specs.Finishes.{Finishes}
-use Rattle.mailbox_parts.specs.Plain.{plain}
-use Rattle.mailbox_parts.specs.Becomes.{Becomes}
-use Rattle.mailbox_parts.specs.declared.event.Event.{Event}
-use Rattle.mailbox_parts.specs.declared.event.Event.the-variants.{Arrival, Start, Read, Finish}
+use lib.ListN.{set}
+use Rattle.lists.specs.Lists.{upto}
+use Rattle.lists.proofs.Lists.{at-bound, upto-none, upto-more}
+use Rattle.protocol_state.specs.Saved.{Saved, at, cellOf}
+use Rattle.protocol_state.specs.Next.{finished}
+use Rattle.mailbox_layout.specs.Layout.{withCells}
+use Rattle.mailbox_parts.specs.Frees.{freedOn, freedOne, freedFirst, advanced}
 
-module _ {T L : ℕ} {W R K ph n p C x : List ℕ} where
-  pub becomes-arrival :
-      {e : Event} {s : ℕ} {ph′ n′ p′ x′ : List ℕ} → e ≡ Arrival s → Arrives s T L W R K ph n p x ph′ n′ p′ x′ →
-      Becomes e T L W R K ph n p C x ph′ n′ p′ C x′
-  unfolding newestAfter previousAfter pointerAfter phaseAfter
-  becomes-arrival k a = rw (k, a .pointer, a .moved .newest, a .moved .previous, a .moved .phase) (record { state = λ D. refl })
+module _ (t : ℕ) (q₀ : Saved) where
+  pub freed-none : q₀ ≡ freedFirst t 0 q₀
+  freed-none = rw (upto-none (freedOn t q₀) (q₀ .pointer))
 
-  pub becomes-start : {e : Event} {t : ℕ} {ph′ : List ℕ} → e ≡ Start t → ph′ ≡ phasesAfter 1 t ph → Becomes e T L W R K ph n p C x ph′ n p C x
-  becomes-start k a = rw (k, a) (record { state = λ D. refl })
+  -- the turn of link l
+  pub freed-more : (l : ℕ) {q q′ : Saved} → q ≡ freedFirst t l q₀ → q′ ≡ freedOne t l q → q′ ≡ freedFirst t (l + 1) q₀
+  freed-more l e one = one ∙ ap (freedOne t l) e ∙ rw (upto-more (freedOn t q₀) l (q₀ .pointer) 0 refl refl)
 
-  pub becomes-read : {e : Event} {l : ℕ} → e ≡ Read l → Becomes e T L W R K ph n p C x ph n p C x
-  becomes-read k = rw k (record { state = λ D. refl })
+  pub freed-end : (i n : ℕ) {q : Saved} → q ≡ freedFirst t i q₀ → i ≤ n → n ≤ i → q ≡ freedFirst t n q₀
+  freed-end = at-bound (λ (k : ℕ). freedFirst t k q₀)
 
-  pub becomes-finish :
-      {e : Event} {t v : ℕ} {ph′ C′ x′ : List ℕ} → e ≡ Finish t v → Finishes t v L W R n ph C x ph′ C′ x′ →
-      Becomes e T L W R K ph n p C x ph′ n p C′ x′
-  becomes-finish k a = rw (k, a .cells, a .pointer, a .phase) (record { state = λ D. refl })
-
-pub judged :
-    {e e′ : Event} (T L : ℕ) (R ph : ℕ → ℕ) {r : ℕ} → e ≡ e′ → r ≡ judgedEvent ltb (plain e′) T L R ph → r ≡ judgedEvent ltb (plain e) T L R ph
-judged {e} {e′} T L R ph k a = a ∙ ap (λ (x : Event). judgedEvent ltb (plain x) T L R ph) (sym k)
-
-pub valued :
-    {e e′ : Event} (W P C : ℕ → ℕ) {r : ℕ} → e ≡ e′ → r ≡ valueBy (plain e′) W P C → r ≡ valueBy (plain e) W P C
-valued {e} {e′} W P C k a = a ∙ ap (λ (x : Event). valueBy (plain x) W P C) (sym k)
+  -- the three steps of a finish
+  pub all-three :
+      (v : ℕ) {q₁ q₂ q₃ : Saved} → q₁ ≡ withCells (set (q₀ .cells) (cellOf t (at (q₀ .newest) t)) v) q₀ → q₂ ≡ freedFirst t (q₀ .links) q₁ →
+      q₃ ≡ advanced 3 t q₂ → q₃ ≡ finished ltb t v q₀
+  all-three v e₁ e₂ e₃ = e₃ ∙ ap (advanced 3 t) (e₂ ∙ ap (freedFirst t (q₀ .links)) e₁)

@@ -1,38 +1,47 @@
 // What a start, a read and a finish do.
 ghost use mathlib.Core.Path.{_≡_};
-ghost use Prim.Native.Nat.{_≤_, min};
+ghost use Prim.Native.Nat.{ℕ, _<_, _≤_, min};
 ghost use lib.Dec.{ltb};
-ghost use Rattle.lists.specs.Lists.{upto};
 ghost use Rattle.protocol_state.specs.Saved.{at, base};
-ghost use Rattle.protocol_state.specs.Next.{phasesAfter, numberRead, freed, freedAt};
-ghost use Rattle.mailbox_parts.specs.Finishes.{Finishes};
+ghost use Rattle.protocol_state.specs.Next.{numberRead, freed, finished};
+ghost use Rattle.mailbox_layout.specs.Layout.{Becomes, stateOf, writerIn, pointerIn, cellsIn};
+ghost use Rattle.mailbox_parts.specs.Frees.{freedOne, freedFirst, advanced};
 use lists::few;
 use mailbox_base::decision::FINISH;
 use mailbox_base::decision::decide;
-use mailbox_base::numbers::CELLS;
 use mailbox_base::numbers::LINKS;
-use mailbox_base::numbers::TASKS;
-use mailbox_base::numbers::at;
-use mailbox_base::numbers::cell_at;
-use mailbox_base::numbers::cell_of;
 use mailbox_base::numbers::pick;
-use mailbox_base::numbers::put;
-use mailbox_base::numbers::put_number;
+use mailbox_layout::CONTROL;
+use mailbox_layout::NEWEST;
+use mailbox_layout::PHASE;
+use mailbox_layout::POINTER;
+use mailbox_layout::READER;
+use mailbox_layout::VALUES;
+use mailbox_layout::WRITER;
+use mailbox_layout::cell_at;
+use mailbox_layout::control_at;
+use mailbox_layout::put_cell;
+use mailbox_layout::put_control;
 
 // The next phase of task `t`, at an event of this kind.
-pub fn advance(kind: usize, t: u8, phase: &mut [u8; TASKS])
-    ensures { λ _. ⌜ now (phase .exit) ≡ phasesAfter kind t (now (phase .entry)) ⌝ }
+pub fn advance(kind: usize, t: u8, control: &mut [u8; CONTROL])
+    ensures { λ _. ⌜ ((T L : ℕ) → Becomes (advanced kind t) T L (now (control .entry)) (now (control .exit))) ⌝ }
 {
-    let next = decide(kind, at(phase, t as usize));
-    put(phase, t as usize, next);
+    let i = t as usize;
+    let next = decide(kind, control_at(control, PHASE, i));
+    put_control(control, PHASE, i, next);
 }
 
 // The number that link `l` reads: the one at its pointer in its writer's positions.
-pub fn number_of(l: u8, writer: &[u8; LINKS], pointer: &[u8; LINKS], cells: &[u32; CELLS]) -> u32
-    ensures { λ r. ⌜ r ≡ numberRead l (at (now (writer .entry))) (at (now (pointer .entry))) (at (now (cells .entry))) ⌝ }
+pub fn number_of(l: u8, control: &[u8; CONTROL], values: &[u32; VALUES]) -> u32
+    ensures { λ r. ⌜ r ≡ numberRead l (at (writerIn (now (control .entry)))) (at (pointerIn (now (control .entry)))) (at (cellsIn (now (values .entry)))) ⌝ }
 {
     let i = l as usize;
-    cell_at(cells, at(writer, i), at(pointer, i))
+    cell_at(
+        values,
+        control_at(control, WRITER, i),
+        control_at(control, POINTER, i),
+    )
 }
 
 // What becomes of the pointer `x` of a link from `w` to `r`, as `t` finishes.
@@ -42,39 +51,35 @@ fn freed_at(t: u8, w: u8, r: u8, x: u8) -> u8
     pick((r == t) & (w < t), 0, x)
 }
 
+// The pointer of link `l` becomes absent, if `t` reads by it from a writer ahead of it.
+fn free_pointer(t: u8, l: usize, control: &mut [u8; CONTROL])
+    ensures { λ _. ⌜ ((T L : ℕ) → Becomes (freedOne t l) T L (now (control .entry)) (now (control .exit))) ⌝ }
+{
+    let x = freed_at(
+        t,
+        control_at(control, WRITER, l),
+        control_at(control, READER, l),
+        control_at(control, POINTER, l),
+    );
+    put_control(control, POINTER, l, x);
+}
+
 // The pointers by which `t` reads from writers ahead of it become absent.
-fn free_pointers(
-    t: u8,
-    links: usize,
-    writer: &[u8; LINKS],
-    reader: &[u8; LINKS],
-    pointer: &mut [u8; LINKS],
-)
-    requires { ⌜ links ≤ base .links ⌝ }
-    ensures { λ _. ⌜ now (pointer .exit) ≡ upto (freedAt ltb t (at (now (writer .entry))) (at (now (reader .entry)))) links (now (pointer .entry)) ⌝ }
+fn free_pointers(t: u8, links: usize, control: &mut [u8; CONTROL])
+    ensures { λ _. ⌜ ((T L : ℕ) → Becomes (freedFirst t links) T L (now (control .entry)) (now (control .exit))) ⌝ }
 {
     let mut l = 0;
     while l < links {
-        pointer[l] = freed_at(t, writer[l], reader[l], pointer[l]);
+        free_pointer(t, l, control);
         l += 1;
     }
 }
 
 // A finish that is allowed: the value goes to the newest position. A count above the room is taken as the room.
-pub fn finish(
-    t: u8,
-    v: u32,
-    links: usize,
-    writer: &[u8; LINKS],
-    reader: &[u8; LINKS],
-    newest: &[u8; TASKS],
-    phase: &mut [u8; TASKS],
-    cells: &mut [u32; CELLS],
-    pointer: &mut [u8; LINKS],
-)
-    ensures { λ _. ⌜ Finishes t v (min links (base .links)) (now (writer .entry)) (now (reader .entry)) (now (newest .entry)) (now (phase .entry)) (now (cells .entry)) (now (pointer .entry)) (now (phase .exit)) (now (cells .exit)) (now (pointer .exit)) ⌝ }
+pub fn finish(t: u8, v: u32, links: usize, control: &mut [u8; CONTROL], values: &mut [u32; VALUES])
+    ensures { λ _. ⌜ ((T : ℕ) → stateOf T (min links (base .links)) (now (control .exit)) (now (values .exit)) ≡ finished ltb t v (stateOf T (min links (base .links)) (now (control .entry)) (now (values .entry)))) ⌝ }
 {
-    put_number(cells, cell_of(t, at(newest, t as usize)), v);
-    free_pointers(t, few(links, LINKS), writer, reader, pointer);
-    advance(FINISH, t, phase);
+    put_cell(values, t, control_at(control, NEWEST, t as usize), v);
+    free_pointers(t, few(links, LINKS), control);
+    advance(FINISH, t, control);
 }

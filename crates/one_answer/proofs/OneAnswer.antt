@@ -2,7 +2,7 @@
 -- Assumes nothing.
 use mathlib.Core.Path.{_≡_, refl, sym, ap, _∙_}
 use mathlib.Core.Bool.{cond}
-use mathlib.Core.List.{[], _∷_}
+use mathlib.Core.List.{List}
 use Prim.Native.Nat.{ℕ}
 use lib.Dec.{eqb}
 use Rattle.protocol.specs.Event as protocol
@@ -19,6 +19,18 @@ use Rattle.recording_read.specs.declared.event.Found.{Found}
 use Rattle.recording_read.specs.declared.event.Found.the-variants as found
 use Rattle.recording_read.specs.declared.event.Next.{Next}
 use Rattle.recording_read.specs.declared.event.Next.the-variants as next
+use Rattle.protocol_state.specs.Saved.{Saved}
+use Rattle.protocol_state.specs.Give.{Reply}
+use Rattle.protocol_state.specs.Fresh as fresh
+use Rattle.byte_format.specs.Play.{Verdict}
+use Rattle.mailbox.specs.States.{Given, MadeFrom}
+use Rattle.mailbox.specs.declared.State.{State}
+use Rattle.mailbox.specs.declared.Step.{Step}
+use Rattle.mailbox.specs.declared.Made.{Made}
+use Rattle.mailbox.proofs.Packed.{saved-same}
+use Rattle.recording_read.specs.Heads.{Heads}
+use Rattle.recording_read.specs.Sections.{HoldsTable}
+use Rattle.recording_read.specs.declared.table.Table.{Table}
 use Rattle.demands.proofs.Only.{reply-parts}
 use Rattle.one_answer.specs.OneAnswer.{OneAnswer}
 
@@ -76,24 +88,73 @@ found-back found.Missing = refl
 one-found : (f g : Found) → foundOf f 0 ≡ foundOf g 0 → f ≡ g
 one-found f g e = sym (found-back f) ∙ ap foundFrom e ∙ found-back g
 
+-- ---- what a state holds fixes it, where its arrays have their lengths
+
+one-step : {q : State} {e : protocol.Event ℕ} {a b : Step} → Given q e a → Given q e b → a ≡ b
+one-step {q} {e} {a} {b} x y =
+    let r = same (x .answer) (y .answer) in
+    λ i. record {
+      state = saved-same (a .state) (b .state) (x .whole) (y .whole) (ap (λ (s : Reply). s .state) r) i;
+      answer = record { refusal = r i .refusal; value = r i .value };
+    }
+
+one-made : {T L : ℕ} {D W R K : List ℕ} (a b : Made) → MadeFrom T L D W R K a → MadeFrom T L D W R K b → a ≡ b
+one-made a b x y =
+    let m = same (x .answer) (y .answer) in
+    λ i. record { refusal = m i .refusal; state = saved-same (a .state) (b .state) (x .whole) (y .whole) (ap (λ (s : fresh.Made). s .state) m) i }
+
+one-table : {x : Verdict Heads} (a b : Table) → HoldsTable x a → HoldsTable x b → a ≡ b
+one-table a b x y = λ i. record {
+  refusal = same (x .refusal) (y .refusal) i;
+  place = same (x .place) (y .place) i;
+  events = same (x .events) (y .events) i;
+  state = saved-same (a .state) (b .state) (x .whole) (y .whole) (same (x .state) (y .state)) i;
+}
+
+-- what two arrays hold, without the counts
+abbrev uncounted : Saved → Saved
+uncounted q = record {
+  tasks = 0;
+  links = 0;
+  defaults = q .defaults;
+  phase = q .phase;
+  newest = q .newest;
+  previous = q .previous;
+  cells = q .cells;
+  writer = q .writer;
+  reader = q .reader;
+  kind = q .kind;
+  pointer = q .pointer;
+}
+
 -- ---- the theorem
 pub one-answer : OneAnswer
 one-answer = record {
-  fresh = λ κs lent a b left left′ x y. same (x .0) (y .0);
-  arrival = λ κs lent a b left left′ x y. same (x .0) (y .0);
-  start = λ κs lent a b left left′ x y. same (x .0) (y .0);
-  read = λ κs lent a b left left′ x y. same (x .0) (y .0);
-  finish = λ κs lent a b left left′ x y. same (x .0) (y .0);
-  event = λ κs lent a b left left′ x y. same (x .0) (y .0);
+  fresh = λ κs lent a b left left′ x y. one-made a b (x .0) (y .0);
+  arrival = λ κs lent a b left left′ x y. one-step (x .0) (y .0);
+  start = λ κs lent a b left left′ x y. one-step (x .0) (y .0);
+  read = λ κs lent a b left left′ x y. one-step (x .0) (y .0);
+  finish = λ κs lent a b left left′ x y. one-step (x .0) (y .0);
+  event = λ κs lent a b left left′ x y. one-step (x .0) (y .0);
   sound = λ κs lent a b left left′ x y. same x y;
-  single = λ κs lent a b left left′ x y. same x y;
-  replay = λ κs lent a b left left′ x y. let e = reply-parts (same (x .0) (y .0)) in λ i. (e .0 i, e .1 i);
+  single = λ κs lent a b left left′ x y. saved-same a b (x .1) (y .1) (same (x .0) (y .0));
+  itself = λ κs lent a b left left′ x y. same (x .0) (y .0);
+  state-defaults = λ κs lent a b left left′ x y. same x y;
+  state-phase = λ κs lent a b left left′ x y. same x y;
+  state-newest = λ κs lent a b left left′ x y. same x y;
+  state-previous = λ κs lent a b left left′ x y. same x y;
+  state-cells = λ κs lent a b left left′ x y. same x y;
+  state-writer = λ κs lent a b left left′ x y. same x y;
+  state-reader = λ κs lent a b left left′ x y. same x y;
+  state-kind = λ κs lent a b left left′ x y. same x y;
+  state-pointer = λ κs lent a b left left′ x y. same x y;
+  replay = λ κs lent a b left left′ x y. let e = reply-parts (x .1 .0) (y .1 .0) (same (x .0) (y .0)) in λ i. (e .0 i, e .1 i);
   rest = λ κs lent a b left left′ x y. same x y;
   read-event = λ κs lent a b left left′ x y. one-next a b (same x y);
   kind-of = λ κs lent a b left left′ x y. one-found a b (same (x 0) (y 0));
   refused = λ κs lent a b left left′ x y. one-next a b (same x y);
   number-of = λ κs lent a b left left′ x y. same x y;
-  read-table = λ κs lent a b left left′ x y. same x y;
+  read-table = λ κs lent a b left left′ x y. one-table a b x y;
   new = λ bytes at w w′ x y. λ i. record { bytes = same (x .0) (y .0) i; at = same (x .1) (y .1) i };
   next = λ w n n′ x y. one-next n n′ (same x y);
   walk-rest = λ w part part′ x y. same x y;
@@ -105,8 +166,8 @@ one-answer = record {
   line-of = λ κs lent a b left left′ x y. same x y;
   make-recording = λ κs lent a b left left′ x y. λ i. (same (x .0) (y .0) i, same (x .1) (y .1) i);
   host-fresh = λ κs lent a b left left′ x y. let e = same x y in λ i. (e i .refusal, e i .state);
-  host-event = λ κs lent a b left left′ x y. let e = same (x .call []) (y .call []) in
-      λ i. (e i .refusal, (e i .value, e i .state .phase ∷ e i .state .newest ∷ e i .state .previous ∷ e i .state .cells ∷ e i .state .pointer ∷ []));
+  host-event = λ κs lent a b left left′ x y. let e = same (x .0) (y .0) in
+      λ i. (e i .refusal, (e i .value, uncounted (e i .state)));
   host-replay = λ κs lent a b left left′ x y. let p = x .0 in let q = y .0 in
       λ i. (same (p .refusal) (q .refusal) i, (same (p .place) (q .place) i, (same (p .counts) (q .counts) i, (same (p .state) (q .state) i, same (p .list) (q .list) i))));
   host-write = λ κs lent a b left left′ x y. let p = x .0 in let q = y .0 in

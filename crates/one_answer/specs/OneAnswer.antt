@@ -17,12 +17,12 @@ use Rattle.recording_read.specs.declared.event.Next.{Next}
 use Rattle.recording_read.specs.declared.event.Found.{Found}
 use Rattle.recording_read.specs.declared.table.Table.{Table}
 use Rattle.recording_write.specs.declared.Written as writer
-use Rattle.settings.specs.declared.Migration.{Migration}
+use Rattle.settings_list.specs.declared.Migration.{Migration}
 use Rattle.settings.specs.declared.Written as settings
 use Rattle.recording_text.specs.declared.Read.{Read}
 use Rattle.recording_make.specs.declared.Made as make
 use Rattle.recording_walk.specs.declared.Walker.{Walker}
-use Rattle.host_demands.specs.Hosts.{Changing, stateIn}
+use Rattle.host_demands.specs.Hosts.{stateWith, stateIn}
 use Rattle.mailbox.proofs.State.fresh.Kinds as of-fresh
 use Rattle.mailbox.proofs.State.fresh.Reads as on-fresh
 use Rattle.mailbox.proofs.State.arrival.Kinds as of-arrival
@@ -39,6 +39,26 @@ use Rattle.mailbox.proofs.State.sound.Kinds as of-sound
 use Rattle.mailbox.proofs.State.sound.Reads as on-sound
 use Rattle.mailbox.proofs.State.single.Kinds as of-single
 use Rattle.mailbox.proofs.State.single.Reads as on-single
+use Rattle.mailbox.proofs.State.defaults.Kinds as of-state-defaults
+use Rattle.mailbox.proofs.State.defaults.Reads as on-state-defaults
+use Rattle.mailbox.proofs.State.phase.Kinds as of-state-phase
+use Rattle.mailbox.proofs.State.phase.Reads as on-state-phase
+use Rattle.mailbox.proofs.State.newest.Kinds as of-state-newest
+use Rattle.mailbox.proofs.State.newest.Reads as on-state-newest
+use Rattle.mailbox.proofs.State.previous.Kinds as of-state-previous
+use Rattle.mailbox.proofs.State.previous.Reads as on-state-previous
+use Rattle.mailbox.proofs.State.cells.Kinds as of-state-cells
+use Rattle.mailbox.proofs.State.cells.Reads as on-state-cells
+use Rattle.mailbox.proofs.State.writer.Kinds as of-state-writer
+use Rattle.mailbox.proofs.State.writer.Reads as on-state-writer
+use Rattle.mailbox.proofs.State.reader.Kinds as of-state-reader
+use Rattle.mailbox.proofs.State.reader.Reads as on-state-reader
+use Rattle.mailbox.proofs.State.kind.Kinds as of-state-kind
+use Rattle.mailbox.proofs.State.kind.Reads as on-state-kind
+use Rattle.mailbox.proofs.State.pointer.Kinds as of-state-pointer
+use Rattle.mailbox.proofs.State.pointer.Reads as on-state-pointer
+use Rattle.mailbox.proofs.State.itself.Kinds as of-itself
+use Rattle.mailbox.proofs.State.itself.Reads as on-itself
 use Rattle.recording.proofs.replay.Kinds as of-replay
 use Rattle.recording.proofs.replay.Reads as on-replay
 use Rattle.recording.proofs.rest.Kinds as of-rest
@@ -85,12 +105,8 @@ abbrev pub One : (n : ℕ) (ps : List (PK n)) (r : RK n) → Out n ps r → (See
 One n ps r Learnt Seen sees = (κs : Lfts n) (lent : Dens κs ps) (a b : resT r κs .Denot) (left left′ : AtExit (endedOf n ps r) κs) →
     Learnt κs lent a left → Learnt κs lent b left′ → sees κs a left ≡ sees κs b left′
 
--- what the parts hold that events change
-abbrev pub changedIn : Changing → List (List ℕ)
-changedIn (ph, (n, (p, (C, (x, u))))) = now ph ∷ now n ∷ now p ∷ now C ∷ now x ∷ []
-
 pub record OneAnswer : Type 0 where
-  -- `mailbox`: `State::fresh`, `arrival`, `start`, `read`, `finish`, `event`, `sound`, `single`
+  -- `mailbox`: `State::fresh`, `arrival`, `start`, `read`, `finish`, `event`, `sound`, `single`, `itself`, and the accessors of a state's fields
   pub fresh : One 0 of-fresh.ps of-fresh.r on-fresh.Learnt Made (λ κs m left. m)
   pub arrival : One 0 of-arrival.ps of-arrival.r on-arrival.Learnt Step (λ κs s left. s)
   pub start : One 0 of-start.ps of-start.r on-start.Learnt Step (λ κs s left. s)
@@ -99,6 +115,16 @@ pub record OneAnswer : Type 0 where
   pub event : One 0 of-event.ps of-event.r on-event.Learnt Step (λ κs s left. s)
   pub sound : One 0 of-sound.ps of-sound.r on-sound.Learnt Bool (λ κs b left. b)
   pub single : One 0 of-single.ps of-single.r on-single.Learnt State (λ κs q left. q)
+  pub itself : One 0 of-itself.ps of-itself.r on-itself.Learnt State (λ κs q left. q)
+  pub state-defaults : One 0 of-state-defaults.ps of-state-defaults.r on-state-defaults.Learnt ℕ (λ κs n left. n)
+  pub state-phase : One 0 of-state-phase.ps of-state-phase.r on-state-phase.Learnt ℕ (λ κs n left. n)
+  pub state-newest : One 0 of-state-newest.ps of-state-newest.r on-state-newest.Learnt ℕ (λ κs n left. n)
+  pub state-previous : One 0 of-state-previous.ps of-state-previous.r on-state-previous.Learnt ℕ (λ κs n left. n)
+  pub state-cells : One 0 of-state-cells.ps of-state-cells.r on-state-cells.Learnt ℕ (λ κs n left. n)
+  pub state-writer : One 0 of-state-writer.ps of-state-writer.r on-state-writer.Learnt ℕ (λ κs n left. n)
+  pub state-reader : One 0 of-state-reader.ps of-state-reader.r on-state-reader.Learnt ℕ (λ κs n left. n)
+  pub state-kind : One 0 of-state-kind.ps of-state-kind.r on-state-kind.Learnt ℕ (λ κs n left. n)
+  pub state-pointer : One 0 of-state-pointer.ps of-state-pointer.r on-state-pointer.Learnt ℕ (λ κs n left. n)
   -- `recording`: the answer, and the lent list; a part of the recording by its bytes
   pub replay : One 2 of-replay.ps of-replay.r on-replay.Learnt (Answer × List ℕ) (λ κs a left. (a, now (left .1 .0)))
   pub rest : One 1 of-rest.ps of-rest.r on-rest.Learnt (List ℕ) (λ κs part left. now part)
@@ -123,9 +149,9 @@ pub record OneAnswer : Type 0 where
   pub line-of : One 1 of-line-of.ps of-line-of.r on-line-of.Learnt ℕ (λ κs n left. n)
   -- `recording_make`: the answer, and the lent buffer
   pub make-recording : One 2 of-make-recording.ps of-make-recording.r on-make-recording.Learnt (make.Made × List ℕ) (λ κs a left. (a, now (left .1 .0)))
-  -- what hosts link: the refusal, and all that is lent to be changed
-  pub host-fresh : One 15 of-host-fresh.ps of-host-fresh.r on-host-fresh.Learnt (ℕ × Saved) (λ κs r left. (r, stateIn (left .1 .1 .1 .1 .1 .1)))
-  pub host-event : One 9 of-host-event.ps of-host-event.r on-host-event.Learnt (ℕ × (ℕ × List (List ℕ))) (λ κs r left. (r, (now (left .1 .1 .1 .0), changedIn (left .1 .1 .1 .1 .1 .1 .1 .1 .1))))
-  pub host-replay : One 15 of-host-replay.ps of-host-replay.r on-host-replay.Learnt (ℕ × (ℕ × (List ℕ × (Saved × List ℕ)))) (λ κs r left. (r, (now (left .1 .1 .0), (now (left .1 .1 .1 .0), (stateIn (left .1 .1 .1 .1), now (left .1 .0))))))
+  -- what hosts link: the refusal, and all that is lent to be changed; of a state, what its arrays hold
+  pub host-fresh : One 8 of-host-fresh.ps of-host-fresh.r on-host-fresh.Learnt (ℕ × Saved) (λ κs r left. (r, stateIn (left .1 .1 .1 .1 .1 .1)))
+  pub host-event : One 3 of-host-event.ps of-host-event.r on-host-event.Learnt (ℕ × (ℕ × Saved)) (λ κs r left. (r, (now (left .1 .1 .1 .0), stateWith 0 0 (left .1 .1 .1 .1 .1 .1))))
+  pub host-replay : One 8 of-host-replay.ps of-host-replay.r on-host-replay.Learnt (ℕ × (ℕ × (List ℕ × (Saved × List ℕ)))) (λ κs r left. (r, (now (left .1 .1 .0), (now (left .1 .1 .1 .0), (stateIn (left .1 .1 .1 .1), now (left .1 .0))))))
   pub host-write : One 5 of-host-write.ps of-host-write.r on-host-write.Learnt (ℕ × (ℕ × List ℕ)) (λ κs r left. (r, (now (left .1 .1 .1 .1 .0), now (left .1 .1 .1 .0))))
   pub host-rest : One 1 of-host-rest.ps of-host-rest.r on-host-rest.Learnt ℕ (λ κs n left. n)

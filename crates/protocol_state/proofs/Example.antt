@@ -15,7 +15,7 @@ use Rattle.protocol_state.specs.Rules.{fault, judgedTable}
 use Rattle.protocol_state.specs.Decision.{decided}
 use Rattle.protocol_state.specs.Judge.{judgedArrival, judgedTask, judgedRead}
 use Rattle.protocol_state.specs.Next.{newestAfter, previousAfter, pointerAfter, phaseAfter}
-use Rattle.protocol_state.specs.Sound.{soundParts}
+use Rattle.protocol_state.specs.Sound.{isSound}
 use Rattle.protocol_state.specs.Fresh.{freshOf}
 use Rattle.protocol_state.specs.Give.{Progress, settled, begin, afterEvent, replay}
 
@@ -62,5 +62,5 @@ pub long-example :
     × (ideals (table ltb station) (all .history) ≡ eight)
     × (looked (table ltb station) (zeroRun (table ltb station) (upward 0 4) (all .history)) (all .history) ≡ theres eight)
     × (counts (table ltb station) (all .history) ≡ record { arrivals = 11; starts = 11; reads = 8; finishes = 11 })
-unfolding upto every some count first leading sum has fault judgedTable decided judgedArrival judgedTask judgedRead newestAfter previousAfter pointerAfter phaseAfter soundParts freshOf settled afterEvent replay arrivals starts reads finishes upTo output dues values ask readLinks runWhole work come carried upward sets find looked theres
+unfolding upto every some count first leading sum has fault judgedTable decided judgedArrival judgedTask judgedRead newestAfter previousAfter pointerAfter phaseAfter isSound freshOf settled afterEvent replay arrivals starts reads finishes upTo output dues values ask readLinks runWhole work come carried upward sets find looked theres
 long-example = (refl, refl, refl, refl, refl, refl, refl, refl)

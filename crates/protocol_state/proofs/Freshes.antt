@@ -3,10 +3,11 @@
 use mathlib.Core.Path.{_≡_, refl, sym, ap, _∙_}
 use mathlib.Core.Bool.{Bool, true, false, cond}
 use mathlib.Core.List.{List, []}
-use Prim.Native.Nat.{ℕ, _*_, _/_, _≤_, _<_}
+use Prim.Native.Nat.{ℕ, _*_, _/_, _≤_, _<_, min}
+use native.Mathlib.Nat.{min-eq-left}
 use native.Mathlib.Omega.{arith}
 use native.Mathlib.Decide.{decLe}
-use borrow.Author.Tests.{eqb-true, eqb-false}
+use borrow.Author.Tests.{lt-ltb, eqb-true, eqb-false}
 use lib.Dec.{eqb}
 use lib.ListN.{length, replicate, length-replicate, List·getD-eq-default}
 use Rattle.lists.proofs.Lists.{upto-at, length-upto}
@@ -42,6 +43,21 @@ copied-at size n xs l i h = upto-at (λ i x. at xs i) n (replicate size 0) i 0 h
 -- and its own length
 pub copied-length : (size n : ℕ) (xs : List ℕ) → length (copied size n xs) ≡ size
 copied-length size n xs = length-upto (λ i x. at xs i) n (replicate size 0) ∙ length-replicate {A = ℕ} size 0
+
+-- a table is judged by its first links alone: copied to their room they are judged alike, and more of them than the room are refused unseen
+pub judged-copied : (ahead : ℕ → ℕ → Bool) (size : Size) (T L : ℕ) (W R K : List ℕ)
+    → judgedTable ahead T (at (copied (size .links) (min L (size .links)) W)) (at (copied (size .links) (min L (size .links)) R)) (at (copied (size .links) (min L (size .links)) K)) size L
+    ≡ judgedTable ahead T (at W) (at R) (at K) size L
+unfolding judgedTable
+judged-copied ahead size T L W R K = go (decLe L (size .links)) where
+  go : Dec (L ≤ size .links)
+      → judgedTable ahead T (at (copied (size .links) (min L (size .links)) W)) (at (copied (size .links) (min L (size .links)) R)) (at (copied (size .links) (min L (size .links)) K)) size L
+      ≡ judgedTable ahead T (at W) (at R) (at K) size L
+  go (yes l) =
+      rw (min-eq-left l)
+      (judged-same ahead T L (at (copied (size .links) L W)) (at W) (at (copied (size .links) L R)) (at R) (at (copied (size .links) L K)) (at K)
+      (copied-at (size .links) L W l) (copied-at (size .links) L R l) (copied-at (size .links) L K l) size)
+  go (no l) = rw (lt-ltb (size .links) L (omega arith))
 
 filled-length : (size : ℕ) (D : List ℕ) → length (filled size D) ≡ size * 10
 filled-length size D = length-upto (λ i x. at D (i / 10)) (size * 10) (replicate (size * 10) 0) ∙ length-replicate {A = ℕ} (size * 10) 0
@@ -123,6 +139,14 @@ made-sound ahead size room T L D W R K = go (eqb (judgedTable ahead T (at W) (at
   go true e = says-sound ahead size (freshOf size T L D W R K) (fresh-sound size T L D W R K ahead (eqb-true _ 0 e))
   go false e = says-sound ahead size (single size) (fresh-sound size 1 0 (replicate 1 0) (replicate 0 0) (replicate 0 0) (replicate 0 0) ahead
       (rules.no-refusal ahead 1 (at (replicate 0 0)) (at (replicate 0 0)) (at (replicate 0 0)) size 0 (omega arith) room (omega arith) (λ l h. absurd (omega arith))))
+
+-- it has its shape
+pub made-shape : (ahead : ℕ → ℕ → Bool) (size : Size) (T L : ℕ) (D W R K : List ℕ) → Shape size (made ahead size T L D W R K .state)
+unfolding made
+made-shape ahead size T L D W R K = go (eqb (judgedTable ahead T (at W) (at R) (at K) size L) 0) where
+  go : (b : Bool) → Shape size (makes ahead size T L D W R K b .state)
+  go true = fresh-shape size T L D W R K
+  go false = fresh-shape size 1 0 (replicate 1 0) (replicate 0 0) (replicate 0 0) (replicate 0 0)
 
 -- and where it earns none, the table is judged 0 and the state is its fresh one
 pub made-fresh : (ahead : ℕ → ℕ → Bool) (size : Size) (T L : ℕ) (D W R K : List ℕ) → made ahead size T L D W R K .refusal ≡ 0

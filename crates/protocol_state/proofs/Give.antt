@@ -103,6 +103,13 @@ module _ (ahead : ℕ → ℕ → Bool) where
       go (inl w) = absurd (n (ap (λ (a : Reply). a .refusal) (w .2)))
       go (inr w) = (w .0, w .2)
 
+    -- what is handed back has its shape
+    pub give-shape : Shape size q → Shape size (give ahead size q e .state)
+    give-shape S = go give-ways where
+      go : Ways (isSound ahead size q) (judgedOn ahead q e) q (next ahead q e) (valueOf q e) (give ahead size q e) → Shape size (give ahead size q e .state)
+      go (inl w) = rw (w .2) (next-shape ahead S e)
+      go (inr w) = rw (w .0) S
+
     -- the state that comes back has its shape, and is sound if the one that was lent is
     pub give-sound : Shape size q → isSound ahead size q ≡ true → Shape size (give ahead size q e .state) × (isSound ahead size (give ahead size q e .state) ≡ true)
     give-sound S s = go give-ways where

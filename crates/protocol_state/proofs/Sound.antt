@@ -11,7 +11,7 @@ use Rattle.lists.proofs.Lists.{every-at, every-of}
 use Rattle.protocol.specs.Table.{N}
 use Rattle.protocol_state.specs.Saved.{Size, Saved, at, table}
 use Rattle.protocol_state.specs.Rules.{judgedTable}
-use Rattle.protocol_state.specs.Sound.{within, taskOk, pointerOk, soundParts, isSound, Sound}
+use Rattle.protocol_state.specs.Sound.{within, taskOk, pointerOk, isSound, Sound}
 use Rattle.protocol_state.proofs.Rules.{judged-keeps, keeps-judged}
 use Rattle.protocol_state.proofs.Places.{between, is-between, or-not}
 use Rattle.protocol_state.proofs.Rules as rules
@@ -30,24 +30,24 @@ pointer-is false a y p n = le-leb 1 y (p refl)
 pointer-is true true y p n = eq-eqb y 0 (n refl refl)
 pointer-is true false y p n = refl
 
--- where the test passes, there is room for the counts
-pub sound-room : (ahead : ℕ → ℕ → Bool) (size : Size) (T L : ℕ) (W R K ph n p x : ℕ → ℕ) → soundParts ahead size T L W R K ph n p x ≡ true → (T ≤ size .tasks) × (L ≤ size .links)
-unfolding soundParts
-sound-room ahead size T L W R K ph n p x s = rules.room ahead T W R K size L (eqb-true _ 0 (and-left (eqb (judgedTable ahead T W R K size L) 0) _ s))
-
 module _ (ahead : ℕ → ℕ → Bool) (size : Size) (q : Saved) where
   abbrev aTask : ℕ → Bool
-  aTask = taskOk ahead (q .links) (at (q .writer)) (at (q .reader)) (at (q .phase)) (at (q .newest)) (at (q .previous))
+  aTask = taskOk ahead q
 
   abbrev aPointer : ℕ → Bool
-  aPointer = pointerOk ahead (q .links) (at (q .writer)) (at (q .reader)) (at (q .phase)) (at (q .pointer))
+  aPointer = pointerOk ahead q
 
   abbrev judgement : ℕ
   judgement = judgedTable ahead (q .tasks) (at (q .writer)) (at (q .reader)) (at (q .kind)) size (q .links)
 
+  -- where the test passes, there is room for the counts
+  pub sound-room : isSound ahead size q ≡ true → (q .tasks ≤ size .tasks) × (q .links ≤ size .links)
+  unfolding isSound
+  sound-room s = rules.room ahead (q .tasks) (at (q .writer)) (at (q .reader)) (at (q .kind)) size (q .links) (eqb-true _ 0 (and-left (eqb judgement 0) _ s))
+
   -- where the test passes, the sentence holds
   pub sound-says : isSound ahead size q ≡ true → Sound ahead size q
-  unfolding soundParts
+  unfolding isSound
   sound-says e =
       let rest = and-right (eqb judgement 0) _ e in
       let tasks : (t : ℕ) → t < q .tasks → aTask t ≡ true = λ t l. every-at aTask (q .tasks) t (and-left (every aTask (q .tasks)) _ rest) l in
@@ -66,7 +66,7 @@ module _ (ahead : ℕ → ℕ → Bool) (size : Size) (q : Saved) where
 
   -- and where it holds, the test passes
   pub says-sound : Sound ahead size q → isSound ahead size q ≡ true
-  unfolding soundParts
+  unfolding isSound
   says-sound G =
       and-both (eq-eqb judgement 0 (keeps-judged ahead (q .tasks) (at (q .writer)) (at (q .reader)) (at (q .kind)) size (q .links) (G .rules)))
       (and-both

@@ -5,7 +5,7 @@ use mathlib.Core.Bool.{Bool, true, cond, not, _&&_, _||_}
 use Prim.Native.Nat.{ℕ, _+_, _≤_, _<_}
 use lib.Dec.{eqb, ltb, leb}
 use Rattle.lists.specs.Lists.{every}
-use Rattle.protocol.specs.Table.{behinds, N}
+use Rattle.protocol.specs.Table.{N}
 use Rattle.protocol.specs.Ranges.{Position}
 use Rattle.protocol_state.specs.Saved.{Size, Saved, at, table, oneTo}
 use Rattle.protocol_state.specs.Rules.{judgedTable, KeepsRules}
@@ -20,26 +20,23 @@ taskIs ph y z N = ltb ph 3 && (within N y && within N z)
 
 module _ (ahead : ℕ → ℕ → Bool) where
   -- task t is so
-  abbrev pub taskOk : ℕ → (ℕ → ℕ) → (ℕ → ℕ) → (ℕ → ℕ) → (ℕ → ℕ) → (ℕ → ℕ) → ℕ → Bool
-  taskOk L W R ph n p t = taskIs (ph t) (n t) (p t) (behinds ahead W R t L)
+  abbrev pub taskOk : Saved → ℕ → Bool
+  taskOk q t = taskIs (at (q .phase) t) (at (q .newest) t) (at (q .previous) t) (N (table ahead q) t)
 
   -- the pointer y of a link from w to r, a reader with this phase: up to N + 2, absent at an idle reader behind its writer, present at an active one
   abbrev pub pointerIs : ℕ → ℕ → ℕ → ℕ → ℕ → Bool
   pointerIs w r y ph N = leb y (N + 2) && cond (eqb ph 0) (not (ahead w r) || eqb y 0) (leb 1 y)
 
   -- link l's pointer is so
-  abbrev pub pointerOk : ℕ → (ℕ → ℕ) → (ℕ → ℕ) → (ℕ → ℕ) → (ℕ → ℕ) → ℕ → Bool
-  pointerOk L W R ph x l = pointerIs (W l) (R l) (x l) (ph (R l)) (behinds ahead W R (W l) L)
+  abbrev pub pointerOk : Saved → ℕ → Bool
+  pointerOk q l =
+      pointerIs (at (q .writer) l) (at (q .reader) l) (at (q .pointer) l) (at (q .phase) (at (q .reader) l)) (N (table ahead q) (at (q .writer) l))
 
   -- the test: the table keeps rules 2 to 9, each task and each pointer is as it must be
-  unfoldable pub soundParts : Size → ℕ → ℕ → (ℕ → ℕ) → (ℕ → ℕ) → (ℕ → ℕ) → (ℕ → ℕ) → (ℕ → ℕ) → (ℕ → ℕ) → (ℕ → ℕ) → Bool
-  soundParts size T L W R K ph n p x =
-      eqb (judgedTable ahead T W R K size L) 0 && (every (taskOk L W R ph n p) T && every (pointerOk L W R ph x) L)
-
-  -- that a saved state passes
-  abbrev pub isSound : Size → Saved → Bool
+  unfoldable pub isSound : Size → Saved → Bool
   isSound size q =
-      soundParts size (q .tasks) (q .links) (at (q .writer)) (at (q .reader)) (at (q .kind)) (at (q .phase)) (at (q .newest)) (at (q .previous)) (at (q .pointer))
+      eqb (judgedTable ahead (q .tasks) (at (q .writer)) (at (q .reader)) (at (q .kind)) size (q .links)) 0
+      && (every (taskOk q) (q .tasks) && every (pointerOk q) (q .links))
 
   -- document 01's sentence: the table keeps rules 2 to 9, newest and previous lie in 1 to N + 2, each present pointer does so for its writer,
   -- no pointer of an active reader is absent, and every pointer from a writer ahead of an idle reader is absent. `phase` says besides that a saved

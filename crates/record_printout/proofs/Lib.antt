@@ -1,4 +1,2 @@
--- Laws that the proofs cite, and worked examples.
-pub mod Lengths
-pub mod Examples
+-- Laws that the proofs cite.
 pub mod Printed

@@ -1,4 +1,2 @@
 -- What the contracts cite.
-pub mod Words
-pub mod Lines
 pub mod Printed

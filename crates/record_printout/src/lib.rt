@@ -1,14 +1,13 @@
 // The recording of a text, written to standard output; or why there is none, a line on standard error.
 //
 // What a program writes no contract can say, so of the functions that write it is proved that they are safe, that they end, and how many bytes the
-// recording has. What the lines hold is said by the contracts of the functions that put them, and which recording a text has by that of
-// `make_recording`.
+// recording has. What the lines hold is said by the contracts of `record_lines`, and which recording a text has by that of `make_recording`.
 ghost use mathlib.Core.Path.{_≡_};
-ghost use Rattle.text_line.specs.Shown.{shown, joined, Put};
 ghost use Rattle.record_printout.specs.Printed.{lengthPrinted};
-ghost use Rattle.record_printout.specs.Lines.{reason, faultLine, refusedLine, tooLongLine};
+use record_lines::put_fault;
+use record_lines::put_refused;
+use record_lines::put_too_long;
 use recording_make::make_recording;
-use text_line::Line;
 use text_line::ROOM;
 use text_line::show;
 use text_line::show_error;
@@ -18,51 +17,6 @@ pub const TEXT: usize = 1048576;
 
 // The bytes of the longest recording: T and the defaults, L and the links, E and the events.
 const RECORDING: usize = 1 + 4 * 16 + 1 + 3 * 32 + 2 + 6 * 10000;
-
-// A line with the reason for a fault more. What is no fault has words of its own.
-fn with_reason(line: Line, fault: u8) -> Line
-    ensures { λ r. ⌜ shown r ≡ joined (shown line) (reason fault) ⌝ }
-{
-    match fault {
-        1 => line.text(b": the first word is none of T, L, A, S, R and F"),
-        2 => line.text(b": not a number"),
-        3 => line.text(b": a number above 4294967295"),
-        4 => line.text(b": too few numbers"),
-        5 => line.text(b": too many numbers"),
-        _ => line.text(b": cannot be read"),
-    }
-}
-
-// A line of a text that cannot be read, and why.
-pub fn put_fault(line: usize, fault: u8, out: &mut [u8]) -> usize
-    ensures { λ r. ⌜ Put (faultLine line fault) (now (out .entry)) r (now (out .exit)) ⌝ }
-{
-    let named = Line::empty().text(b"line").number(line as u64);
-    let whole = with_reason(named, fault);
-    whole.put(out)
-}
-
-// A line of a text whose record is refused: the refusal and its place in the recording.
-pub fn put_refused(line: usize, refusal: u8, place: usize, out: &mut [u8]) -> usize
-    ensures { λ r. ⌜ Put (refusedLine line refusal place) (now (out .entry)) r (now (out .exit)) ⌝ }
-{
-    let whole = Line::empty()
-        .text(b"line")
-        .number(line as u64)
-        .text(b": refused")
-        .number(refusal as u64)
-        .text(b" at")
-        .number(place as u64);
-    whole.put(out)
-}
-
-// A text that is too long.
-pub fn put_too_long(out: &mut [u8]) -> usize
-    ensures { λ r. ⌜ Put tooLongLine (now (out .entry)) r (now (out .exit)) ⌝ }
-{
-    let whole = Line::empty().text(b"the text is longer than 1048576 bytes");
-    whole.put(out)
-}
 
 // Tells on standard error that a line cannot be read.
 fn tell_fault(line: usize, fault: u8) {

@@ -11,15 +11,16 @@ use lib.Dec.{eqb}
 use lib.ListN.{length, length-set}
 use Rattle.protocol.specs.Event.{Event, arrival, start, read, finish}
 use Rattle.protocol.specs.History.{reads, past}
-use Rattle.protocol_state.specs.Saved.{Size}
+use Rattle.protocol_state.specs.Saved.{Size, Saved}
 use Rattle.protocol_state.specs.Judge.{judgedOn}
 use Rattle.protocol_state.specs.Next.{next, valueOf}
 use Rattle.protocol_state.specs.Fresh.{single}
 use Rattle.byte_format.specs.Play.{Verdict, verdict, Allowed}
+use Rattle.byte_format.specs.End.{noLast, lastStep, lastly}
 use Rattle.byte_format.specs.Handed.{Handed, tally, weighed, weighedSection}
 use Rattle.recording_format.specs.Link.{Link, Links, listed}
 use Rattle.recording_format.specs.Event.{encodeEvent, events}
-use Rattle.recording_format.specs.Limits.{Limits, eventLimit}
+use Rattle.recording_format.specs.RecordingKind.{RecordingKind, eventLimit}
 use Rattle.recording_format.specs.Recording.{Core, Recorded}
 use Rattle.recording_format.specs.Writing.{tasksWeighed, linksWeighed, tableWeighed, recordingWeighed}
 use Rattle.recording_core.specs.Playing.{Playing, judgedIn, steppedIn, coreOf, stateCore, alone}
@@ -73,46 +74,54 @@ module _ (ahead : ℕ → ℕ → Bool) where
 
   -- so they are weighed the same
   weighed-with-room :
-      (ending : ℕ) (es : List (Event ℕ)) (h : List (Event ℕ)) (q : Playing) (p : ℕ) → q .counts .reads ≡ reads h → reads (past h es) ≤ length (q .list) →
-      weighed events (judgedOn ahead) (next ahead) ending (q .state) es p ≡ alone (weighed events (judgedIn ahead) (steppedIn ahead) ending q es p)
+      (kind : RecordingKind) (ending : ℕ) (es : List (Event ℕ)) (h : List (Event ℕ)) (q : Playing) (p : ℕ) → q .counts .reads ≡ reads h → reads (past h es) ≤ length (q .list) →
+      weighed (events kind) (judgedOn ahead) (next ahead) ending (q .state) es p ≡ alone (weighed (events kind) (judgedIn ahead) (steppedIn ahead) ending q es p)
   unfolding weighed past steppedIn
-  weighed-with-room ending [] h q p r l = refl
-  weighed-with-room ending (e ∷ es) h q p r l =
+  weighed-with-room kind ending [] h q p r l = refl
+  weighed-with-room kind ending (e ∷ es) h q p r l =
       let m : reads (e ∷ h) ≤ length (q .list) = omega (arith, reads-past (e ∷ h) es) in
       rw (judged-with-room q e h r m)
       (go (eqb (judgedOn ahead (q .state) e) 0)
-      (weighed-with-room ending es (e ∷ h) (steppedIn ahead q e) n (reads-next q e h r) (omega (arith, length-next q e))))
+      (weighed-with-room kind ending es (e ∷ h) (steppedIn ahead q e) n (reads-next q e h r) (omega (arith, length-next q e))))
     where
       j : ℕ
       j = judgedOn ahead (q .state) e
 
       n : ℕ
-      n = p + length (encodeEvent e)
+      n = p + length (encodeEvent kind e)
 
       go :
           (t : Bool) →
-          weighed events (judgedOn ahead) (next ahead) ending (next ahead (q .state) e) es n ≡ alone (weighed events (judgedIn ahead) (steppedIn ahead) ending (steppedIn ahead q e) es n) →
-          cond t (weighed events (judgedOn ahead) (next ahead) ending (next ahead (q .state) e) es n) (verdict j p (q .state))
-          ≡ alone (cond t (weighed events (judgedIn ahead) (steppedIn ahead) ending (steppedIn ahead q e) es n) (verdict j p q))
+          weighed (events kind) (judgedOn ahead) (next ahead) ending (next ahead (q .state) e) es n ≡ alone (weighed (events kind) (judgedIn ahead) (steppedIn ahead) ending (steppedIn ahead q e) es n) →
+          cond t (weighed (events kind) (judgedOn ahead) (next ahead) ending (next ahead (q .state) e) es n) (verdict j p (q .state))
+          ≡ alone (cond t (weighed (events kind) (judgedIn ahead) (steppedIn ahead) ending (steppedIn ahead q e) es n) (verdict j p q))
       go true i = i
       go false i = refl
 
+-- the last step is tried of the state alone
+lastly-alone : (last : Saved → ℕ) (x : Verdict Playing) → lastly last (alone x) ≡ alone (lastly (λ (q : Playing). last (q .state)) x)
+lastly-alone last x = go (eqb (x .refusal) 0)
+  where
+    go : (t : Bool) → cond t (lastStep last (alone x)) (alone x) ≡ alone (cond t (lastStep (λ (q : Playing). last (q .state)) x) x)
+    go true = refl
+    go false = refl
+
 -- so too with a table before them: the same refusal at the same place, in the same state
 pub whole-with-room :
-    (ahead : ℕ → ℕ → Bool) (most : Limits) (size : Size) (out ds : List ℕ) (ls : Handed Link) (es : Handed (Event ℕ)) → reads (past [] (es .whole)) ≤ length out →
-    recordingWeighed ahead most (stateCore ahead size) ds ls es ≡ alone (recordingWeighed ahead most (coreOf ahead size out) ds ls es)
+    (ahead : ℕ → ℕ → Bool) (kind : RecordingKind) (size : Size) (out ds : List ℕ) (ls : Handed Link) (es : Handed (Event ℕ)) → reads (past [] (es .whole)) ≤ length out →
+    recordingWeighed ahead kind (stateCore ahead size) ds ls es ≡ alone (recordingWeighed ahead kind (coreOf ahead size out) ds ls es)
 unfolding recordingWeighed tableWeighed weighedSection reads
-whole-with-room ahead most size out ds ls es l =
-    go (eqb (tasksWeighed most ds .refusal) 0) (eqb (linksWeighed ahead most (length (tasksWeighed most ds .state)) ls (tasksWeighed most ds .place) .refusal) 0) (eqb (eventLimit most (tally es)) 0)
+whole-with-room ahead kind size out ds ls es l =
+    go (eqb (tasksWeighed kind ds .refusal) 0) (eqb (linksWeighed ahead kind (length (tasksWeighed kind ds .state)) ls (tasksWeighed kind ds .place) .refusal) 0) (eqb (eventLimit kind (tally es)) 0)
   where
     T : Verdict (List ℕ)
-    T = tasksWeighed most ds
+    T = tasksWeighed kind ds
 
     L : Verdict Links
-    L = linksWeighed ahead most (length (T .state)) ls (T .place)
+    L = linksWeighed ahead kind (length (T .state)) ls (T .place)
 
     E : ℕ
-    E = eventLimit most (tally es)
+    E = eventLimit kind (tally es)
 
     q : Playing
     q = coreOf ahead size out .start (T .state) (L .state)
@@ -120,22 +129,24 @@ whole-with-room ahead most size out ds ls es l =
     go :
         (t u v : Bool) →
         cond t
-        (cond u (cond v (weighed events (judgedOn ahead) (next ahead) (es .ending) (q .state) (es .whole) (L .place + 2)) (verdict E (L .place) (single size))) (verdict (L .refusal) (L .place) (single size)))
+        (cond u (lastly noLast (cond v (weighed (events kind) (judgedOn ahead) (next ahead) (es .ending) (q .state) (es .whole) (L .place + kind .eventCountWidth)) (verdict E (L .place) (single size)))) (verdict (L .refusal) (L .place) (single size)))
         (verdict (T .refusal) (T .place) (single size))
         ≡ alone
         (cond t
-        (cond u (cond v (weighed events (judgedIn ahead) (steppedIn ahead) (es .ending) q (es .whole) (L .place + 2)) (verdict E (L .place) (coreOf ahead size out .single))) (verdict (L .refusal) (L .place) (coreOf ahead size out .single)))
+        (cond u (lastly noLast (cond v (weighed (events kind) (judgedIn ahead) (steppedIn ahead) (es .ending) q (es .whole) (L .place + kind .eventCountWidth)) (verdict E (L .place) (coreOf ahead size out .single)))) (verdict (L .refusal) (L .place) (coreOf ahead size out .single)))
         (verdict (T .refusal) (T .place) (coreOf ahead size out .single)))
-    go true true true = weighed-with-room ahead (es .ending) (es .whole) [] q (L .place + 2) refl l
-    go true true false = refl
+    go true true true =
+        ap (lastly noLast) (weighed-with-room ahead kind (es .ending) (es .whole) [] q (L .place + kind .eventCountWidth) refl l)
+        ∙ lastly-alone noLast (weighed (events kind) (judgedIn ahead) (steppedIn ahead) (es .ending) q (es .whole) (L .place + kind .eventCountWidth))
+    go true true false = lastly-alone noLast (verdict E (L .place) (coreOf ahead size out .single))
     go true false v = refl
     go false u v = refl
 
 -- a recording for one core is one for another that allows its events in their turn
 recorded-for :
-    {S S' : Type 0} (ahead : ℕ → ℕ → Bool) (most : Limits) (core : Core S) (core' : Core S') {s ds : List ℕ} {ls : List Link} {es : List (Event ℕ)} →
-    Recorded ahead most core s ds ls es → Allowed (core' .judge) (core' .step) (core' .start ds (listed ls)) es → Recorded ahead most core' s ds ls es
-recorded-for ahead most core core' r a =
+    {S S' : Type 0} (ahead : ℕ → ℕ → Bool) (kind : RecordingKind) (core : Core S) (core' : Core S') {s ds : List ℕ} {ls : List Link} {es : List (Event ℕ)} →
+    Recorded ahead kind core s ds ls es → Allowed (core' .judge) (core' .step) (core' .start ds (listed ls)) es → Recorded ahead kind core' s ds ls es
+recorded-for ahead kind core core' r a =
     record {
       bytes = r .bytes;
       tasked = r .tasked;
@@ -143,16 +154,16 @@ recorded-for ahead most core core' r a =
       played = record { counted = r .played .counted; few = r .played .few; fits = r .played .fits; allowed = a };
     }
 
-module _ (ahead : ℕ → ℕ → Bool) (most : Limits) (size : Size) (out : List ℕ) {s ds : List ℕ} {ls : List Link} {es : List (Event ℕ)} where
+module _ (ahead : ℕ → ℕ → Bool) (kind : RecordingKind) (size : Size) (out : List ℕ) {s ds : List ℕ} {ls : List Link} {es : List (Event ℕ)} where
   -- a recording by the state alone is one for a list with room
-  pub recorded-with-room : reads (past [] es) ≤ length out → Recorded ahead most (stateCore ahead size) s ds ls es → Recorded ahead most (coreOf ahead size out) s ds ls es
+  pub recorded-with-room : reads (past [] es) ≤ length out → Recorded ahead kind (stateCore ahead size) s ds ls es → Recorded ahead kind (coreOf ahead size out) s ds ls es
   unfolding reads
   recorded-with-room l r =
-      recorded-for ahead most (stateCore ahead size) (coreOf ahead size out) r
+      recorded-for ahead kind (stateCore ahead size) (coreOf ahead size out) r
       (allowed-with-room ahead es [] (coreOf ahead size out .start ds (listed ls)) refl (r .played .allowed) l)
 
   -- and one for any list is one by the state alone
-  pub recorded-by-state : Recorded ahead most (coreOf ahead size out) s ds ls es → Recorded ahead most (stateCore ahead size) s ds ls es
+  pub recorded-by-state : Recorded ahead kind (coreOf ahead size out) s ds ls es → Recorded ahead kind (stateCore ahead size) s ds ls es
   recorded-by-state r =
-      recorded-for ahead most (coreOf ahead size out) (stateCore ahead size) r
+      recorded-for ahead kind (coreOf ahead size out) (stateCore ahead size) r
       (allowed-by-state ahead es (coreOf ahead size out .start ds (listed ls)) (r .played .allowed))

@@ -3,12 +3,12 @@
 -- Assumes nothing.
 use mathlib.Core.Path.{_≡_, refl}
 use mathlib.Core.List.{List, [], _∷_, _++_, map}
-use Prim.Native.Nat.{ℕ, _-_}
+use Prim.Native.Nat.{ℕ, _-_, _*_}
 use lib.Dec.{ltb}
 use lib.ListN.{length, replicate}
 use Rattle.lists.specs.Lists.{upto, every, some, count, first, leading}
 use Rattle.protocol.specs.Event.{Event, arrival, start, read, finish, has}
-use Rattle.protocol_state.specs.Saved.{Saved, base}
+use Rattle.protocol_state.specs.Saved.{Saved, base, positions}
 use Rattle.protocol_state.specs.Decision.{decided}
 use Rattle.protocol_state.specs.Judge.{judgedArrival, judgedTask, judgedRead}
 use Rattle.protocol_state.specs.Next.{newestAfter, previousAfter, pointerAfter, phaseAfter}
@@ -20,7 +20,7 @@ use Rattle.byte_format.specs.Section.{countAt, section}
 use Rattle.recording_format.specs.Link.{Link, linkFault}
 use Rattle.recording_format.specs.Event.{encodeEvent}
 use Rattle.byte_format.specs.Kinded.{firstByte}
-use Rattle.recording_format.specs.Limits.{baseLimits}
+use Rattle.recording_format.specs.RecordingKind.{baseRecording}
 use Rattle.recording_format.specs.Recording.{encodeRecording, tableThen, eventsFrom, recording}
 use Rattle.recording_core.specs.Playing.{Playing, coreOf, judgedIn, steppedIn}
 
@@ -30,7 +30,7 @@ filledUp n x xs = xs ++ replicate (n - length xs) x
 
 -- the answer to these bytes, with room for eight numbers, each 7 at first
 abbrev answer : List ℕ → Verdict Playing
-answer s = recording ltb baseLimits (coreOf ltb base (replicate 8 7)) s
+answer s = recording ltb baseRecording (coreOf ltb base (replicate 8 7)) s
 
 -- refusal r, 0 for none, at p, with this state and these counts: arrivals, starts, reads and finishes; and with these numbers read
 abbrev replied : ℕ → ℕ → Saved → ℕ → ℕ → ℕ → ℕ → List ℕ → Verdict Playing
@@ -48,15 +48,15 @@ abbrev fresh : ℕ → ℕ → List ℕ → List ℕ → List ℕ → Saved
 fresh T L W R K = record {
   tasks = T;
   links = L;
-  defaults = replicate 16 0;
-  phase = replicate 16 0;
-  newest = replicate 16 1;
-  previous = replicate 16 1;
-  cells = replicate 160 0;
-  writer = filledUp 32 0 W;
-  reader = filledUp 32 0 R;
-  kind = filledUp 32 0 K;
-  pointer = replicate 32 0;
+  defaults = replicate (base .tasks) 0;
+  phase = replicate (base .tasks) 0;
+  newest = replicate (base .tasks) 1;
+  previous = replicate (base .tasks) 1;
+  cells = replicate (base .tasks * positions) 0;
+  writer = filledUp (base .links) 0 W;
+  reader = filledUp (base .links) 0 R;
+  kind = filledUp (base .links) 0 K;
+  pointer = replicate (base .links) 0;
 }
 
 -- a single task with no links: the state at a refusal before the events
@@ -65,32 +65,32 @@ alone = fresh 1 0 [] [] []
 
 -- two tasks and one link
 abbrev joined : ℕ → ℕ → ℕ → List ℕ
-joined w r k = encodeRecording (0 ∷ 0 ∷ []) (link w r k ∷ []) []
+joined w r k = encodeRecording baseRecording (0 ∷ 0 ∷ []) (link w r k ∷ []) []
 
 -- task 0 to tasks 1 to 8, and to task 9 besides
 abbrev nine : List ℕ
 nine =
-    encodeRecording (replicate 10 0)
+    encodeRecording baseRecording (replicate 10 0)
     (link 0 1 0 ∷ link 0 2 0 ∷ link 0 3 0 ∷ link 0 4 0 ∷ link 0 5 0 ∷ link 0 6 0 ∷ link 0 7 0 ∷ link 0 8 0 ∷ link 0 9 0 ∷ []) []
 
 -- the station of the long example, with these events
 abbrev example : List (Event ℕ) → List ℕ
-example es = encodeRecording (0 ∷ 100 ∷ 0 ∷ 0 ∷ []) (link 1 0 1 ∷ link 1 2 0 ∷ link 1 3 0 ∷ []) es
+example es = encodeRecording baseRecording (0 ∷ 100 ∷ 0 ∷ 0 ∷ []) (link 1 0 1 ∷ link 1 2 0 ∷ link 1 3 0 ∷ []) es
 
 -- its state: phases, newest and previous of its tasks, the first numbers of task 1, which has 100 at the other positions, and pointers of its links
 abbrev station : List ℕ → List ℕ → List ℕ → List ℕ → List ℕ → Saved
 station ph n p c x = record {
   tasks = 4;
   links = 3;
-  defaults = filledUp 16 0 (0 ∷ 100 ∷ []);
-  phase = filledUp 16 0 ph;
-  newest = filledUp 16 1 n;
-  previous = filledUp 16 1 p;
-  cells = filledUp 160 0 (replicate 10 0 ++ filledUp 10 100 c);
-  writer = filledUp 32 0 (1 ∷ 1 ∷ 1 ∷ []);
-  reader = filledUp 32 0 (0 ∷ 2 ∷ 3 ∷ []);
-  kind = filledUp 32 0 (1 ∷ []);
-  pointer = filledUp 32 0 x;
+  defaults = filledUp (base .tasks) 0 (0 ∷ 100 ∷ []);
+  phase = filledUp (base .tasks) 0 ph;
+  newest = filledUp (base .tasks) 1 n;
+  previous = filledUp (base .tasks) 1 p;
+  cells = filledUp (base .tasks * positions) 0 (replicate positions 0 ++ filledUp positions 100 c);
+  writer = filledUp (base .links) 0 (1 ∷ 1 ∷ 1 ∷ []);
+  reader = filledUp (base .links) 0 (0 ∷ 2 ∷ 3 ∷ []);
+  kind = filledUp (base .links) 0 (1 ∷ []);
+  pointer = filledUp (base .links) 0 x;
 }
 
 -- after the first arrival, with these phases

@@ -2,19 +2,17 @@
 -- Assumes nothing.
 use mathlib.Core.Path.{_≡_, sym, ap, _∙_}
 use mathlib.Core.List.{List}
-use Prim.Native.Nat.{ℕ, _≤_}
-use native.Mathlib.Omega.{arith}
+use Prim.Native.Nat.{ℕ}
 use lib.Dec.{ltb}
-use lib.ListN.{length, drop, take-append-drop}
+use lib.ListN.{drop, take-append-drop}
 use contract.Lifetimes.{Lfts}
 use denote.Ref.{now}
 use denote.Triple.Clauses.{AtExit}
 use borrow.Fn.Kinds.{Dens, resT, endedOf}
 use Rattle.protocol_state.specs.Saved.{base}
-use Rattle.byte_format.specs.Play.{Verdict}
-use Rattle.recording_format.specs.Limits.{baseLimits}
-use Rattle.recording_format.specs.Outcome.{RecordingOutcome, taskCount, taskRecord, linkCount, linkRecord, eventCount, eventRecord, extraBytes, accepted}
-use Rattle.recording_core.specs.Playing.{Playing, coreOf}
+use Rattle.recording_format.specs.RecordingKind.{baseRecording}
+use Rattle.recording_format.proofs.Outcomes.{place-within}
+use Rattle.recording_core.specs.Playing.{coreOf}
 use Rattle.recording.proofs.rest.Kinds.{ps, r}
 use Rattle.recording.proofs.rest.Reads.{Learnt}
 use Rattle.recording.specs.declared.Answer.{Answer}
@@ -22,22 +20,11 @@ use Rattle.recording_demands.specs.Ensured.{Replays}
 use Rattle.recording_demands.specs.Rest.{Unread}
 use Rattle.recording_demands.proofs.Demands.{answered, accepted-only, accepted-rest}
 
--- the place of an answer lies in the recording, or at its end
-place-within : (out s : List ℕ) {x : Verdict Playing} → RecordingOutcome ltb baseLimits (coreOf ltb base out) s x → x .place ≤ length s
-place-within out s (taskCount r n c e) = rw e (omega arith)
-place-within out s (taskRecord ds r p n f e) = rw e (f .played .bytes .within)
-place-within out s (linkCount ds r p n t c e) = rw e (t .bytes .within)
-place-within out s (linkRecord ds m ls r p n t f e) = rw e (f .played .bytes .within)
-place-within out s (eventCount ds ls r p n t c e) = rw e (t .linked .bytes .within)
-place-within out s (eventRecord ds ls m es r p n t f e) = rw e (f .played .bytes .within)
-place-within out s (extraBytes ds ls m es p t w l e) = rw e (omega arith)
-place-within out s (accepted ds ls m es t w e) = rw e (omega arith)
-
 -- the part of the recording from the place of its answer on is the unread rest
 pub unread : {s out list rest : List ℕ} {a : Answer} → Replays s out a list → rest ≡ drop (a .place) s → Unread s (a .refusal) (a .place) rest
 unread {s} {out} {list} {rest} {a} said e = record {
   part = e;
-  within = place-within out s (answered said);
+  within = place-within ltb baseRecording (coreOf ltb base out) s (answered said);
   whole = rw e (sym (take-append-drop (a .place) s));
   none = λ z. let g = accepted-only said z in e ∙ accepted-rest said (g .1 .1 .1);
 }

@@ -6,13 +6,15 @@ use Prim.Native.Nat.{ℕ}
 use lib.Dec.{ltb}
 use Rattle.protocol_state.specs.Saved.{base}
 use Rattle.byte_format.specs.Number.{Bytes}
-use Rattle.recording_format.specs.Limits.{baseLimits}
+use Rattle.mailbox.specs.States.{Whole}
+use Rattle.recording_format.specs.RecordingKind.{baseRecording}
 use Rattle.recording_format.specs.Recording.{recording}
 use Rattle.recording_core.specs.Playing.{coreOf}
 use Rattle.recording.specs.Answers.{replied}
 use Rattle.recording.specs.declared.Answer.{Answer}
 
--- the two clauses of `recording::replay`, for the bytes s and the lent list out: it answers a and leaves list
+-- the three clauses of `recording::replay`, for the bytes s and the lent list out: it answers a and leaves list
 pub record Replays (s out : List ℕ) (a : Answer) (list : List ℕ) : Type 0 where
-  pub answer : replied a list ≡ recording ltb baseLimits (coreOf ltb base out) s
+  pub answer : replied a list ≡ recording ltb baseRecording (coreOf ltb base out) s
+  pub whole : Whole (a .state)
   pub bytes : Bytes s

@@ -10,11 +10,11 @@ use Rattle.byte_format.specs.Format.{encodes}
 use Rattle.byte_format.specs.Kinded.{firstByte}
 use Rattle.byte_format.specs.Handed.{atMost, weighed, weighedSection}
 use Rattle.recording_format.specs.Writing.{tableWeighed, recordingWeighed, writing, bufferAfter}
-use Rattle.recording_text.specs.Pieces.{pieces, filled}
-use Rattle.recording_text.specs.Numeral.{allDigits, valueFrom, numberFault, firstFault, fieldValues}
-use Rattle.recording_text.specs.Line.{sort, recordOf, fieldsSay}
+use Rattle.recording_text_fields.specs.Pieces.{pieces, filled}
+use Rattle.recording_text_fields.specs.Numeral.{allDigits, valueFrom, numberFault, firstFault, fieldValues}
+use Rattle.recording_text_line.specs.Line.{sort, recordOf, fieldsSay}
 use Rattle.recording_text.specs.Text.{readable, textFault, recordsOf, joined, stored, readOf}
-use Rattle.recording_text.specs.Place.{bytesOf as recordBytes, allBytes, lineAfter, refusalLine}
+use Rattle.recording_text_place.specs.Place.{bytesOf as recordBytes, allBytes, lineAfter, refusalLine}
 use Rattle.recording_make.specs.Made.{lineTold, madeOf, bufferOf}
 
 -- `T 7` in room for nine bytes: the eight of its recording, and the ninth as it was

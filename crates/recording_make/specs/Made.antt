@@ -8,7 +8,7 @@ use Rattle.protocol_state.specs.Saved.{Saved}
 use Rattle.byte_format.specs.Play.{Verdict}
 use Rattle.recording_write.specs.Answers.{replyTo, bufferTo}
 use Rattle.recording_text.specs.Text.{readOf, defaultsOf, linksOf, eventsOf}
-use Rattle.recording_text.specs.Place.{lineOf}
+use Rattle.recording_text_place.specs.Place.{lineOf}
 use Rattle.recording_make.specs.declared.Made.{Made}
 
 -- a text that cannot be read: the fault and its line

@@ -4,16 +4,21 @@
 // lent list then holds. Each line is made by `recording_lines`, whose contracts say what stands in it; the numbers are those that
 // `recording::replay` answers with.
 ghost use mathlib.Core.Path.{_≡_};
-ghost use Prim.Native.Nat.{_≤_};
-ghost use Rattle.protocol_state.specs.Saved.{base};
 ghost use Rattle.recording.specs.Answers.{listAfter};
 use lists::few;
 use mailbox::State;
-use mailbox_base::numbers::CELLS;
 use mailbox_base::numbers::LINKS;
 use mailbox_base::numbers::POSITIONS;
 use mailbox_base::numbers::TASKS;
 use mailbox_checks::links::readers_behind;
+use mailbox_layout::CONTROL;
+use mailbox_layout::NEWEST;
+use mailbox_layout::PHASE;
+use mailbox_layout::POINTER;
+use mailbox_layout::PREVIOUS;
+use mailbox_layout::VALUES;
+use mailbox_layout::cells_in;
+use mailbox_layout::control_at;
 use mailbox_parts::event::Event;
 use recording::replay;
 use recording::rest;
@@ -116,32 +121,24 @@ pub fn print_replay(s: &[u8], out: &mut [u32])
     print_end(a.refusal, a.place, t.events);
 }
 
-// Writes the line of a task with so many links to readers behind: it has two positions more.
-fn print_task(t: usize, behind: usize, phase: u8, newest: u8, previous: u8, cells: &[u32; CELLS])
-    requires { ⌜ (t ≤ base .tasks) × (behind ≤ base .links) ⌝ }
-{
+// Writes the line of a task: it has as many positions as links to readers behind, and two more.
+fn print_task(task: u8, links: usize, control: &[u8; CONTROL], values: &[u32; VALUES]) {
+    let t = task as usize;
     let mut line = [0u8; LINE];
-    let own = part(cells, t * POSITIONS, behind + 2);
+    let behind = readers_behind(control, links, t);
+    let own = part(cells_in(values), t * POSITIONS, behind + 2);
+    let phase = control_at(control, PHASE, t);
+    let newest = control_at(control, NEWEST, t);
+    let previous = control_at(control, PREVIOUS, t);
     show(put_task(t, phase, newest, previous, own, &mut line), &line);
 }
 
-// Writes a line for each task.
-fn print_tasks(
-    tasks: usize,
-    links: usize,
-    writer: &[u8; LINKS],
-    reader: &[u8; LINKS],
-    phase: &[u8; TASKS],
-    newest: &[u8; TASKS],
-    previous: &[u8; TASKS],
-    cells: &[u32; CELLS],
-)
-    requires { ⌜ (tasks ≤ base .tasks) × (links ≤ base .links) ⌝ }
-{
-    let mut t = 0;
-    while t < tasks {
-        let behind = readers_behind(writer, reader, links, t);
-        print_task(t, behind, phase[t], newest[t], previous[t], cells);
+// Writes a line for each task. Here and below a count, never more than there is room for, is held to the room all the same.
+fn print_tasks(tasks: usize, links: usize, control: &[u8; CONTROL], values: &[u32; VALUES]) {
+    let end = few(tasks, TASKS);
+    let mut t: usize = 0;
+    while t < end {
+        print_task(t as u8, links, control, values);
         t += 1;
     }
 }
@@ -153,38 +150,21 @@ fn print_link(l: usize, pointer: u8) {
 }
 
 // Writes a line for each link.
-fn print_links(links: usize, pointer: &[u8; LINKS])
-    requires { ⌜ links ≤ base .links ⌝ }
-{
+fn print_links(links: usize, control: &[u8; CONTROL]) {
+    let end = few(links, LINKS);
     let mut l = 0;
-    while l < links {
-        print_link(l, pointer[l]);
+    while l < end {
+        print_link(l, control_at(control, POINTER, l));
         l += 1;
     }
 }
 
-// Writes a state: its tasks, then its links. Its counts, never more than there is room for, are held to the room all the same.
+// Writes a state: its tasks, then its links.
 fn print_state(q: State) {
-    let tasks = few(q.tasks, TASKS);
-    let links = few(q.links, LINKS);
-    let writer = q.writer;
-    let reader = q.reader;
-    let phase = q.phase;
-    let newest = q.newest;
-    let previous = q.previous;
-    let cells = q.cells;
-    let pointer = q.pointer;
-    print_tasks(
-        tasks,
-        links,
-        &writer,
-        &reader,
-        &phase,
-        &newest,
-        &previous,
-        &cells,
-    );
-    print_links(links, &pointer);
+    let control = q.control;
+    let values = q.values;
+    print_tasks(q.tasks, q.links, &control, &values);
+    print_links(q.links, &control);
 }
 
 // Writes the refusal, the place and the counts that a replay answers with.

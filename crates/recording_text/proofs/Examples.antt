@@ -1,52 +1,11 @@
--- What lines and texts say, computed from the definitions.
+-- What texts say, computed from the definitions.
 -- Assumes nothing.
 use mathlib.Core.Path.{_≡_, refl}
 use mathlib.Core.List.{[], _∷_}
-use Rattle.recording_text.specs.Pieces.{pieces, filled}
-use Rattle.recording_text.specs.Numeral.{allDigits, valueFrom, numberFault, firstFault, fieldValues, setWith}
-use Rattle.recording_text.specs.Line.{nothing, faulty, saying, sort, recordOf, fieldsSay, says}
+use Rattle.recording_text_fields.specs.Pieces.{pieces, filled}
+use Rattle.recording_text_fields.specs.Numeral.{allDigits, valueFrom, numberFault, firstFault, fieldValues, setWith}
+use Rattle.recording_text_line.specs.Line.{sort, recordOf, fieldsSay}
 use Rattle.recording_text.specs.Text.{readable, textFault, recordsOf, joined, stored, answerOf, readOf, eventsOf}
-use Rattle.recording_text.specs.Place.{bytesOf, allBytes, lineAfter, refusalLine, lineOf}
-
--- `F 1 101`, blanks around it and a carriage return at its end
-finish : says (32 ∷ 70 ∷ 9 ∷ 49 ∷ 32 ∷ 32 ∷ 49 ∷ 48 ∷ 49 ∷ 32 ∷ 13 ∷ []) ≡ saying 70 (4 ∷ 1 ∷ 101 ∷ [])
-unfolding pieces filled allDigits valueFrom numberFault firstFault fieldValues setWith sort recordOf fieldsSay
-finish = refl
-
--- `A 0 1 2 3 1 40`: a task named twice, and one above 31
-arrival : says (65 ∷ 32 ∷ 48 ∷ 32 ∷ 49 ∷ 32 ∷ 50 ∷ 32 ∷ 51 ∷ 32 ∷ 49 ∷ 32 ∷ 52 ∷ 48 ∷ []) ≡ saying 65 (1 ∷ 2147483663 ∷ [])
-unfolding pieces filled allDigits valueFrom numberFault firstFault fieldValues setWith sort recordOf fieldsSay
-arrival = refl
-
--- `# T`
-remark : says (35 ∷ 32 ∷ 84 ∷ []) ≡ nothing
-unfolding pieces filled allDigits valueFrom numberFault firstFault fieldValues setWith sort recordOf fieldsSay
-remark = refl
-
--- `TT 1`: the first word is no letter
-letters : says (84 ∷ 84 ∷ 32 ∷ 49 ∷ []) ≡ faulty 1
-unfolding pieces filled allDigits valueFrom numberFault firstFault fieldValues setWith sort recordOf fieldsSay
-letters = refl
-
--- `L 1 x 99999999999`: the first fault from the left
-word : says (76 ∷ 32 ∷ 49 ∷ 32 ∷ 120 ∷ 32 ∷ 57 ∷ 57 ∷ 57 ∷ 57 ∷ 57 ∷ 57 ∷ 57 ∷ 57 ∷ 57 ∷ 57 ∷ 57 ∷ []) ≡ faulty 2
-unfolding pieces filled allDigits valueFrom numberFault firstFault fieldValues setWith sort recordOf fieldsSay
-word = refl
-
--- `T 4294967296 1`: a number too large before a number too many
-large : says (84 ∷ 32 ∷ 52 ∷ 50 ∷ 57 ∷ 52 ∷ 57 ∷ 54 ∷ 55 ∷ 50 ∷ 57 ∷ 54 ∷ 32 ∷ 49 ∷ []) ≡ faulty 3
-unfolding pieces filled allDigits valueFrom numberFault firstFault fieldValues setWith sort recordOf fieldsSay
-large = refl
-
--- `F 1`: no value
-few : says (70 ∷ 32 ∷ 49 ∷ []) ≡ faulty 4
-unfolding pieces filled allDigits valueFrom numberFault firstFault fieldValues setWith sort recordOf fieldsSay
-few = refl
-
--- `S 1 2`
-many : says (83 ∷ 32 ∷ 49 ∷ 32 ∷ 50 ∷ []) ≡ faulty 5
-unfolding pieces filled allDigits valueFrom numberFault firstFault fieldValues setWith sort recordOf fieldsSay
-many = refl
 
 -- a text of six lines, the last with no line feed: tasks 7 and 0, one link, two events
 whole : readOf (35 ∷ 10 ∷ 76 ∷ 32 ∷ 48 ∷ 32 ∷ 49 ∷ 32 ∷ 48 ∷ 10 ∷ 84 ∷ 32 ∷ 55 ∷ 10 ∷ 65 ∷ 32 ∷ 48 ∷ 32 ∷ 49 ∷ 10 ∷ 84 ∷ 32 ∷ 48 ∷ 10 ∷ 70 ∷ 32 ∷ 48 ∷ 32 ∷ 52 ∷ 50 ∷ []) ≡ answerOf 0 0 2 3 5
@@ -56,17 +15,3 @@ whole = refl
 numbers : eventsOf (35 ∷ 10 ∷ 76 ∷ 32 ∷ 48 ∷ 32 ∷ 49 ∷ 32 ∷ 48 ∷ 10 ∷ 84 ∷ 32 ∷ 55 ∷ 10 ∷ 65 ∷ 32 ∷ 48 ∷ 32 ∷ 49 ∷ 10 ∷ 84 ∷ 32 ∷ 48 ∷ 10 ∷ 70 ∷ 32 ∷ 48 ∷ 32 ∷ 52 ∷ 50 ∷ []) ≡ 1 ∷ 3 ∷ 4 ∷ 0 ∷ 42 ∷ []
 unfolding pieces filled allDigits valueFrom numberFault firstFault fieldValues setWith sort recordOf fieldsSay readable textFault recordsOf joined stored readOf
 numbers = refl
-
--- its second event begins at 18; there is no seventeenth task
-second-event : lineOf (35 ∷ 10 ∷ 76 ∷ 32 ∷ 48 ∷ 32 ∷ 49 ∷ 32 ∷ 48 ∷ 10 ∷ 84 ∷ 32 ∷ 55 ∷ 10 ∷ 65 ∷ 32 ∷ 48 ∷ 32 ∷ 49 ∷ 10 ∷ 84 ∷ 32 ∷ 48 ∷ 10 ∷ 70 ∷ 32 ∷ 48 ∷ 32 ∷ 52 ∷ 50 ∷ []) 12 18 ≡ 6
-unfolding pieces filled allDigits valueFrom numberFault firstFault fieldValues setWith sort recordOf fieldsSay bytesOf allBytes lineAfter refusalLine
-second-event = refl
-
-no-seventeenth : lineOf (35 ∷ 10 ∷ 76 ∷ 32 ∷ 48 ∷ 32 ∷ 49 ∷ 32 ∷ 48 ∷ 10 ∷ 84 ∷ 32 ∷ 55 ∷ 10 ∷ 65 ∷ 32 ∷ 48 ∷ 32 ∷ 49 ∷ 10 ∷ 84 ∷ 32 ∷ 48 ∷ 10 ∷ 70 ∷ 32 ∷ 48 ∷ 32 ∷ 52 ∷ 50 ∷ []) 2 0 ≡ 7
-unfolding pieces filled allDigits valueFrom numberFault firstFault fieldValues setWith sort recordOf fieldsSay bytesOf allBytes lineAfter refusalLine
-no-seventeenth = refl
-
--- an empty text has no task
-empty : lineOf [] 2 0 ≡ 1
-unfolding pieces filled allDigits valueFrom numberFault firstFault fieldValues setWith sort recordOf fieldsSay bytesOf allBytes lineAfter refusalLine
-empty = refl

@@ -12,11 +12,11 @@ use lib.Dec.{eqb, ltb}
 use lib.ListN.{length, take, drop, set, getD, length-append}
 use lib.Seq.{paste, paste-suc, take-nil, take-all, take-append-le, take-append-seam, drop-append-add, drop-drop, length-take-le}
 use Rattle.lists.proofs.Bools.{and-left, and-right}
-use Rattle.recording_text.specs.declared.line.Said.{Said}
+use Rattle.recording_text_line.specs.declared.Said.{Said}
 use Rattle.recording_text.specs.declared.Kept.{Kept}
-use Rattle.recording_text.specs.Line.{Says, says, saidOf, sort, widest}
+use Rattle.recording_text_line.specs.Line.{Says, says, saidOf, sort, widest}
 use Rattle.recording_text.specs.Text.{recordsOf, joined, stored, over, noneKept, takes, RoomFor, andRecord}
-use Rattle.recording_text.proofs.Letters.{widest-small}
+use Rattle.recording_text_line.proofs.Letters.{widest-small}
 
 -- a turn of the loop that copies numbers
 pub copy-turn : (d : List ℕ) (p : ℕ) (s : List ℕ) (i : ℕ) {o : List ℕ} → p + i < length d → i < length s → o ≡ paste d p s i → set o (p + i) (getD s i 0) ≡ paste d p s (i + 1)

@@ -10,10 +10,10 @@ use lib.Dec.{eqb}
 use lib.ListN.{length, drop, length-append}
 use Rattle.recording_text.specs.declared.Read.{Read}
 use Rattle.recording_text.specs.declared.Kept.{Kept}
-use Rattle.recording_text.specs.Pieces.{separator, lines, between, Ends}
-use Rattle.recording_text.specs.Line.{says}
+use Rattle.recording_text_fields.specs.Pieces.{separator, lines, between, Ends}
+use Rattle.recording_text_line.specs.Line.{says}
 use Rattle.recording_text.specs.Text.{readable, textFault, stored, over, defaultsOf, linksOf, eventsOf, answerOf, readOf}
-use Rattle.recording_text.proofs.Places.{lines-past}
+use Rattle.recording_text_place.proofs.Places.{lines-past}
 use Rattle.recording_text.proofs.Stores.{Held}
 
 -- lines that can be read, in front of others

@@ -6,10 +6,10 @@ use Prim.Native.Nat.{ℕ, suc, _+_, _*_, _≤_}
 use lib.Dec.{eqb, ltb}
 use lib.ListN.{length, take, drop}
 use Rattle.recording_text.specs.declared.Read.{Read}
-use Rattle.recording_text.specs.declared.line.Said.{Said}
+use Rattle.recording_text_line.specs.declared.Said.{Said}
 use Rattle.recording_text.specs.declared.Kept.{Kept}
-use Rattle.recording_text.specs.Pieces.{lines}
-use Rattle.recording_text.specs.Line.{says, sort, widest}
+use Rattle.recording_text_fields.specs.Pieces.{lines}
+use Rattle.recording_text_line.specs.Line.{says, sort, widest}
 
 -- the lines before the first that cannot be read
 unfoldable pub readable : List (List ℕ) → List (List ℕ)

@@ -5,16 +5,11 @@ ghost use Prim.Native.Nat.{_+_, _≤_};
 ghost use lib.ListN.{length};
 ghost use lib.Seq.{paste};
 ghost use Rattle.recording_text.specs.Text.{readOf, answerOf, noneKept, takes, andRecord, RoomFor, defaultsOf, linksOf, eventsOf, over};
-ghost use Rattle.recording_text.specs.Place.{lineOf};
-use crate::line::Said;
-use crate::line::line_says;
-use crate::line::sort_of;
-use crate::piece::piece_end;
-
-mod line;
-mod number;
-mod piece;
-mod place;
+ghost use Rattle.recording_text_place.specs.Place.{lineOf};
+use recording_text_fields::piece::piece_end;
+use recording_text_line::Said;
+use recording_text_line::line_says;
+use recording_text_line::sort_of;
 
 // The room for the defaults of tasks: for one task more than a recording may have.
 pub const TASKS: usize = 17;
@@ -135,5 +130,5 @@ pub fn read_text(
 pub fn line_of(text: &[u8], refusal: u8, place: usize) -> usize
     ensures { λ r. ⌜ r ≡ lineOf (now (text .entry)) refusal place ⌝ }
 {
-    place::refusal_line(text, refusal, place)
+    recording_text_place::refusal_line(text, refusal, place)
 }

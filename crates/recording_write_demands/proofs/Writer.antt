@@ -9,6 +9,7 @@ use lib.ListN.{length, take, drop, take-append-drop}
 use Rattle.protocol.specs.Event.{Event}
 use Rattle.protocol.specs.History.{reads}
 use Rattle.byte_format.specs.Play.{Verdict}
+use Rattle.recording_format.specs.RecordingKind.{baseRecording}
 use Rattle.recording_format.specs.Link.{Link}
 use Rattle.recording_format.specs.Words.{linksSaid, eventsSaid, linkWords, eventWords}
 use Rattle.recording_format.specs.Writing.{bytesAsWritten, InBytes}
@@ -36,8 +37,8 @@ module _ {ds lw ew old new : List ℕ} {a : Written} (said : Writes ds lw ew old
       let rest : drop (length s) new ≡ drop (length s) old = ap (λ (n : ℕ). drop n new) (sym (w .1)) ∙ rest-untouched said (w .0) ∙ ap (λ (n : ℕ). drop n old) (w .1) in
       (w .1, sym (take-append-drop (length s) new) ∙ ap (λ (x : List ℕ). x ++ drop (length s) new) (w .2) ∙ ap (λ (x : List ℕ). s ++ x) rest)
 
-  as-the-reader : {out list : List ℕ} {b : Answer} → InBytes ds (linksSaid lw) (eventsSaid ew) → reads (eventsSaid ew .whole) ≤ length out
-      → Replays (bytesAsWritten ds lw ew) out b list → b .refusal ≢ 0 → (a .refusal ≡ b .refusal) × (a .place ≡ b .place)
+  as-the-reader : {out list : List ℕ} {b : Answer} → InBytes baseRecording ds (linksSaid lw) (eventsSaid ew) → reads (eventsSaid ew .whole) ≤ length out
+      → Replays (bytesAsWritten baseRecording ds lw ew) out b list → b .refusal ≢ 0 → (a .refusal ≡ b .refusal) × (a .place ≡ b .place)
   as-the-reader {out} {list} {b} fit room read n =
       let r : b .refusal ≡ _ = ap (λ (x : Verdict Playing). x .refusal) (read .answer) in
       let p : b .place ≡ _ = ap (λ (x : Verdict Playing). x .place) (read .answer) in

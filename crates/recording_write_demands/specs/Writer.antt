@@ -12,6 +12,7 @@ use denote.Triple.Clauses.{AtExit}
 use borrow.Fn.Kinds.{Dens, resT, endedOf}
 use Rattle.protocol.specs.Event.{Event}
 use Rattle.protocol.specs.History.{reads}
+use Rattle.recording_format.specs.RecordingKind.{baseRecording}
 use Rattle.recording_format.specs.Link.{Link}
 use Rattle.recording_format.specs.Words.{linksSaid, eventsSaid, linkWords, eventWords}
 use Rattle.recording_format.specs.Writing.{bytesAsWritten, InBytes}
@@ -36,8 +37,8 @@ pub record Writer : Type 0 where
       (a .place ≡ length s) × (new ≡ s ++ drop (length s) old)
   -- "It refuses with the same numbers as the reader .. Places are where the reader would find that fault": the reader of the bytes as written, where each number
   -- fits its bytes, and there is room for the numbers
-  pub as-the-reader : {ds lw ew old new out list : List ℕ} {a : Written} {b : Answer} → Writes ds lw ew old a new → InBytes ds (linksSaid lw) (eventsSaid ew) →
-      reads (eventsSaid ew .whole) ≤ length out → Replays (bytesAsWritten ds lw ew) out b list → b .refusal ≢ 0 → (a .refusal ≡ b .refusal) × (a .place ≡ b .place)
+  pub as-the-reader : {ds lw ew old new out list : List ℕ} {a : Written} {b : Answer} → Writes ds lw ew old a new → InBytes baseRecording ds (linksSaid lw) (eventsSaid ew) →
+      reads (eventsSaid ew .whole) ≤ length out → Replays (bytesAsWritten baseRecording ds lw ew) out b list → b .refusal ≢ 0 → (a .refusal ≡ b .refusal) × (a .place ≡ b .place)
   -- "and with 18 when the buffer is too short for the whole"; "18 is tried last, with the whole length as place"
   pub short : {ds lw ew old new : List ℕ} {a : Written} → Writes ds lw ew old a new →
       (a .refusal ≡ 18) ↔ ((s : List ℕ) × (RecordingOf ds lw ew s × ((length old < length s) × (a .place ≡ length s))))

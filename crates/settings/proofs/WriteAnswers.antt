@@ -9,10 +9,10 @@ use native.Mathlib.Omega.{arith}
 use borrow.Author.Tests.{eqb-true, ne-eqb, lt-ltb, le-ltb}
 use lib.ListN.{length, drop}
 use Rattle.lists.proofs.Search.{first-below}
-use Rattle.settings.specs.declared.Slot.{Slot}
-use Rattle.settings.specs.Setting.{floatFault}
+use Rattle.settings_list.specs.declared.Slot.{Slot}
+use Rattle.settings_entry.specs.Setting.{floatFault}
 use Rattle.settings.specs.Writing.{settingAt, goodAt, firstBad, AllGood, listOf, listSize, answer, written, backBuffer}
-use Rattle.settings.proofs.Counting.{count-fine}
+use Rattle.settings_list.proofs.Counting.{count-fine}
 
 -- where the first bad one lies past them, the first n settings are good
 pub all-good : (ss : List Slot) (n : ℕ) {b : ℕ} → b ≡ firstBad ss n → n ≤ b → AllGood ss n

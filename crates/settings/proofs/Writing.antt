@@ -17,15 +17,17 @@ use Rattle.byte_format.proofs.Numbers.{length-bytes}
 use Rattle.byte_format.proofs.Lengths.{length-fixed, encodes-join}
 use Rattle.lent_bytes.specs.Put.{putAt}
 use Rattle.lent_bytes.proofs.Puts.{put-whole, put-behind}
-use Rattle.settings.specs.declared.Setting.{Setting}
-use Rattle.settings.specs.declared.Setting.the-variants.{Count}
-use Rattle.settings.specs.declared.Slot.{Slot}
-use Rattle.settings.specs.Setting.{floatFault, Held}
-use Rattle.settings.specs.Entry.{encodeEntry, entries, entryOf}
-use Rattle.settings.specs.Migration.{slot}
+use Rattle.settings_entry.specs.declared.Setting.{Setting}
+use Rattle.settings_entry.specs.declared.Setting.the-variants.{Count}
+use Rattle.settings_list.specs.declared.Slot.{Slot}
+use Rattle.settings_entry.specs.Setting.{floatFault, Held}
+use Rattle.settings_entry.specs.Entry.{encodeEntry, entries, entryOf}
+use Rattle.settings_list.specs.Migration.{slot}
+use Rattle.settings_put.specs.Put.{entryPut}
+use Rattle.settings_put.proofs.Puts.{entry-put}
 use Rattle.settings.specs.Writing.{settingAt, goodAt, entriesOf, listOf, listSize}
-use Rattle.settings.proofs.Records.{length-entry}
-use Rattle.settings.proofs.Answers.{map-join}
+use Rattle.settings_entry.proofs.Records.{length-entry}
+use Rattle.settings_list.proofs.Answers.{map-join}
 
 -- what stands in a list does not depend on what would stand past its end
 within : {A : Type 0} (l : List A) (i : ℕ) (d e : A) → i < length l → getD l i d ≡ getD l i e
@@ -104,16 +106,16 @@ module _ (ss : List Slot) (l : length ss ≡ 64) where
 
   -- a turn of the loop puts the next entry behind those before it
   pub entry-behind :
-      (n i : ℕ) (d : Slot) (old : List ℕ) {at : ℕ} {out new : List ℕ} → i < 64 → 1 + 9 * i + 9 ≤ length old → at ≡ 1 + 9 * i → out ≡ begun ss n i ++ drop (1 + 9 * i) old →
-      new ≡ putAt out at (encodeEntry (entryOf (getD ss i d .setting))) → new ≡ begun ss n (i + 1) ++ drop (1 + 9 * (i + 1)) old
-  entry-behind n i d old h g k e f =
+      (n i : ℕ) (d : Slot) (old : List ℕ) {at : ℕ} {out new : List ℕ} → i < 64 → 1 + 9 * i + 9 ≤ length old → at ≡ 1 + 9 * i → length out ≡ length old → out ≡ begun ss n i ++ drop (1 + 9 * i) old →
+      floatFault (settingAt ss i) ≡ 0 → new ≡ entryPut out at (getD ss i d .setting) → new ≡ begun ss n (i + 1) ++ drop (1 + 9 * (i + 1)) old
+  entry-behind n i d old {at} {out} h g k o e z f =
       let b = begun ss n i in
       let x = encodeEntry (entryOf (settingAt ss i)) in
       let u : 1 + 9 * i ≡ length b = sym (length-begun n i (omega arith)) in
       let v : length (b ++ x) ≡ 1 + 9 * (i + 1) = omega (arith, length-append b x, length-entry (entryOf (settingAt ss i))) in
       let p : putAt (b ++ drop (length b) old) (length b) x ≡ (b ++ x) ++ drop (length (b ++ x)) old = put-behind old b x (omega (arith, length-entry (entryOf (settingAt ss i)))) in
       let q : putAt (b ++ drop (1 + 9 * i) old) (1 + 9 * i) x ≡ (b ++ x) ++ drop (1 + 9 * (i + 1)) old = rw (u, ← v) p in
-      f ∙ rw (e, k, slot-there ss i d l h, ← begun-more n i h) q
+      entry-put out at (settingAt ss i) (omega arith) z (f ∙ ap (entryPut out at) (slot-there ss i d l h)) ∙ rw (e, k, ← begun-more n i h) q
 
   -- and after the last the list stands there
   pub all-behind : (n : ℕ) (old out₀ : List ℕ) {out : List ℕ} → n ≤ 64 → drop 1 out₀ ≡ drop 1 old → out ≡ begun ss n n ++ drop (1 + 9 * n) out₀ → out ≡ listOf ss n ++ drop (1 + 9 * n) old

@@ -1,6 +1,2 @@
--- The old station's list of settings, from the words of request 2026-13, and what the contracts cite.
-pub mod Setting
-pub mod Entry
-pub mod Found
-pub mod Migration
+-- Settings written back, from the words of request 2026-13.
 pub mod Writing

@@ -8,13 +8,13 @@ use lib.Dec.{eqb, ltb}
 use lib.ListN.{length, take, drop, getD}
 use Rattle.lists.specs.Lists.{first}
 use Rattle.byte_format.specs.Format.{encodeSection}
-use Rattle.settings.specs.declared.Setting.{Setting}
-use Rattle.settings.specs.declared.Setting.the-variants.{Count}
-use Rattle.settings.specs.declared.Slot.{Slot}
+use Rattle.settings_entry.specs.declared.Setting.{Setting}
+use Rattle.settings_entry.specs.declared.Setting.the-variants.{Count}
+use Rattle.settings_list.specs.declared.Slot.{Slot}
 use Rattle.settings.specs.declared.Written.{Written}
-use Rattle.settings.specs.Setting.{floatFault, Held}
-use Rattle.settings.specs.Entry.{Entry, entries, entryOf}
-use Rattle.settings.specs.Migration.{countLimit, slot}
+use Rattle.settings_entry.specs.Setting.{floatFault, Held}
+use Rattle.settings_entry.specs.Entry.{Entry, entries, entryOf}
+use Rattle.settings_list.specs.Migration.{countLimit, slot}
 
 -- the setting in a slot
 abbrev pub settingAt : List Slot → ℕ → Setting

@@ -4,40 +4,14 @@
 ghost use mathlib.Core.Path.{_≡_};
 ghost use lib.ListN.{length};
 ghost use Rattle.byte_format.specs.Number.{Bytes};
-ghost use Rattle.settings.specs.Migration.{migration};
+ghost use Rattle.settings_list.specs.Migration.{migration};
 ghost use Rattle.settings.specs.Writing.{HeldSlots, written, backBuffer};
+pub use settings_entry::Setting;
+pub use settings_list::Migration;
+pub use settings_list::SETTINGS;
+pub use settings_list::Slot;
 
-mod code;
-mod entry;
-mod float;
-mod list;
 mod write;
-
-// The most settings that a list has.
-pub const SETTINGS: usize = 64;
-
-// A setting, with its own value.
-pub enum Setting {
-    // millimetres
-    Margin(f64),
-    // millimetres per second
-    Feed(f64),
-    Count(u64),
-}
-
-// A place for a setting in an array.
-pub struct Slot {
-    pub setting: Setting,
-}
-
-// What a list is read as: the refusal, 0 for none, its place, and the settings, of which so many are there. Past them stand counts of 0;
-// after a refusal none is there.
-pub struct Migration {
-    pub refusal: u8,
-    pub place: usize,
-    pub number: usize,
-    pub settings: [Slot; SETTINGS],
-}
 
 // What writing back came to: the refusal, 0 for none, and its place in the list as it would be written; for none, how many bytes were written.
 pub struct Written {
@@ -50,7 +24,7 @@ pub fn migrate(bytes: &[u8]) -> Migration
     ensures answer { λ r. ⌜ r ≡ migration (now (bytes .entry)) ⌝ }
     ensures bytes { λ r. ⌜ Bytes (now (bytes .entry)) ⌝ }
 {
-    list::read_list(bytes)
+    settings_list::read_list(bytes)
 }
 
 // Writes so many settings back into a lent buffer, as an old station's list.

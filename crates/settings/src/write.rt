@@ -1,42 +1,16 @@
 // Settings written back: judged whole before the first byte is written.
 ghost use mathlib.Core.Path.{_≡_};
-ghost use mathlib.Core.Bool.{true};
-ghost use mathlib.Core.List.{_∷_, _++_};
-ghost use Prim.Native.Nat.{_+_, _*_, _≤_, _<_};
-ghost use lib.Dec.{eqb};
+ghost use mathlib.Core.List.{_++_};
+ghost use Prim.Native.Nat.{_+_, _*_, _≤_};
 ghost use lib.ListN.{length, drop};
-ghost use Rattle.byte_format.specs.Number.{bytesOf, Wide};
-ghost use Rattle.lent_bytes.specs.Put.{putAt};
-ghost use Rattle.settings.specs.Setting.{floatFault, Held};
-ghost use Rattle.settings.specs.Entry.{entryOf, encodeEntry};
 ghost use Rattle.settings.specs.Writing.{firstBad, AllGood, HeldSlots, listOf, written, backBuffer};
-use crate::SETTINGS;
-use crate::Setting;
-use crate::Slot;
 use crate::Written;
-use crate::entry::ENTRY;
-use crate::float::above_zero;
 use lent_bytes::number::put_number;
-
-// Any count may stand in a list: it is a number of 64 bits.
-fn any_count(n: u64) -> bool
-    ensures answer { λ r. ⌜ r ≡ true ⌝ }
-    ensures held { λ r. ⌜ Wide 8 n ⌝ }
-{
-    true
-}
-
-// Whether a setting may stand in a list: a margin and a feed rate only where they are finite and above zero.
-fn is_good(setting: Setting) -> bool
-    ensures answer { λ r. ⌜ r ≡ eqb (floatFault setting) 0 ⌝ }
-    ensures held { λ r. ⌜ Held setting ⌝ }
-{
-    match setting {
-        Setting::Margin(x) => above_zero(x),
-        Setting::Feed(x) => above_zero(x),
-        Setting::Count(n) => any_count(n),
-    }
-}
+use settings_entry::ENTRY;
+use settings_list::SETTINGS;
+use settings_list::Slot;
+use settings_put::is_good;
+use settings_put::put_entry;
 
 // The first of so many settings that is a bad float; their number where none is.
 fn first_bad(settings: [Slot; SETTINGS], n: usize) -> usize
@@ -54,27 +28,6 @@ fn first_bad(settings: [Slot; SETTINGS], n: usize) -> usize
         i += 1;
     }
     n
-}
-
-// Puts a code byte and eight bytes.
-fn put_coded(code: u8, bits: u64, out: &mut [u8], at: usize)
-    requires { ⌜ at + 9 ≤ length (now out) ⌝ }
-    ensures { λ _. ⌜ now (out .exit) ≡ putAt (now (out .entry)) at (code ∷ bytesOf 8 bits) ⌝ }
-{
-    put_number(code as u64, 1, out, at);
-    put_number(bits, 8, out, at + 1);
-}
-
-// Puts the entry of a setting that may stand in a list.
-fn put_entry(setting: Setting, out: &mut [u8], at: usize)
-    requires { ⌜ (at + 9 ≤ length (now out)) × (floatFault setting ≡ 0) ⌝ }
-    ensures { λ _. ⌜ now (out .exit) ≡ putAt (now (out .entry)) at (encodeEntry (entryOf setting)) ⌝ }
-{
-    match setting {
-        Setting::Margin(x) => put_coded(1, f64::to_bits(x), out, at),
-        Setting::Feed(x) => put_coded(2, f64::to_bits(x), out, at),
-        Setting::Count(n) => put_coded(3, n, out, at),
-    }
 }
 
 // Puts the count and so many entries, all of which may stand in a list.

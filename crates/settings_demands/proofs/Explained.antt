@@ -5,9 +5,9 @@ use mathlib.Core.Logic.{_↔_}
 use mathlib.Core.List.{List}
 use Prim.Native.Nat.{ℕ}
 use lib.ListN.{length}
-use Rattle.settings.specs.declared.Migration.{Migration}
-use Rattle.settings.specs.Entry.{Entry}
-use Rattle.settings.specs.Migration.{migration}
+use Rattle.settings_list.specs.declared.Migration.{Migration}
+use Rattle.settings_entry.specs.Entry.{Entry}
+use Rattle.settings_list.specs.Migration.{migration}
 use Rattle.settings_demands.specs.Ensured.{Migrates}
 use Rattle.settings_demands.specs.OldList.{OldList, extraBytes, holding, ListExplained, refused, accepted}
 use Rattle.settings_demands.proofs.Outcomes.{MigrationOutcome, migration-outcome, outcome-is}

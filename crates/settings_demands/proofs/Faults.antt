@@ -15,11 +15,11 @@ use Rattle.byte_format.specs.Kinded.{recordAt}
 use Rattle.byte_format.specs.Play.{finally, refusalOf}
 use Rattle.byte_format.specs.Section.{countAt}
 use Rattle.byte_format.proofs.Kinded.{Case, missing, strange, short, whole, which, kind-missing, kind-unknown, rest-missing, record-whole}
-use Rattle.settings.specs.Setting.{floatFault}
-use Rattle.settings.specs.Entry.{Entry, byteOf, codes, settingMade}
-use Rattle.settings.specs.Migration.{countLimit, badFloat, andSetting, refusedAt}
-use Rattle.settings.proofs.Counting.{no-count, count-none, count-many, count-right}
-use Rattle.settings.proofs.Records.{codes-told, code-unknown}
+use Rattle.settings_entry.specs.Setting.{floatFault}
+use Rattle.settings_entry.specs.Entry.{Entry, byteOf, codes, settingMade}
+use Rattle.settings_list.specs.Migration.{countLimit, badFloat, andSetting, refusedAt}
+use Rattle.settings_list.proofs.Counting.{no-count, count-none, count-many, count-right}
+use Rattle.settings_entry.proofs.Records.{codes-told, code-unknown}
 use Rattle.settings_demands.specs.OldList.{EntriesBegun, ListFault, noCount, badCount, noCode, unknownCode, cutEntry, aBadFloat, extraBytes}
 use Rattle.settings_demands.proofs.Values.{code-known, coded, bad-fault, fault-bad}
 use Rattle.settings_demands.proofs.Outcomes.{FaultAt, MigrationOutcome}

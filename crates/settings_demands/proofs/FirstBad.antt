@@ -9,7 +9,7 @@ use native.Mathlib.Omega.{arith}
 use borrow.Author.Tests.{eqb-true, eq-eqb, ne-eqb, ltb-true, ltb-false}
 use lib.Dec.{ltb}
 use Rattle.lists.proofs.Search.{first-least, first-stops, first-below}
-use Rattle.settings.specs.declared.Slot.{Slot}
+use Rattle.settings_list.specs.declared.Slot.{Slot}
 use Rattle.settings.specs.Writing.{settingAt, goodAt, firstBad}
 use Rattle.settings_demands.specs.Values.{Good}
 use Rattle.settings_demands.proofs.Values.{good-fine, fine-good}

@@ -10,11 +10,11 @@ use Rattle.byte_format.specs.Number.{bytesOf}
 use Rattle.byte_format.specs.Play.{Allowed, finally, refusalAt}
 use Rattle.byte_format.proofs.Standing.{stands-join, stands-first, stands-left, stands-all, stands-whole}
 use Rattle.byte_format.proofs.Unique.{whole-unique}
-use Rattle.settings.specs.declared.Setting.{Setting}
-use Rattle.settings.specs.Entry.{Entry, entries, settingOf}
-use Rattle.settings.specs.Migration.{countLimit, badFloat, andSetting}
-use Rattle.settings.proofs.Counting.{count-fine, count-range}
-use Rattle.settings.proofs.Records.{entries-lawful}
+use Rattle.settings_entry.specs.declared.Setting.{Setting}
+use Rattle.settings_entry.specs.Entry.{Entry, entries, settingOf}
+use Rattle.settings_list.specs.Migration.{countLimit, badFloat, andSetting}
+use Rattle.settings_list.proofs.Counting.{count-fine, count-range}
+use Rattle.settings_entry.proofs.Records.{entries-lawful}
 use Rattle.settings_demands.specs.Values.{Good}
 use Rattle.settings_demands.specs.OldList.{GoodEach, OldList, EntriesBegun}
 use Rattle.settings_demands.proofs.Values.{good-fine, fine-good}

@@ -13,14 +13,14 @@ use Rattle.byte_format.specs.Number.{Bytes}
 use Rattle.byte_format.specs.Format.{stop}
 use Rattle.byte_format.specs.Play.{Verdict, verdict, finally}
 use Rattle.byte_format.specs.Section.{section, countAt, Whole, Faulty}
-use Rattle.byte_format.specs.End.{ended}
+use Rattle.byte_format.specs.End.{noLast, ended}
 use Rattle.byte_format.proofs.Sections.{Answered, countRefused, recordRefused, wholeSection, section-answered, section-refused, whole-section, faulty-section}
-use Rattle.settings.specs.declared.Setting.{Setting}
-use Rattle.settings.specs.declared.Migration.{Migration}
-use Rattle.settings.specs.Entry.{Entry, entries, settingOf}
-use Rattle.settings.specs.Migration.{countLimit, badFloat, andSetting, listRead, migrationAnswer, migration, refusedAt}
-use Rattle.settings.proofs.Records.{entries-lawful}
-use Rattle.settings.proofs.Answers.{refused-answer, extra-answer, whole-answer}
+use Rattle.settings_entry.specs.declared.Setting.{Setting}
+use Rattle.settings_list.specs.declared.Migration.{Migration}
+use Rattle.settings_entry.specs.Entry.{Entry, entries, settingOf}
+use Rattle.settings_list.specs.Migration.{countLimit, badFloat, andSetting, listRead, migrationAnswer, migration, refusedAt}
+use Rattle.settings_entry.proofs.Records.{entries-lawful}
+use Rattle.settings_list.proofs.Answers.{refused-answer, extra-answer, whole-answer}
 use Rattle.settings_demands.specs.OldList.{holding}
 
 -- these entries stand in s after their count, up to m: 1 to 64 of them, and none a bad float
@@ -56,7 +56,7 @@ module _ (s : List ℕ) where
   read : Verdict (List Setting)
   read = section entries countLimit badFloat andSetting [] [] s 0
 
-  answer-is : migration s ≡ migrationAnswer (ended s read)
+  answer-is : migration s ≡ migrationAnswer (ended noLast s read)
   unfolding listRead read
   answer-is = refl
 

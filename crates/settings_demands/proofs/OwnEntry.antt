@@ -12,13 +12,13 @@ use Rattle.byte_format.specs.Format.{encodes}
 use Rattle.byte_format.proofs.Standing.{stands-first, stands-left, byte-stands, number-stands}
 use Rattle.byte_format.proofs.Sections.{section-records}
 use Rattle.byte_format.proofs.Lengths.{length-fixed, encodes-join}
-use Rattle.settings.specs.declared.Setting.{Setting}
-use Rattle.settings.specs.declared.Setting.the-variants.{Count}
-use Rattle.settings.specs.declared.code.Code.the-variants as code
-use Rattle.settings.specs.declared.Migration.{Migration}
-use Rattle.settings.specs.Entry.{Entry, byteOf, encodeEntry, entries, settingMade, settingOf, entryOf}
+use Rattle.settings_entry.specs.declared.Setting.{Setting}
+use Rattle.settings_entry.specs.declared.Setting.the-variants.{Count}
+use Rattle.settings_entry.specs.declared.code.Code.the-variants as code
+use Rattle.settings_list.specs.declared.Migration.{Migration}
+use Rattle.settings_entry.specs.Entry.{Entry, byteOf, encodeEntry, entries, settingMade, settingOf, entryOf}
 use Rattle.settings.specs.Writing.{settingAt}
-use Rattle.settings.proofs.Records.{length-entry}
+use Rattle.settings_entry.proofs.Records.{length-entry}
 use Rattle.settings_demands.specs.Ensured.{Migrates}
 use Rattle.settings_demands.specs.Values.{Good}
 use Rattle.settings_demands.specs.FromList.{FromEntry}

@@ -20,12 +20,12 @@ use Rattle.byte_format.proofs.Sized.{sized-reads}
 use Rattle.byte_format.proofs.Counts.{count-limited}
 use Rattle.byte_format.proofs.Sections.{section-records, faulty-records}
 use Rattle.byte_format.proofs.Lengths.{length-fixed}
-use Rattle.settings.specs.declared.Migration.{Migration}
-use Rattle.settings.specs.declared.code.Code.{Code}
-use Rattle.settings.specs.Entry.{Entry, codeOf, codes, entries}
-use Rattle.settings.specs.Migration.{countLimit, badFloat, andSetting, migration}
-use Rattle.settings.proofs.Records.{length-entry}
-use Rattle.settings.proofs.Counting.{count-range}
+use Rattle.settings_list.specs.declared.Migration.{Migration}
+use Rattle.settings_entry.specs.declared.code.Code.{Code}
+use Rattle.settings_entry.specs.Entry.{Entry, codeOf, codes, entries}
+use Rattle.settings_list.specs.Migration.{countLimit, badFloat, andSetting, migration}
+use Rattle.settings_entry.proofs.Records.{length-entry}
+use Rattle.settings_list.proofs.Counting.{count-range}
 use Rattle.settings_demands.proofs.Outcomes.{ListTo, FaultAt, MigrationOutcome, badCount, badEntry, extraBytes, accepted, migration-outcome, outcome-is}
 
 module _ (s : List ℕ) (k : ℕ) (h : 577 < k) (l : k < length s) where

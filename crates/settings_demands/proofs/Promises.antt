@@ -6,9 +6,9 @@ use mathlib.Core.List.{List, [], map}
 use Prim.Native.Nat.{ℕ, _≤_}
 use native.Mathlib.Omega.{arith}
 use lib.ListN.{length-map}
-use Rattle.settings.specs.declared.Setting.the-variants.{Count}
-use Rattle.settings.specs.declared.Migration.{Migration}
-use Rattle.settings.specs.Entry.{settingOf}
+use Rattle.settings_entry.specs.declared.Setting.the-variants.{Count}
+use Rattle.settings_list.specs.declared.Migration.{Migration}
+use Rattle.settings_entry.specs.Entry.{settingOf}
 use Rattle.settings.specs.Writing.{settingAt, AllGood}
 use Rattle.settings_demands.specs.Ensured.{Migrates}
 use Rattle.settings_demands.specs.OldList.{ListExplained, refused, accepted}

@@ -6,12 +6,12 @@ use Prim.Native.Nat.{ℕ, _≤_}
 use native.Mathlib.Omega.{arith}
 use lib.ListN.{length, take, drop, length-map, List·getD-map}
 use Rattle.byte_format.specs.Format.{encodeSection}
-use Rattle.settings.specs.declared.code.Code.the-variants as code
-use Rattle.settings.specs.declared.Slot.{Slot}
-use Rattle.settings.specs.declared.Migration.{Migration}
+use Rattle.settings_entry.specs.declared.code.Code.the-variants as code
+use Rattle.settings_list.specs.declared.Slot.{Slot}
+use Rattle.settings_list.specs.declared.Migration.{Migration}
 use Rattle.settings.specs.declared.Written.{Written}
-use Rattle.settings.specs.Entry.{Entry, entries, settingOf}
-use Rattle.settings.specs.Migration.{slots}
+use Rattle.settings_entry.specs.Entry.{Entry, entries, settingOf}
+use Rattle.settings_list.specs.Migration.{slots}
 use Rattle.settings.specs.Writing.{listOf, listSize, answer}
 use Rattle.settings.proofs.Writing.{length-list}
 use Rattle.settings_demands.specs.Ensured.{Migrates, WritesBack}

@@ -5,13 +5,13 @@ use Prim.Native.Nat.{ℕ}
 use lib.Ieee.{binary64}
 use lib.Ieee.Bits.{ofBits-toBits, toBits-lt}
 use Rattle.byte_format.specs.Number.{Wide}
-use Rattle.settings.specs.declared.Setting.{Setting}
-use Rattle.settings.specs.declared.Setting.the-variants.{Margin, Feed, Count}
-use Rattle.settings.specs.declared.code.Code.{Code}
-use Rattle.settings.specs.declared.code.Code.the-variants as code
-use Rattle.settings.specs.Setting.{Held}
-use Rattle.settings.specs.Entry.{Entry, settingMade, settingOf, entryOf}
-use Rattle.settings.proofs.Floats.{bits-kept}
+use Rattle.settings_entry.specs.declared.Setting.{Setting}
+use Rattle.settings_entry.specs.declared.Setting.the-variants.{Margin, Feed, Count}
+use Rattle.settings_entry.specs.declared.code.Code.{Code}
+use Rattle.settings_entry.specs.declared.code.Code.the-variants as code
+use Rattle.settings_entry.specs.Setting.{Held}
+use Rattle.settings_entry.specs.Entry.{Entry, settingMade, settingOf, entryOf}
+use Rattle.settings_float.proofs.Floats.{bits-kept}
 use Rattle.settings_demands.specs.Values.{Good, goodMargin, goodFeed}
 use Rattle.settings_demands.proofs.Values.{above-zero}
 

@@ -8,11 +8,11 @@ use native.Mathlib.Omega.{arith}
 use lib.ListN.{length, getD, replicate, length-map, length-append, length-replicate, List·getD-append, List·getD-map}
 use lib.Seq.{take-at}
 use Rattle.byte_format.specs.Format.{FitEach}
-use Rattle.settings.specs.declared.Setting.{Setting}
-use Rattle.settings.specs.declared.Setting.the-variants.{Count}
-use Rattle.settings.specs.declared.Slot.{Slot}
-use Rattle.settings.specs.Entry.{Entry, entries, settingOf, entryOf}
-use Rattle.settings.specs.Migration.{slot, slots}
+use Rattle.settings_entry.specs.declared.Setting.{Setting}
+use Rattle.settings_entry.specs.declared.Setting.the-variants.{Count}
+use Rattle.settings_list.specs.declared.Slot.{Slot}
+use Rattle.settings_entry.specs.Entry.{Entry, entries, settingOf, entryOf}
+use Rattle.settings_list.specs.Migration.{slot, slots}
 use Rattle.settings.specs.Writing.{settingAt, entriesOf}
 use Rattle.settings_demands.specs.OldList.{GoodEach}
 use Rattle.settings_demands.proofs.Settings.{entry-kept}

@@ -6,13 +6,14 @@ use mathlib.Core.Bool.{Bool, true, false, cond, true≢false}
 use Prim.Native.Nat.{ℕ}
 use borrow.Author.Tests.{ltb-true, lt-ltb}
 use lib.Ieee.{Float, nan, inf, fin}
-use Rattle.settings.specs.declared.Setting.{Setting}
-use Rattle.settings.specs.declared.Setting.the-variants.{Margin, Feed, Count}
-use Rattle.settings.specs.declared.code.Code.{Code}
-use Rattle.settings.specs.declared.code.Code.the-variants as code
-use Rattle.settings.specs.Setting.{aboveZero, floatFault}
-use Rattle.settings.specs.Entry.{byteOf, settingMade}
-use Rattle.settings.proofs.Floats.{good-float}
+use Rattle.settings_entry.specs.declared.Setting.{Setting}
+use Rattle.settings_entry.specs.declared.Setting.the-variants.{Margin, Feed, Count}
+use Rattle.settings_entry.specs.declared.code.Code.{Code}
+use Rattle.settings_entry.specs.declared.code.Code.the-variants as code
+use Rattle.settings_float.specs.AboveZero.{aboveZero}
+use Rattle.settings_entry.specs.Setting.{floatFault}
+use Rattle.settings_entry.specs.Entry.{byteOf, settingMade}
+use Rattle.settings_entry.proofs.Faults.{good-float}
 use Rattle.settings_demands.specs.Values.{CodeOf, aMargin, aFeed, aCount, FiniteAboveZero, finite, Good, goodMargin, goodFeed, anyCount}
 
 -- ---- floats

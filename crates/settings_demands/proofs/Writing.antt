@@ -9,7 +9,7 @@ use native.Mathlib.Omega.{arith}
 use borrow.Author.Tests.{eqb-true, eqb-false, ltb-true, ltb-false}
 use lib.Dec.{eqb, ltb}
 use lib.ListN.{length, drop}
-use Rattle.settings.specs.declared.Slot.{Slot}
+use Rattle.settings_list.specs.declared.Slot.{Slot}
 use Rattle.settings.specs.declared.Written.{Written}
 use Rattle.settings.specs.Writing.{firstBad, listOf, listSize, answer, written, backBuffer}
 use Rattle.settings.proofs.WriteAnswers.{left-alone, list-there, none-given, many-given, bad-given, short-buffer, room-enough}

@@ -7,12 +7,12 @@ use native.Mathlib.Omega.{arith}
 use lib.ListN.{length, take, drop, length-map}
 use lib.Seq.{take-at, drop-at, length-take-le, getD-take}
 use Rattle.byte_format.specs.Format.{FitEach}
-use Rattle.settings.specs.declared.Setting.the-variants.{Count}
-use Rattle.settings.specs.declared.Slot.{Slot}
+use Rattle.settings_entry.specs.declared.Setting.the-variants.{Count}
+use Rattle.settings_list.specs.declared.Slot.{Slot}
 use Rattle.settings.specs.declared.Written.{Written}
-use Rattle.settings.specs.Setting.{Held}
-use Rattle.settings.specs.Entry.{Entry, entries, settingOf, entryOf}
-use Rattle.settings.specs.Migration.{slot}
+use Rattle.settings_entry.specs.Setting.{Held}
+use Rattle.settings_entry.specs.Entry.{Entry, entries, settingOf, entryOf}
+use Rattle.settings_list.specs.Migration.{slot}
 use Rattle.settings.specs.Writing.{settingAt, HeldSlots, entriesOf, listOf, listSize}
 use Rattle.settings.proofs.Writing.{length-list}
 use Rattle.settings_demands.specs.Ensured.{WritesBack}

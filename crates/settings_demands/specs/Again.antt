@@ -3,9 +3,9 @@
 use mathlib.Core.List.{List, map}
 use Prim.Native.Nat.{ℕ}
 use lib.ListN.{take}
-use Rattle.settings.specs.declared.Slot.{Slot}
-use Rattle.settings.specs.declared.Migration.{Migration}
-use Rattle.settings.specs.Migration.{slots}
+use Rattle.settings_list.specs.declared.Slot.{Slot}
+use Rattle.settings_list.specs.declared.Migration.{Migration}
+use Rattle.settings_list.specs.Migration.{slots}
 use Rattle.settings.specs.Writing.{listSize}
 
 -- the answer to the list of the first n of these settings: they are the same ones

@@ -5,10 +5,10 @@ use mathlib.Core.List.{List}
 use Prim.Native.Nat.{ℕ}
 use lib.ListN.{length}
 use Rattle.byte_format.specs.Number.{Bytes}
-use Rattle.settings.specs.declared.Slot.{Slot}
-use Rattle.settings.specs.declared.Migration.{Migration}
+use Rattle.settings_list.specs.declared.Slot.{Slot}
+use Rattle.settings_list.specs.declared.Migration.{Migration}
 use Rattle.settings.specs.declared.Written.{Written}
-use Rattle.settings.specs.Migration.{migration}
+use Rattle.settings_list.specs.Migration.{migration}
 use Rattle.settings.specs.Writing.{HeldSlots, written, backBuffer}
 
 -- the two clauses of `settings::migrate`, for the bytes s: it answers m

@@ -6,8 +6,8 @@ use Prim.Native.Nat.{ℕ, _+_, _*_}
 use lib.ListN.{getD}
 use Rattle.byte_format.specs.Number.{numberAt}
 use Rattle.byte_format.specs.Stands.{Stands}
-use Rattle.settings.specs.declared.Setting.{Setting}
-use Rattle.settings.specs.Entry.{encodeEntry, entryOf}
+use Rattle.settings_entry.specs.declared.Setting.{Setting}
+use Rattle.settings_entry.specs.Entry.{encodeEntry, entryOf}
 use Rattle.settings_demands.specs.Values.{CodeOf}
 
 -- x is what entry i of the list s says

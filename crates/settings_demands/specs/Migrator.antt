@@ -8,11 +8,11 @@ use mathlib.Core.List.{List, _++_}
 use Prim.Native.Nat.{ℕ, _+_, _*_, _≤_, _<_}
 use lib.ListN.{length, take, drop}
 use Rattle.byte_format.specs.Number.{numberAt}
-use Rattle.settings.specs.declared.Setting.the-variants.{Count}
-use Rattle.settings.specs.declared.Slot.{Slot}
-use Rattle.settings.specs.declared.Migration.{Migration}
+use Rattle.settings_entry.specs.declared.Setting.the-variants.{Count}
+use Rattle.settings_list.specs.declared.Slot.{Slot}
+use Rattle.settings_list.specs.declared.Migration.{Migration}
 use Rattle.settings.specs.declared.Written.{Written}
-use Rattle.settings.specs.Entry.{Entry, entryOf}
+use Rattle.settings_entry.specs.Entry.{Entry, entryOf}
 use Rattle.settings.specs.Writing.{settingAt, entriesOf, answer}
 use Rattle.settings_demands.specs.Ensured.{Migrates, WritesBack}
 use Rattle.settings_demands.specs.Contracts.{MigratorAsks, MigratorTells}

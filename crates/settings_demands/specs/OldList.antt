@@ -8,10 +8,10 @@ use lib.ListN.{length, getD}
 use Rattle.byte_format.specs.Number.{bytesOf, numberAt}
 use Rattle.byte_format.specs.Stands.{Stands}
 use Rattle.byte_format.specs.Format.{FitEach, encodes, encodeSection}
-use Rattle.settings.specs.declared.Setting.{Setting}
-use Rattle.settings.specs.declared.Migration.{Migration}
-use Rattle.settings.specs.Entry.{Entry, entries, settingOf}
-use Rattle.settings.specs.Migration.{slots, refusedAt}
+use Rattle.settings_entry.specs.declared.Setting.{Setting}
+use Rattle.settings_list.specs.declared.Migration.{Migration}
+use Rattle.settings_entry.specs.Entry.{Entry, entries, settingOf}
+use Rattle.settings_list.specs.Migration.{slots, refusedAt}
 use Rattle.settings_demands.specs.Values.{CodeOf, Good}
 
 -- none of these entries is a bad float

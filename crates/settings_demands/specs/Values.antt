@@ -4,8 +4,8 @@ use mathlib.Core.Bool.{false}
 use Prim.Native.Nat.{ℕ, _<_}
 use lib.IntN.{ℤ}
 use lib.Ieee.{Float, fin, binary64, ofBits}
-use Rattle.settings.specs.declared.Setting.{Setting}
-use Rattle.settings.specs.declared.Setting.the-variants.{Margin, Feed, Count}
+use Rattle.settings_entry.specs.declared.Setting.{Setting}
+use Rattle.settings_entry.specs.declared.Setting.the-variants.{Margin, Feed, Count}
 
 -- a code byte, and the setting of the number in the 8 bytes after it; a byte with no line here is no code
 pub data CodeOf : ℕ → (ℕ → Setting) → Type 0 where

@@ -4,7 +4,7 @@ use mathlib.Core.Path.{_≡_}
 use mathlib.Core.Logic.{_⊎_}
 use mathlib.Core.List.{List}
 use Prim.Native.Nat.{ℕ, _≤_, _<_}
-use Rattle.settings.specs.declared.Slot.{Slot}
+use Rattle.settings_list.specs.declared.Slot.{Slot}
 use Rattle.settings.specs.Writing.{settingAt, listSize}
 use Rattle.settings_demands.specs.Values.{Good}
 

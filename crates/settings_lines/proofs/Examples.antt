@@ -3,7 +3,7 @@
 use mathlib.Core.Path.{_≡_, refl}
 use mathlib.Core.List.{[], _∷_}
 use Rattle.text_line.specs.Numeral.{decimal, number}
-use Rattle.settings_lines.specs.Decimal.{significand, millionths, cutOff, sixDigits}
+use Rattle.settings_decimal.specs.Decimal.{significand, millionths, cutOff, sixDigits}
 use Rattle.settings_lines.specs.Hex.{hexadecimal}
 use Rattle.settings_lines.specs.Lines.{cutWords, value, marginLine, feedLine, countLine, migratedLine}
 

@@ -1,13 +1,13 @@
 -- Every line fits its room.
 -- Assumes nothing.
 use mathlib.Core.Bool.{Bool, true, false, cond}
-use mathlib.Core.List.{List, [], _∷_, _++_}
+use mathlib.Core.List.{List, [], _∷_}
 use Prim.Native.Nat.{ℕ, zero, suc, _/_, _%_, _≤_}
 use native.Mathlib.Nat.{le-refl}
 use native.Mathlib.Omega.{arith}
 use lib.ListN.{length, length-append}
 use Rattle.text_line.proofs.Lengths.{last, end, piece, word, numeral, fits}
-use Rattle.settings_lines.specs.Decimal.{large, millionths, cutOff, sixDigits}
+use Rattle.settings_decimal.specs.Decimal.{large, millionths, cutOff, sixDigits}
 use Rattle.settings_lines.specs.Hex.{hexDigit, hexadecimal, hexOf}
 use Rattle.settings_lines.specs.Words.{text-above, text-at-least, text-bits, text-closed, text-less, text-migrated, text-point, text-setting}
 use Rattle.settings_lines.specs.Lines.{cutWords, inMillionths, atLeast, value, settingLine, migratedLine}
@@ -24,24 +24,21 @@ unfolding sixDigits
 six-long n = omega arith
 
 -- what is said of digits that are cut off
-cut-long : (unit : List ℕ) (b : ℕ) → length unit ≤ 8 → length (cutWords unit b) ≤ 38
+cut-long : (unit : List ℕ) (cut : Bool) → length unit ≤ 8 → length (cutWords unit cut) ≤ 38
 unfolding cutWords
-cut-long unit b h = go (cutOff b)
-  where
-    go : (t : Bool) → length (cond t (text-less ++ (unit ++ text-closed)) []) ≤ 38
-    go true = fits 38 (word text-less (piece unit h (last text-closed (le-refl _)))) (omega arith)
-    go false = omega arith
+cut-long unit true h = fits 38 (word text-less (piece unit h (last text-closed (le-refl _)))) (omega arith)
+cut-long unit false h = omega arith
 
 -- a value with a unit
 pub value-long : (unit : List ℕ) (b : ℕ) → length unit ≤ 8 → length (value unit b) ≤ 100
 unfolding value
 value-long unit b h = go (large b)
   where
-    go : (t : Bool) → length (cond t (atLeast unit) (inMillionths unit b)) ≤ 100
+    go : (t : Bool) → length (cond t (atLeast unit) (inMillionths unit (millionths b) (cutOff b))) ≤ 100
     go true = fits 100 (word text-at-least (piece unit h (last text-above (le-refl _)))) (omega arith)
     go false =
         let n = millionths b in
-        let named = piece unit h (last (cutWords unit b) (cut-long unit b h)) in
+        let named = piece unit h (last (cutWords unit (cutOff b)) (cut-long unit (cutOff b) h)) in
         fits 100 (numeral (n / 1000000) (word text-point (piece (sixDigits n) (six-long n) named))) (omega arith)
 
 -- a setting's line

@@ -1,5 +1,4 @@
 -- The lines of migrated settings: what the contracts cite.
-pub mod Decimal
 pub mod Hex
 pub mod Words
 pub mod Lines

@@ -1,11 +1,11 @@
 -- The lines of migrated settings.
 -- Assumes nothing.
-use mathlib.Core.Bool.{cond}
+use mathlib.Core.Bool.{Bool, cond}
 use mathlib.Core.List.{List, [], _∷_, _++_}
 use Prim.Native.Nat.{ℕ, _/_}
 use Rattle.text_line.specs.Numeral.{number}
 use Rattle.text_line.specs.Shown.{lineOf}
-use Rattle.settings_lines.specs.Decimal.{large, millionths, cutOff, sixDigits}
+use Rattle.settings_decimal.specs.Decimal.{large, millionths, cutOff, sixDigits}
 use Rattle.settings_lines.specs.Hex.{hexOf}
 use Rattle.settings_lines.specs.Words.{
   text-above,
@@ -24,12 +24,12 @@ use Rattle.settings_lines.specs.Words.{
 }
 
 -- what is said of digits that are cut off: `(cut off: less than 0.000001 UNIT)`, or nothing where there are none
-unfoldable pub cutWords : List ℕ → ℕ → List ℕ
-cutWords unit b = cond (cutOff b) (text-less ++ (unit ++ text-closed)) []
+unfoldable pub cutWords : List ℕ → Bool → List ℕ
+cutWords unit cut = cond cut (text-less ++ (unit ++ text-closed)) []
 
--- a value that is not large: `W.DDDDDD UNIT`, and what is cut off
-abbrev pub inMillionths : List ℕ → ℕ → List ℕ
-inMillionths unit b = number (millionths b / 1000000) ++ (text-point ++ (sixDigits (millionths b) ++ (unit ++ cutWords unit b)))
+-- a value of n whole millionths: `W.DDDDDD UNIT`, and what is cut off
+abbrev pub inMillionths : List ℕ → ℕ → Bool → List ℕ
+inMillionths unit n cut = number (n / 1000000) ++ (text-point ++ (sixDigits n ++ (unit ++ cutWords unit cut)))
 
 -- a large value: `at least 8796093022208 UNIT (cut off: what is above)`
 abbrev pub atLeast : List ℕ → List ℕ
@@ -37,7 +37,7 @@ atLeast unit = text-at-least ++ (unit ++ text-above)
 
 -- a value in decimal, with its unit
 unfoldable pub value : List ℕ → ℕ → List ℕ
-value unit b = cond (large b) (atLeast unit) (inMillionths unit b)
+value unit b = cond (large b) (atLeast unit) (inMillionths unit (millionths b) (cutOff b))
 
 -- `setting I KIND VALUE, bits B`: what is shown of a value, and its 64 bits
 abbrev pub settingLine : List ℕ → ℕ → List ℕ → ℕ → List ℕ

@@ -3,8 +3,8 @@
 use mathlib.Core.List.{List}
 use Prim.Native.Nat.{ℕ}
 use lib.Ieee.{binary64, toBits}
-use Rattle.settings.specs.declared.Setting.{Setting}
-use Rattle.settings.specs.declared.Setting.the-variants.{Margin, Feed, Count}
+use Rattle.settings_entry.specs.declared.Setting.{Setting}
+use Rattle.settings_entry.specs.declared.Setting.the-variants.{Margin, Feed, Count}
 use Rattle.settings_lines.specs.Lines.{marginLine, feedLine, countLine}
 
 abbrev pub settingLine : ℕ → Setting → List ℕ

@@ -5,8 +5,8 @@
 // with, and none of them is a NaN, of which no bits are known.
 ghost use mathlib.Core.Path.{_≡_};
 ghost use Prim.Native.Nat.{_≤_};
-ghost use Rattle.settings.specs.Migration.{migration};
-ghost use Rattle.settings.specs.Setting.{floatFault};
+ghost use Rattle.settings_list.specs.Migration.{migration};
+ghost use Rattle.settings_entry.specs.Setting.{floatFault};
 ghost use Rattle.settings.specs.Writing.{AllGood};
 ghost use Rattle.text_line.specs.Shown.{Put};
 ghost use Rattle.settings_printout.specs.Lines.{settingLine};

@@ -1,8 +1,8 @@
-//! The calls of the library, on the fields of a state. A slice passes as a pointer and a length, an array as a pointer.
+//! The calls of the library, on the parts of a state. A slice passes as a pointer and a length, an array as a pointer.
 //!
 //! The library asks that each points to what its type says and that what it writes to overlaps nothing else of the call: references give
-//! both.
-use crate::{CELLS, LINKS, TASKS};
+//! both. A state's control and values pass as raw pointers, since the host has each as a struct with named fields.
+use crate::{CONTROL, LINKS, TASKS, VALUES};
 
 extern "C" {
     pub fn parnusild_event(
@@ -12,14 +12,8 @@ extern "C" {
         number: &mut u32,
         tasks: usize,
         links: usize,
-        writer: &[u8; LINKS],
-        reader: &[u8; LINKS],
-        kinds: &[u8; LINKS],
-        phase: &mut [u8; TASKS],
-        newest: &mut [u8; TASKS],
-        previous: &mut [u8; TASKS],
-        cells: &mut [u32; CELLS],
-        pointer: &mut [u8; LINKS],
+        control: *mut [u8; CONTROL],
+        values: *mut [u32; VALUES],
     ) -> u8;
 
     pub fn parnusild_fresh(
@@ -31,15 +25,8 @@ extern "C" {
         table_kind: &[u8; LINKS],
         tasks: &mut usize,
         links: &mut usize,
-        defaults: &mut [u32; TASKS],
-        phase: &mut [u8; TASKS],
-        newest: &mut [u8; TASKS],
-        previous: &mut [u8; TASKS],
-        cells: &mut [u32; CELLS],
-        writer: &mut [u8; LINKS],
-        reader: &mut [u8; LINKS],
-        kind: &mut [u8; LINKS],
-        pointer: &mut [u8; LINKS],
+        control: *mut [u8; CONTROL],
+        values: *mut [u32; VALUES],
     ) -> u8;
 
     pub fn parnusild_replay(
@@ -51,15 +38,8 @@ extern "C" {
         counts: &mut [usize; 4],
         tasks: &mut usize,
         links: &mut usize,
-        defaults: &mut [u32; TASKS],
-        phase: &mut [u8; TASKS],
-        newest: &mut [u8; TASKS],
-        previous: &mut [u8; TASKS],
-        cells: &mut [u32; CELLS],
-        writer: &mut [u8; LINKS],
-        reader: &mut [u8; LINKS],
-        kind: &mut [u8; LINKS],
-        pointer: &mut [u8; LINKS],
+        control: *mut [u8; CONTROL],
+        values: *mut [u32; VALUES],
     ) -> u8;
 
     pub fn parnusild_rest(bytes: *const u8, size: usize, place: usize) -> usize;

@@ -1,9 +1,11 @@
 //! The proved mailboxes, for hosts in Rust: a saved state in the host's own memory, one event given to it, the replay of a whole
-//! recording, and a recording written. Each call lends the state's fields to the proved core, which works on them in place.
+//! recording, and a recording written. Each call lends the state's parts to the proved core, which works on them in place.
 //!
 //! Nothing is asked of a state, a table, a recording or what is to be written: whatever they hold, an answer comes back, and a refused
 //! event leaves the state as it was lent. Refusals are the numbers of docs/FORMAT.md, explained in docs/REFUSALS.md.
 mod calls;
+
+use std::mem::size_of;
 
 /// At most so many tasks.
 pub const TASKS: usize = 16;
@@ -15,6 +17,10 @@ pub const EVENTS: usize = 10_000;
 pub const POSITIONS: usize = 10;
 /// The positions of all tasks.
 pub const CELLS: usize = TASKS * POSITIONS;
+/// So many bytes in a state's control.
+pub const CONTROL: usize = 3 * TASKS + 4 * LINKS;
+/// So many numbers in a state's values.
+pub const VALUES: usize = TASKS + CELLS;
 
 /// A table. Tasks are numbered from 0 and the earlier one is more urgent; slots past the counts are not looked at.
 #[derive(Clone, Debug, PartialEq, Eq)]
@@ -28,24 +34,42 @@ pub struct Table {
     pub kind: [u8; LINKS],
 }
 
+/// The bytes of a state, by task and then by link, in the library's own order.
+#[derive(Clone, Debug, PartialEq, Eq)]
+#[repr(C)]
+pub struct Control {
+    /// 0 idle, 1 waiting, 2 running
+    pub phase: [u8; TASKS],
+    pub newest: [u8; TASKS],
+    pub previous: [u8; TASKS],
+    /// 0: absent
+    pub pointer: [u8; LINKS],
+    pub writer: [u8; LINKS],
+    pub reader: [u8; LINKS],
+    /// 0 direct, 1 delayed
+    pub kind: [u8; LINKS],
+}
+
+/// The numbers of a state, in the library's own order.
+#[derive(Clone, Debug, PartialEq, Eq)]
+#[repr(C)]
+pub struct Values {
+    pub defaults: [u32; TASKS],
+    /// position p of task t at t * 10 + p - 1
+    pub cells: [u32; CELLS],
+}
+
+// Each struct is lent as one array. With gaps in it, this does not compile.
+const _: () = assert!(size_of::<Control>() == CONTROL);
+const _: () = assert!(size_of::<Values>() == VALUES * size_of::<u32>());
+
 /// All that a station has to keep between events. Slots past the counts are never touched by an event.
 #[derive(Clone, Debug, PartialEq, Eq)]
 pub struct State {
     pub tasks: usize,
     pub links: usize,
-    pub defaults: [u32; TASKS],
-    /// 0 idle, 1 waiting, 2 running
-    pub phase: [u8; TASKS],
-    pub newest: [u8; TASKS],
-    pub previous: [u8; TASKS],
-    /// position p of task t at t * 10 + p - 1
-    pub cells: [u32; CELLS],
-    pub writer: [u8; LINKS],
-    pub reader: [u8; LINKS],
-    /// 0 direct, 1 delayed
-    pub kind: [u8; LINKS],
-    /// 0: absent
-    pub pointer: [u8; LINKS],
+    pub control: Control,
+    pub values: Values,
 }
 
 /// An event: the arrival of a set (bit t is task t), the start of a task, the read by a link, the finish of a task with a value.
@@ -85,29 +109,46 @@ pub struct Written {
     pub place: usize,
 }
 
+impl Control {
+    /// All of it as the library takes it: a pointer to the whole struct, which may be used as one to the array. `repr(C)` puts the fields
+    /// one after the other, without gaps, and all are bytes.
+    fn lent(&mut self) -> *mut [u8; CONTROL] {
+        (self as *mut Control).cast()
+    }
+}
+
+impl Values {
+    /// All of it as the library takes it, likewise: all fields are numbers of 32 bits, and aligned as the array is.
+    fn lent(&mut self) -> *mut [u32; VALUES] {
+        (self as *mut Values).cast()
+    }
+}
+
 impl State {
     /// Room for a state; a call fills it.
     fn room() -> State {
         State {
             tasks: 0,
             links: 0,
-            defaults: [0; TASKS],
-            phase: [0; TASKS],
-            newest: [0; TASKS],
-            previous: [0; TASKS],
-            cells: [0; CELLS],
-            writer: [0; LINKS],
-            reader: [0; LINKS],
-            kind: [0; LINKS],
-            pointer: [0; LINKS],
+            control: Control {
+                phase: [0; TASKS],
+                newest: [0; TASKS],
+                previous: [0; TASKS],
+                pointer: [0; LINKS],
+                writer: [0; LINKS],
+                reader: [0; LINKS],
+                kind: [0; LINKS],
+            },
+            values: Values { defaults: [0; TASKS], cells: [0; CELLS] },
         }
     }
 
     /// The fresh state of a table, or the refusal that the table earns, 2 to 9, and the fresh state of a single task.
     pub fn fresh(table: &Table) -> Made {
         let mut state = State::room();
-        // SAFETY: each reference is valid, to an array as long as the header says; none overlap, since they are to different fields, and
-        // the state is this function's own.
+        // SAFETY: each reference is valid, to an array as long as the header says; control and values are lent whole, and either struct
+        // is the array that its pointer says, in size, alignment and elements. None overlap, since they are to different fields, and the
+        // state is this function's own.
         let refusal = unsafe {
             calls::parnusild_fresh(
                 table.tasks,
@@ -118,15 +159,8 @@ impl State {
                 &table.kind,
                 &mut state.tasks,
                 &mut state.links,
-                &mut state.defaults,
-                &mut state.phase,
-                &mut state.newest,
-                &mut state.previous,
-                &mut state.cells,
-                &mut state.writer,
-                &mut state.reader,
-                &mut state.kind,
-                &mut state.pointer,
+                state.control.lent(),
+                state.values.lent(),
             )
         };
         Made { refusal, state }
@@ -152,8 +186,8 @@ impl State {
     pub fn call(&mut self, kind: u8, which: u32, value: u32) -> (u8, u32) {
         // Not 0, so that a test sees that the call sets it.
         let mut number = u32::MAX;
-        // SAFETY: each reference is valid, to an array as long as the header says; none overlap, since they are to different fields, and
-        // the number is this function's own.
+        // SAFETY: control and values are lent whole, and either struct is the array that its pointer says, in size, alignment and
+        // elements. Nothing overlaps, since they are different fields, and the number is this function's own.
         let refusal = unsafe {
             calls::parnusild_event(
                 kind,
@@ -162,14 +196,8 @@ impl State {
                 &mut number,
                 self.tasks,
                 self.links,
-                &self.writer,
-                &self.reader,
-                &self.kind,
-                &mut self.phase,
-                &mut self.newest,
-                &mut self.previous,
-                &mut self.cells,
-                &mut self.pointer,
+                self.control.lent(),
+                self.values.lent(),
             )
         };
         (refusal, number)
@@ -182,7 +210,8 @@ pub fn replay(bytes: &[u8], numbers: &mut [u32]) -> Answer {
     let mut place = usize::MAX;
     let mut counts = [usize::MAX; 4];
     // SAFETY: each slice passes with its own length, and its pointer is not null even where it is empty. The list is lent to this function
-    // alone, so it overlaps nothing; the rest are references to different fields and arrays of its own, as long as the header says.
+    // alone, so it overlaps nothing; the rest are different fields and arrays of its own, as long as the header says. Control and values
+    // are lent whole, and either struct is the array that its pointer says, in size, alignment and elements.
     let refusal = unsafe {
         calls::parnusild_replay(
             bytes.as_ptr(),
@@ -193,15 +222,8 @@ pub fn replay(bytes: &[u8], numbers: &mut [u32]) -> Answer {
             &mut counts,
             &mut state.tasks,
             &mut state.links,
-            &mut state.defaults,
-            &mut state.phase,
-            &mut state.newest,
-            &mut state.previous,
-            &mut state.cells,
-            &mut state.writer,
-            &mut state.reader,
-            &mut state.kind,
-            &mut state.pointer,
+            state.control.lent(),
+            state.values.lent(),
         )
     };
     let [arrivals, starts, reads, finishes] = counts;

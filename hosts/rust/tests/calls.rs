@@ -124,7 +124,7 @@ fn event_by_event() {
         }
         if let Arrival(set) = e {
             if set & 2 != 0 {
-                newest.push(s.newest[1]);
+                newest.push(s.control.newest[1]);
             }
         }
     }
@@ -269,11 +269,11 @@ fn unsound_states() {
         |s| s.tasks = 17,
         |s| s.tasks = usize::MAX,
         |s| s.links = usize::MAX,
-        |s| s.phase[3] = 3,
-        |s| s.newest[1] = 0,
-        |s| s.previous[1] = 5,
-        |s| s.pointer[2] = 1,
-        |s| s.kind[0] = 0,
+        |s| s.control.phase[3] = 3,
+        |s| s.control.newest[1] = 0,
+        |s| s.control.previous[1] = 5,
+        |s| s.control.pointer[2] = 1,
+        |s| s.control.kind[0] = 0,
     ];
     for spoil in spoils {
         let mut s = good.clone();
@@ -285,10 +285,10 @@ fn unsound_states() {
         }
     }
     let mut past = good;
-    past.phase[4] = 200;
-    past.writer[3] = 200;
+    past.control.phase[4] = 200;
+    past.control.writer[3] = 200;
     assert_eq!(past.event(Arrival(1)), Ok(0), "slots past the counts are not looked at");
-    assert_eq!((past.phase[4], past.writer[3]), (200, 200));
+    assert_eq!((past.control.phase[4], past.control.writer[3]), (200, 200));
 }
 
 #[test]
@@ -320,17 +320,17 @@ fn tables() {
 
 #[test]
 fn a_fresh_state() {
-    let s = State::fresh(&example_table()).state;
-    assert_eq!((s.tasks, s.links), (4, 3));
-    assert_eq!(s.defaults[..6], [0, 100, 0, 0, 0, 0], "past the tasks stands 0");
-    assert_eq!((s.phase, s.newest, s.previous), ([0; TASKS], [1; TASKS], [1; TASKS]));
-    assert!(s.cells[10..20].iter().all(|&c| c == 100));
-    assert!(s.cells[..10].iter().chain(&s.cells[20..]).all(|&c| c == 0));
+    let State { tasks, links, control, values } = State::fresh(&example_table()).state;
+    assert_eq!((tasks, links), (4, 3));
+    assert_eq!(values.defaults[..6], [0, 100, 0, 0, 0, 0], "past the tasks stands 0");
+    assert_eq!((control.phase, control.newest, control.previous), ([0; TASKS], [1; TASKS], [1; TASKS]));
+    assert!(values.cells[10..20].iter().all(|&c| c == 100));
+    assert!(values.cells[..10].iter().chain(&values.cells[20..]).all(|&c| c == 0));
     assert_eq!(
-        (s.writer[..4].to_vec(), s.reader[..4].to_vec(), s.kind[..4].to_vec()),
+        (control.writer[..4].to_vec(), control.reader[..4].to_vec(), control.kind[..4].to_vec()),
         (vec![1, 1, 1, 0], vec![0, 2, 3, 0], vec![1, 0, 0, 0])
     );
-    assert_eq!(s.pointer, [0; LINKS]);
+    assert_eq!(control.pointer, [0; LINKS]);
 }
 
 /// A table's defaults and links as they are handed over, and events.

@@ -1,5 +1,6 @@
--- `mailbox_arrival::arrive` meets its contract: what the calls ensure, put together.
+-- `mailbox_arrival::arrive` meets its contract: the writers' part, then the readers' part.
 -- Assumes nothing.
+use Rattle.mailbox_arrival.proofs.Moves.{both}
 use borrow.Author.Needs.{needs}
 use Rattle.mailbox_arrival.proofs.arrive.Statement.{statement}
 use Rattle.mailbox_arrival.proofs.arrive.Tie as tie
@@ -17,10 +18,10 @@ set-pointers-requires : tie.Need-set-pointers-requires
 set-pointers-requires c κs = search needs
 
 returns : tie.Need-returns
-returns c right =
-    let m = c .before .before .before .before in
-    rw (← m .before .before .before .before .before .before .few .ensures, ← m .before .before .before .before .before .few2 .ensures)
-    (record { moved = m .move-tasks .ensures right; pointer = c .set-pointers .ensures })
+returns c right n =
+    let m = c .before .before in
+    rw (← m .before .before .before .few .ensures, ← m .before .before .few2 .ensures)
+    (both _ _ (m .move-tasks .ensures right _ n) (c .set-pointers .ensures _ _ n))
 
 pub arrive-spec : {M : Type 1} → statement M
 arrive-spec =

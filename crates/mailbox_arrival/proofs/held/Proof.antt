@@ -8,28 +8,29 @@ use Rattle.lists.specs.Lists.{some}
 use Rattle.lists.proofs.Lists.{some-none, some-more, some-end}
 use Rattle.protocol.specs.Free.{holds}
 use lib.Dec.{ltb}
+use Rattle.mailbox_layout.specs.Layout.{writerIn, readerIn, pointerIn}
 use Rattle.protocol_state.specs.Saved.{at}
 use Rattle.mailbox_arrival.proofs.held.Statement.{statement}
 use Rattle.mailbox_arrival.proofs.held.Tie as tie
 
 abbrev Inv-loop : tie.InvT-loop
-Inv-loop writer reader pointer links t p found₀ l₀ found l =
-    (l ≤ links) × (found ≡ some (holds ltb (at writer) (at reader) (at pointer) t p) l)
+Inv-loop control links t p found₀ l₀ found l =
+    (l ≤ links) × (found ≡ some (holds ltb (at (writerIn control)) (at (readerIn control)) (at (pointerIn control)) t p) l)
 
 abbrev μ-loop : tie.MeasureT-loop
-μ-loop writer reader pointer links t p found₀ l₀ found l = links - l
+μ-loop control links t p found₀ l₀ found l = links - l
 
 loop-holds : tie.Need-loop-holds Inv-loop μ-loop
 loop-holds c = (omega arith, some-none _)
 
-element-copy-out-holds-at : tie.Need-element-copy-out-holds-at Inv-loop μ-loop
-element-copy-out-holds-at c = omega arith
+control-at-requires : tie.Need-control-at-requires Inv-loop μ-loop
+control-at-requires c κs = search needs
 
-element-copy-out-holds-at-2 : tie.Need-element-copy-out-holds-at-2 Inv-loop μ-loop
-element-copy-out-holds-at-2 c = omega arith
+control-at-requires-2 : tie.Need-control-at-requires-2 Inv-loop μ-loop
+control-at-requires-2 c κs = search needs
 
-element-copy-out-holds-at-3 : tie.Need-element-copy-out-holds-at-3 Inv-loop μ-loop
-element-copy-out-holds-at-3 c = omega arith
+control-at-requires-3 : tie.Need-control-at-requires-3 Inv-loop μ-loop
+control-at-requires-3 c κs = search needs
 
 holds-at-requires : tie.Need-holds-at-requires Inv-loop μ-loop
 holds-at-requires c κs = search needs
@@ -44,8 +45,8 @@ loop-again : tie.Need-loop-again Inv-loop μ-loop
 loop-again c =
     let a = c .before .before .before .before .before .before .args in (
       omega arith,
-      some-more (holds ltb (at (a .writer .now)) (at (a .reader .now)) (at (a .pointer .now)) (a .t) (a .p)) _
-          (c .holds-at .ensures) (c .before .before .before .before .before .loop .inv .1),
+      some-more (holds ltb (at (writerIn (a .control .now))) (at (readerIn (a .control .now))) (at (pointerIn (a .control .now))) (a .t) (a .p)) _
+          (rw (c .before .before .before .control-at .ensures, c .before .before .control-at2 .ensures, c .before .control-at3 .ensures) at (c .holds-at .ensures)) (c .before .before .before .before .before .loop .inv .1),
     )
 
 returns : tie.Need-returns Inv-loop μ-loop
@@ -58,9 +59,9 @@ held-spec =
     Inv-loop
     μ-loop
     loop-holds
-    element-copy-out-holds-at
-    element-copy-out-holds-at-2
-    element-copy-out-holds-at-3
+    control-at-requires
+    control-at-requires-2
+    control-at-requires-3
     holds-at-requires
     add-l
     loop-less

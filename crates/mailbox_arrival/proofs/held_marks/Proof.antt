@@ -10,6 +10,7 @@ use Rattle.lists.specs.Lists.{some}
 use Rattle.lists.proofs.Lists.{some-none, some-more, some-end}
 use Rattle.protocol.specs.Event.{has}
 use Rattle.protocol.specs.Free.{holds}
+use Rattle.mailbox_layout.specs.Layout.{writerIn, readerIn, pointerIn}
 use Rattle.protocol_state.specs.Saved.{at}
 use Rattle.mailbox_free.specs.Marks.{lastBit}
 use Rattle.mailbox_free.proofs.Marked.{has-none, has-or, has-mark}
@@ -17,26 +18,26 @@ use Rattle.mailbox_arrival.proofs.held_marks.Statement.{statement}
 use Rattle.mailbox_arrival.proofs.held_marks.Tie as tie
 
 abbrev Inv-loop : tie.InvT-loop
-Inv-loop writer reader pointer links t marks₀ l₀ marks l =
-    (l ≤ links) × ((p : ℕ) → p < lastBit → has marks p ≡ some (holds ltb (at writer) (at reader) (at pointer) t p) l)
+Inv-loop control links t marks₀ l₀ marks l =
+    (l ≤ links) × ((p : ℕ) → p < lastBit → has marks p ≡ some (holds ltb (at (writerIn control)) (at (readerIn control)) (at (pointerIn control)) t p) l)
 
 abbrev μ-loop : tie.MeasureT-loop
-μ-loop writer reader pointer links t marks₀ l₀ marks l = links - l
+μ-loop control links t marks₀ l₀ marks l = links - l
 
 loop-holds : tie.Need-loop-holds Inv-loop μ-loop
 loop-holds c = (omega arith, λ p h. has-none p ∙ some-none _)
 
-element-copy-out-is-behind : tie.Need-element-copy-out-is-behind Inv-loop μ-loop
-element-copy-out-is-behind c = omega arith
+control-at-requires : tie.Need-control-at-requires Inv-loop μ-loop
+control-at-requires c κs = search needs
 
-element-copy-out-is-behind-2 : tie.Need-element-copy-out-is-behind-2 Inv-loop μ-loop
-element-copy-out-is-behind-2 c = omega arith
+control-at-requires-2 : tie.Need-control-at-requires-2 Inv-loop μ-loop
+control-at-requires-2 c κs = search needs
 
 is-behind-requires : tie.Need-is-behind-requires Inv-loop μ-loop
 is-behind-requires c κs = search needs
 
-element-copy-out-mark : tie.Need-element-copy-out-mark Inv-loop μ-loop
-element-copy-out-mark c = omega arith
+control-at-requires-3 : tie.Need-control-at-requires-3 Inv-loop μ-loop
+control-at-requires-3 c κs = search needs
 
 mark-requires : tie.Need-mark-requires Inv-loop μ-loop
 mark-requires c κs = search needs
@@ -53,9 +54,9 @@ loop-again c =
     let now = c .before .before .before .before .before .before .loop in (
       omega arith,
       λ p h. has-or _ _ p
-          ∙ some-more (holds ltb (at (a .writer .now)) (at (a .reader .now)) (at (a .pointer .now)) (a .t) p) (now .l)
-          (ap (λ (n : ℕ). has n p) (c .mark .ensures) ∙ has-mark (c .before .before .is-behind .result) (at (a .pointer .now) (now .l)) p h
-          ∙ ap (λ (b : Bool). b && eqb (at (a .pointer .now) (now .l)) p) (c .before .before .is-behind .ensures))
+          ∙ some-more (holds ltb (at (writerIn (a .control .now))) (at (readerIn (a .control .now))) (at (pointerIn (a .control .now))) (a .t) p) (now .l)
+          (ap (λ (n : ℕ). has n p) (rw (c .before .control-at3 .ensures) at (c .mark .ensures)) ∙ has-mark (c .before .before .is-behind .result) (at (pointerIn (a .control .now)) (now .l)) p h
+          ∙ ap (λ (b : Bool). b && eqb (at (pointerIn (a .control .now)) (now .l)) p) (rw (c .before .before .before .before .control-at .ensures, c .before .before .before .control-at2 .ensures) at (c .before .before .is-behind .ensures)))
           (now .inv .1 p h),
     )
 
@@ -69,10 +70,10 @@ held-marks-spec =
     Inv-loop
     μ-loop
     loop-holds
-    element-copy-out-is-behind
-    element-copy-out-is-behind-2
+    control-at-requires
+    control-at-requires-2
     is-behind-requires
-    element-copy-out-mark
+    control-at-requires-3
     mark-requires
     add-l
     loop-less

@@ -1,7 +1,9 @@
 -- `mailbox_arrival::move_task` meets its contract: by whether the task is in the set.
 -- Assumes nothing.
-use borrow.Author.Needs.{needs}
+use Rattle.mailbox_layout.specs.Layout.{stateOf}
+use Rattle.mailbox_layout.proofs.Fields.{phase-put, newest-put, previous-put}
 use Rattle.mailbox_arrival.proofs.Moves.{stays, moves}
+use borrow.Author.Needs.{needs}
 use Rattle.mailbox_arrival.proofs.move_task.Statement.{statement}
 use Rattle.mailbox_arrival.proofs.move_task.Tie as tie
 
@@ -9,13 +11,10 @@ has-requires : tie.Need-has-requires
 has-requires c κs = search needs
 
 returns : tie.Need-returns
-returns c right = stays _ (c .before .has .ensures) (c .if1 .taken)
+returns c right T n = stays _ _ _ _ (c .before .has .ensures) (c .if1 .taken)
 
-element-copy-out-x : tie.Need-element-copy-out-x
-element-copy-out-x c = search needs
-
-element-write-previous : tie.Need-element-write-previous
-element-write-previous c = search needs
+control-at-requires : tie.Need-control-at-requires
+control-at-requires c κs = search needs
 
 cast-lowest-free : tie.Need-cast-lowest-free
 cast-lowest-free c = search needs
@@ -23,22 +22,32 @@ cast-lowest-free c = search needs
 lowest-free-requires : tie.Need-lowest-free-requires
 lowest-free-requires c κs = search needs
 
-element-write-newest : tie.Need-element-write-newest
-element-write-newest c = search needs
-
-element-copy-out-decide : tie.Need-element-copy-out-decide
-element-copy-out-decide c = search needs
+control-at-requires-2 : tie.Need-control-at-requires-2
+control-at-requires-2 c κs = search needs
 
 decide-requires : tie.Need-decide-requires
 decide-requires c κs = search needs
 
-element-write-phase : tie.Need-element-write-phase
-element-write-phase c = search needs
+put-control-requires : tie.Need-put-control-requires
+put-control-requires c κs = search needs
+
+put-control-requires-2 : tie.Need-put-control-requires-2
+put-control-requires-2 c κs = search needs
+
+put-control-requires-3 : tie.Need-put-control-requires-3
+put-control-requires-3 c κs = search needs
 
 returns-2 : tie.Need-returns-2
-returns-2 c right =
-    moves _ (c .before .before .before .before .before .has .ensures) (c .before .before .before .before .if1 .left) (c .before .before .lowest-free .ensures right)
-    (c .decide .ensures)
+returns-2 c right T n =
+    let p = c .before .before .before .before in
+    let d = p .before .before in
+    let f = d .before .before .before in
+    let h = f .before .before .before .before in
+    let a = h .before .before .args in
+    moves _ _ (stateOf T (a .links) (a .control .now) n) _ (h .before .has .ensures) (h .if1 .left) (f .before .before .control-at .ensures) (f .lowest-free .ensures right)
+    (rw (d .before .control-at2 .ensures) at (d .decide .ensures))
+    (previous-put T _ _ _ n (p .put-control .ensures)) (newest-put T _ _ _ n (c .before .before .put-control2 .ensures))
+    (phase-put T _ _ _ n (c .put-control3 .ensures))
 
 pub move-task-spec : {M : Type 1} → statement M
 move-task-spec =
@@ -46,12 +55,12 @@ move-task-spec =
     (tie.spec
     has-requires
     returns
-    element-copy-out-x
-    element-write-previous
+    control-at-requires
     cast-lowest-free
     lowest-free-requires
-    element-write-newest
-    element-copy-out-decide
+    control-at-requires-2
     decide-requires
-    element-write-phase
+    put-control-requires
+    put-control-requires-2
+    put-control-requires-3
     returns-2)

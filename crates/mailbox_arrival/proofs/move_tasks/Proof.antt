@@ -1,23 +1,23 @@
 -- `mailbox_arrival::move_tasks` meets its contract: after t turns the first t tasks are as the writers' part leaves them.
 -- Assumes nothing.
-use Prim.Native.Nat.{_≤_, _-_}
+use Prim.Native.Nat.{ℕ, _≤_, _-_}
 use native.Mathlib.Omega.{arith}
 use borrow.Author.Needs.{needs}
 use Rattle.mailbox_free.specs.Pattern.{AllLowest}
-use Rattle.mailbox_arrival.specs.Arrives.{Moved}
+use Rattle.mailbox_layout.specs.Layout.{Becomes}
+use Rattle.mailbox_arrival.specs.Arrives.{moved}
 use Rattle.mailbox_arrival.proofs.Moves.{moved-none, moved-more, moved-end}
 use Rattle.mailbox_arrival.proofs.move_tasks.Statement.{statement}
 use Rattle.mailbox_arrival.proofs.move_tasks.Tie as tie
 
 abbrev Inv-loop : tie.InvT-loop
-Inv-loop lowest set tasks links writer reader pointer phase₀ newest₀ previous₀ t₀ phase newest previous t =
-    (t ≤ tasks) × (AllLowest lowest → Moved set t links writer reader pointer phase₀ newest₀ previous₀ phase newest previous)
+Inv-loop lowest set tasks links control₀ t₀ control t = (t ≤ tasks) × (AllLowest lowest → (T : ℕ) → Becomes (moved set t) T links control₀ control)
 
 abbrev μ-loop : tie.MeasureT-loop
-μ-loop lowest set tasks links writer reader pointer phase₀ newest₀ previous₀ t₀ phase newest previous t = tasks - t
+μ-loop lowest set tasks links control₀ t₀ control t = tasks - t
 
 loop-holds : tie.Need-loop-holds Inv-loop μ-loop
-loop-holds c = (omega arith, λ right. moved-none)
+loop-holds c = (omega arith, λ right T n. moved-none _ _)
 
 move-task-requires : tie.Need-move-task-requires Inv-loop μ-loop
 move-task-requires c κs = search needs
@@ -29,10 +29,10 @@ loop-less : tie.Need-loop-less Inv-loop μ-loop
 loop-less c = omega arith
 
 loop-again : tie.Need-loop-again Inv-loop μ-loop
-loop-again c = (omega arith, λ right. moved-more (c .before .before .before .before .before .loop .inv .1 right) (c .move-task .ensures right))
+loop-again c = (omega arith, λ right T n. moved-more _ _ _ (c .before .before .before .loop .inv .1 right T n) (c .move-task .ensures right T n))
 
 returns : tie.Need-returns Inv-loop μ-loop
-returns c right = moved-end (c .before .loop .inv .0) (c .loop-test .left) (c .before .loop .inv .1 right)
+returns c right T n = moved-end _ _ _ _ (c .before .loop .inv .1 right T n) (c .before .loop .inv .0) (c .loop-test .left)
 
 pub move-tasks-spec : {M : Type 1} → statement M
 move-tasks-spec =

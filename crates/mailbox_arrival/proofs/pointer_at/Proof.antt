@@ -7,11 +7,11 @@ use Rattle.mailbox_arrival.proofs.pointer_at.Tie as tie
 has-requires : tie.Need-has-requires
 has-requires c κs = search needs
 
-at-requires : tie.Need-at-requires
-at-requires c κs = search needs
+control-at-requires : tie.Need-control-at-requires
+control-at-requires c κs = search needs
 
-at-requires-2 : tie.Need-at-requires-2
-at-requires-2 c κs = search needs
+control-at-requires-2 : tie.Need-control-at-requires-2
+control-at-requires-2 c κs = search needs
 
 pick-requires : tie.Need-pick-requires
 pick-requires c κs = search needs
@@ -19,11 +19,11 @@ pick-requires c κs = search needs
 returns : tie.Need-returns
 returns c =
     rw (
-      ← c .before .before .before .before .before .before .has .ensures,
-      c .before .before .before .before .before .if1 .taken,
+      ← c .before .before .before .before .has .ensures,
+      c .before .before .before .if1 .taken,
       c .pick .ensures,
-      c .before .at2 .ensures,
-      c .before .before .before .at .ensures,
+      c .before .control-at2 .ensures,
+      c .before .before .control-at .ensures,
     )
 
 returns-2 : tie.Need-returns-2
@@ -31,4 +31,4 @@ returns-2 c = rw (← c .before .has .ensures, c .if1 .left)
 
 pub pointer-at-spec : {M : Type 1} → statement M
 pointer-at-spec =
-    tie.close (tie.spec has-requires at-requires at-requires-2 pick-requires returns returns-2)
+    tie.close (tie.spec has-requires control-at-requires control-at-requires-2 pick-requires returns returns-2)

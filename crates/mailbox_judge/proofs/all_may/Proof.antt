@@ -7,22 +7,23 @@ use borrow.Author.Needs.{needs}
 use Rattle.lists.specs.Lists.{every}
 use Rattle.lists.proofs.Lists.{every-none, every-more, every-end}
 use Rattle.protocol_state.specs.Judge.{mayArrive}
+use Rattle.mailbox_layout.specs.Layout.{phaseIn}
 use Rattle.protocol_state.specs.Saved.{at}
 use Rattle.mailbox_judge.proofs.all_may.Statement.{statement}
 use Rattle.mailbox_judge.proofs.all_may.Tie as tie
 
 abbrev Inv-loop : tie.InvT-loop
-Inv-loop set tasks phase ok₀ t₀ ok t =
-    (t ≤ tasks) × (ok ≡ every (mayArrive set (at phase)) t)
+Inv-loop set tasks control ok₀ t₀ ok t =
+    (t ≤ tasks) × (ok ≡ every (mayArrive set (at (phaseIn control))) t)
 
 abbrev μ-loop : tie.MeasureT-loop
-μ-loop set tasks phase ok₀ t₀ ok t = tasks - t
+μ-loop set tasks control ok₀ t₀ ok t = tasks - t
 
 loop-holds : tie.Need-loop-holds Inv-loop μ-loop
 loop-holds c = (omega arith, every-none _)
 
-element-copy-out-may-arrive : tie.Need-element-copy-out-may-arrive Inv-loop μ-loop
-element-copy-out-may-arrive c = omega arith
+control-at-requires : tie.Need-control-at-requires Inv-loop μ-loop
+control-at-requires c κs = search needs
 
 may-arrive-requires : tie.Need-may-arrive-requires Inv-loop μ-loop
 may-arrive-requires c κs = search needs
@@ -36,7 +37,7 @@ loop-less c = omega arith
 loop-again : tie.Need-loop-again Inv-loop μ-loop
 loop-again c =
     let a = c .before .before .before .before .args in
-    (omega arith, every-more (mayArrive (a .set) (at (a .phase .now))) _ (c .may-arrive .ensures) (c .before .before .before .loop .inv .1))
+    (omega arith, every-more (mayArrive (a .set) (at (phaseIn (a .control .now)))) _ (rw (c .before .control-at .ensures) at (c .may-arrive .ensures)) (c .before .before .before .loop .inv .1))
 
 returns : tie.Need-returns Inv-loop μ-loop
 returns c = every-end _ _ _ (c .before .loop .inv .1) (c .before .loop .inv .0) (c .loop-test .left)
@@ -48,7 +49,7 @@ all-may-spec =
     Inv-loop
     μ-loop
     loop-holds
-    element-copy-out-may-arrive
+    control-at-requires
     may-arrive-requires
     add-t
     loop-less

@@ -11,15 +11,15 @@ few-requires c κs = search needs
 returns : tie.Need-returns
 returns c = rw (← c .before .few .ensures) (read-outside _ _ _ _ _ (c .if1 .taken))
 
-element-copy-out-judge-task : tie.Need-element-copy-out-judge-task
-element-copy-out-judge-task c = search needs
+control-at-requires : tie.Need-control-at-requires
+control-at-requires c κs = search needs
 
 judge-task-requires : tie.Need-judge-task-requires
 judge-task-requires c κs = search needs
 
 returns-2 : tie.Need-returns-2
-returns-2 c = rw (← c .before .before .before .few .ensures) (read-inside _ _ _ _ _ (c .before .before .if1 .left) (c .judge-task .ensures))
+returns-2 c = rw (← c .before .before .before .few .ensures) (read-inside _ _ _ _ _ (c .before .before .if1 .left) (rw (← c .before .control-at .ensures) (c .judge-task .ensures)))
 
 pub judge-read-spec : {M : Type 1} → statement M
 judge-read-spec =
-    tie.close (tie.spec few-requires returns element-copy-out-judge-task judge-task-requires returns-2)
+    tie.close (tie.spec few-requires returns control-at-requires judge-task-requires returns-2)

@@ -11,8 +11,8 @@ few-requires c κs = search needs
 returns : tie.Need-returns
 returns c = rw (← c .before .few .ensures) (judged-outside _ _ _ _ (c .if1 .taken))
 
-element-copy-out-decide : tie.Need-element-copy-out-decide
-element-copy-out-decide c = search needs
+control-at-requires : tie.Need-control-at-requires
+control-at-requires c κs = search needs
 
 decide-requires : tie.Need-decide-requires
 decide-requires c κs = search needs
@@ -29,7 +29,7 @@ pick-requires-2 c κs = search needs
 returns-2 : tie.Need-returns-2
 returns-2 c =
     rw (← c .before .before .before .before .before .before .few .ensures)
-    (judged-inside _ _ _ _ (c .before .before .before .before .before .if1 .left) (c .before .before .before .decide .ensures)
+    (judged-inside _ _ _ _ (c .before .before .before .before .before .if1 .left) (rw (c .before .before .before .before .control-at .ensures) at (c .before .before .before .decide .ensures))
     (c .before .before .some-before .ensures) (c .before .pick .ensures) (c .pick2 .ensures))
 
 pub judge-task-spec : {M : Type 1} → statement M
@@ -38,7 +38,7 @@ judge-task-spec =
     (tie.spec
     few-requires
     returns
-    element-copy-out-decide
+    control-at-requires
     decide-requires
     some-before-requires
     pick-requires

@@ -6,22 +6,23 @@ use native.Mathlib.Omega.{arith}
 use borrow.Author.Needs.{needs}
 use Rattle.lists.specs.Lists.{some}
 use Rattle.lists.proofs.Lists.{some-none, some-more, some-end}
+use Rattle.mailbox_layout.specs.Layout.{phaseIn}
 use Rattle.protocol_state.specs.Saved.{at, activePhase}
 use Rattle.mailbox_judge.proofs.some_before.Statement.{statement}
 use Rattle.mailbox_judge.proofs.some_before.Tie as tie
 
 abbrev Inv-loop : tie.InvT-loop
-Inv-loop t phase found₀ u₀ found u =
-    (u ≤ t) × (found ≡ some (λ k. activePhase (at phase k)) u)
+Inv-loop t control found₀ u₀ found u =
+    (u ≤ t) × (found ≡ some (λ k. activePhase (at (phaseIn control) k)) u)
 
 abbrev μ-loop : tie.MeasureT-loop
-μ-loop t phase found₀ u₀ found u = t - u
+μ-loop t control found₀ u₀ found u = t - u
 
 loop-holds : tie.Need-loop-holds Inv-loop μ-loop
 loop-holds c = (omega arith, some-none _)
 
-element-copy-out-is-active : tie.Need-element-copy-out-is-active Inv-loop μ-loop
-element-copy-out-is-active c = omega arith
+control-at-requires : tie.Need-control-at-requires Inv-loop μ-loop
+control-at-requires c κs = search needs
 
 is-active-requires : tie.Need-is-active-requires Inv-loop μ-loop
 is-active-requires c κs = search needs
@@ -35,7 +36,7 @@ loop-less c = omega arith
 loop-again : tie.Need-loop-again Inv-loop μ-loop
 loop-again c =
     let a = c .before .before .before .before .args in
-    (omega arith, some-more (λ k. activePhase (at (a .phase .now) k)) _ (c .is-active .ensures) (c .before .before .before .loop .inv .1))
+    (omega arith, some-more (λ k. activePhase (at (phaseIn (a .control .now)) k)) _ (rw (c .before .control-at .ensures) at (c .is-active .ensures)) (c .before .before .before .loop .inv .1))
 
 returns : tie.Need-returns Inv-loop μ-loop
 returns c = some-end _ _ _ (c .before .loop .inv .1) (c .before .loop .inv .0) (c .loop-test .left)
@@ -47,7 +48,7 @@ some-before-spec =
     Inv-loop
     μ-loop
     loop-holds
-    element-copy-out-is-active
+    control-at-requires
     is-active-requires
     add-u
     loop-less

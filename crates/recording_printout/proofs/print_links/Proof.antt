@@ -6,16 +6,19 @@ use Rattle.recording_printout.proofs.print_links.Statement.{statement}
 use Rattle.recording_printout.proofs.print_links.Tie as tie
 
 abbrev Inv-loop : tie.InvT-loop
-Inv-loop links pointer l₀ l = l ≤ links
+Inv-loop links control end l₀ l = l ≤ end
 
 abbrev μ-loop : tie.MeasureT-loop
-μ-loop links pointer l₀ l = links - l
+μ-loop links control end l₀ l = end - l
+
+few-requires : tie.Need-few-requires Inv-loop μ-loop
+few-requires c κs = search needs
 
 loop-holds : tie.Need-loop-holds Inv-loop μ-loop
 loop-holds c = search needs
 
-element-copy-out-print-link : tie.Need-element-copy-out-print-link Inv-loop μ-loop
-element-copy-out-print-link c = search needs
+control-at-requires : tie.Need-control-at-requires Inv-loop μ-loop
+control-at-requires c κs = search needs
 
 print-link-requires : tie.Need-print-link-requires Inv-loop μ-loop
 print-link-requires c κs = search needs
@@ -38,8 +41,9 @@ print-links-spec =
     (tie.spec
     Inv-loop
     μ-loop
+    few-requires
     loop-holds
-    element-copy-out-print-link
+    control-at-requires
     print-link-requires
     add-l
     loop-less

@@ -6,25 +6,19 @@ use Rattle.recording_printout.proofs.print_tasks.Statement.{statement}
 use Rattle.recording_printout.proofs.print_tasks.Tie as tie
 
 abbrev Inv-loop : tie.InvT-loop
-Inv-loop tasks links writer reader phase newest previous cells t₀ t = t ≤ tasks
+Inv-loop tasks links control values end t₀ t = t ≤ end
 
 abbrev μ-loop : tie.MeasureT-loop
-μ-loop tasks links writer reader phase newest previous cells t₀ t = tasks - t
+μ-loop tasks links control values end t₀ t = end - t
+
+few-requires : tie.Need-few-requires Inv-loop μ-loop
+few-requires c κs = search needs
 
 loop-holds : tie.Need-loop-holds Inv-loop μ-loop
 loop-holds c = search needs
 
-readers-behind-requires : tie.Need-readers-behind-requires Inv-loop μ-loop
-readers-behind-requires c κs = search needs
-
-element-copy-out-print-task : tie.Need-element-copy-out-print-task Inv-loop μ-loop
-element-copy-out-print-task c = search needs
-
-element-copy-out-print-task-2 : tie.Need-element-copy-out-print-task-2 Inv-loop μ-loop
-element-copy-out-print-task-2 c = search needs
-
-element-copy-out-print-task-3 : tie.Need-element-copy-out-print-task-3 Inv-loop μ-loop
-element-copy-out-print-task-3 c = search needs
+cast-print-task : tie.Need-cast-print-task Inv-loop μ-loop
+cast-print-task c = search needs
 
 print-task-requires : tie.Need-print-task-requires Inv-loop μ-loop
 print-task-requires c κs = search needs
@@ -47,11 +41,9 @@ print-tasks-spec =
     (tie.spec
     Inv-loop
     μ-loop
+    few-requires
     loop-holds
-    readers-behind-requires
-    element-copy-out-print-task
-    element-copy-out-print-task-2
-    element-copy-out-print-task-3
+    cast-print-task
     print-task-requires
     add-t
     loop-less

@@ -6,8 +6,8 @@ use Prim.Native.Nat.{ℕ, _-_}
 use native.Mathlib.Omega.{arith}
 use borrow.Author.Tests.{ne-eqb}
 use lib.ListN.{length}
-use Rattle.recording_text.specs.Pieces.{between}
-use Rattle.recording_text.specs.Line.{Says, says}
+use Rattle.recording_text_fields.specs.Pieces.{between}
+use Rattle.recording_text_line.specs.Line.{Says, says}
 use Rattle.recording_text.proofs.Stores.{Held, held-none, held-more}
 use Rattle.recording_text.proofs.Texts.{Before, before-none, before-more, stops, ends, list-held, answered}
 use borrow.Author.Needs.{needs}
@@ -86,19 +86,19 @@ keep-requires : tie.Need-keep-requires Inv-loop μ-loop
 keep-requires c κs =
     let said = c .before .before .before in
     let l = said .before .before .before .before .loop in
-    record { size = said .line-says .ensures .1 .0; stored = l .inv .1 .1 .0 .few; whole = search needs; small = omega arith }
+    record { size = said .line-says .ensures .1 .0 .few; stored = l .inv .1 .1 .0 .few; whole = search needs; small = omega arith }
 
 keep-requires-2 : tie.Need-keep-requires-2 Inv-loop μ-loop
 keep-requires-2 c κs =
     let said = c .before .before .before .before .before in
     let l = said .before .before .before .before .loop in
-    record { size = said .line-says .ensures .1 .0; stored = l .inv .1 .1 .1 .0 .few; whole = search needs; small = omega arith }
+    record { size = said .line-says .ensures .1 .0 .few; stored = l .inv .1 .1 .1 .0 .few; whole = search needs; small = omega arith }
 
 keep-requires-3 : tie.Need-keep-requires-3 Inv-loop μ-loop
 keep-requires-3 c κs =
     let said = c .before .before .before .before .before .before .before in
     let l = said .before .before .before .before .loop in
-    record { size = said .line-says .ensures .1 .0; stored = l .inv .1 .1 .1 .1 .few; whole = search needs; small = omega arith }
+    record { size = said .line-says .ensures .1 .0 .few; stored = l .inv .1 .1 .1 .1 .few; whole = search needs; small = omega arith }
 
 add-at : tie.Need-add-at Inv-loop μ-loop
 add-at c =
@@ -121,7 +121,7 @@ loop-again c =
     let line = between (l .at) (piece .piece-end .result) text in
     let x = said .line-says .result in
     let q = said .line-says .ensures .0 in
-    let small = said .line-says .ensures .1 .0 in
+    let small = said .line-says .ensures .1 .0 .few in
     let three = said .line-says .ensures .1 .1 in
     let z : says line .fault ≡ 0 = sym (ap (λ (y : Says). y .fault) q) ∙ no .if1 .left in (
       done ++ (line ∷ []),

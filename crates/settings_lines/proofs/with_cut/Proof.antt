@@ -1,14 +1,10 @@
 -- `settings_lines::with_cut` meets its contract: the words where something is cut off, or nothing more.
 -- Assumes nothing.
-use mathlib.Core.Path.{sym, _∙_}
 use Rattle.text_line.proofs.Pieces.{chain, no-piece}
 use Rattle.settings_lines.specs.Lines.{cutWords}
 use borrow.Author.Needs.{needs}
 use Rattle.settings_lines.proofs.with_cut.Statement.{statement}
 use Rattle.settings_lines.proofs.with_cut.Tie as tie
-
-is-cut-requires : tie.Need-is-cut-requires
-is-cut-requires c κs = search needs
 
 slice-aggregate-text : tie.Need-slice-aggregate-text
 slice-aggregate-text c = search needs
@@ -28,18 +24,17 @@ text-requires-3 c κs = search needs
 returns : tie.Need-returns
 unfolding cutWords
 returns c =
-    rw (sym (c .before .before .before .before .before .before .is-cut .ensures) ∙ c .before .before .before .before .before .if1 .taken)
+    rw (c .before .before .before .before .before .if1 .taken)
     (chain _ _ _ (c .before .before .before .text .ensures .1) (chain _ _ _ (c .before .before .text2 .ensures .1) (c .text3 .ensures .1)))
 
 returns-2 : tie.Need-returns-2
 unfolding cutWords
-returns-2 c = rw (sym (c .before .is-cut .ensures) ∙ c .if1 .left) (no-piece (c .before .before .before .args .line) (search needs))
+returns-2 c = rw (c .if1 .left) (no-piece (c .before .before .args .line) (search needs))
 
 pub with-cut-spec : {M : Type 1} → statement M
 with-cut-spec =
     tie.close
     (tie.spec
-    is-cut-requires
     slice-aggregate-text
     text-requires
     text-requires-2

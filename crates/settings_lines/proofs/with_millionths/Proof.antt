@@ -5,9 +5,6 @@ use borrow.Author.Needs.{needs}
 use Rattle.settings_lines.proofs.with_millionths.Statement.{statement}
 use Rattle.settings_lines.proofs.with_millionths.Tie as tie
 
-millionths-requires : tie.Need-millionths-requires
-millionths-requires c κs = search needs
-
 number-requires : tie.Need-number-requires
 number-requires c κs = search needs
 
@@ -28,17 +25,15 @@ with-cut-requires c κs = search needs
 
 returns : tie.Need-returns
 returns c =
-    rw (← c .before .before .before .before .before .before .millionths .ensures)
-    (chain _ _ _ (c .before .before .before .before .before .number .ensures .1)
+    chain _ _ _ (c .before .before .before .before .before .number .ensures .1)
     (chain _ _ _ (c .before .before .before .text .ensures .1)
     (chain _ _ _ (c .before .before .with-six .ensures)
-    (chain _ _ _ (c .before .text2 .ensures .1) (c .with-cut .ensures)))))
+    (chain _ _ _ (c .before .text2 .ensures .1) (c .with-cut .ensures))))
 
 pub with-millionths-spec : {M : Type 1} → statement M
 with-millionths-spec =
     tie.close
     (tie.spec
-    millionths-requires
     number-requires
     slice-aggregate-text
     text-requires

@@ -1,6 +1,6 @@
 -- `settings_lines::with_six` meets its contract: each byte is the digit at its place.
 -- Assumes nothing.
-use Rattle.settings_lines.specs.Decimal.{sixDigits}
+use Rattle.settings_decimal.specs.Decimal.{sixDigits}
 use borrow.Author.Needs.{needs}
 use Rattle.settings_lines.proofs.with_six.Statement.{statement}
 use Rattle.settings_lines.proofs.with_six.Tie as tie

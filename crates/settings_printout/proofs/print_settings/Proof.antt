@@ -4,7 +4,7 @@ use mathlib.Core.Path.{ap, _∙_}
 use Prim.Native.Nat.{_-_, _≤_, _<_}
 use native.Mathlib.Omega.{arith}
 use borrow.Author.Needs.{needs}
-use Rattle.settings.specs.Setting.{floatFault}
+use Rattle.settings_entry.specs.Setting.{floatFault}
 use Rattle.settings.proofs.Writing.{slot-there}
 use Rattle.settings_printout.proofs.print_settings.Statement.{statement}
 use Rattle.settings_printout.proofs.print_settings.Tie as tie

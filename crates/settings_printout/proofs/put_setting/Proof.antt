@@ -3,8 +3,10 @@
 use mathlib.Core.Path.{_≡_, sym, ap, _∙_}
 use mathlib.Core.Bool.{cond}
 use borrow.Author.Needs.{needs}
-use Rattle.settings.specs.Setting.{aboveZero, floatFault}
-use Rattle.settings.proofs.Floats.{no-nan, good-float}
+use Rattle.settings_float.specs.AboveZero.{aboveZero}
+use Rattle.settings_entry.specs.Setting.{floatFault}
+use Rattle.settings_float.proofs.Floats.{no-nan}
+use Rattle.settings_entry.proofs.Faults.{good-float}
 use Rattle.settings_printout.proofs.put_setting.Statement.{statement}
 use Rattle.settings_printout.proofs.put_setting.Tie as tie
 

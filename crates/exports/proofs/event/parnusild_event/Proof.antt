@@ -1,7 +1,9 @@
 -- `exports::event::parnusild_event` meets its contract: no event, to an unsound state or a sound one; or an event given.
 -- Assumes nothing.
-use borrow.Author.Needs.{needs}
+use mathlib.Core.Path.{refl}
+use Rattle.mailbox_layout.specs.Layout.{stateOf}
 use Rattle.exports.proofs.Ways.{answered-unsound, answered-none, answered-event}
+use borrow.Author.Needs.{needs}
 use Rattle.exports.proofs.event.parnusild_event.Statement.{statement}
 use Rattle.exports.proofs.event.parnusild_event.Tie as tie
 
@@ -15,24 +17,35 @@ is-sound-requires : tie.Need-is-sound-requires
 is-sound-requires c κs = search needs
 
 returns : tie.Need-returns
-returns c = answered-unsound (c .before .is-sound .ensures) (c .if1 .taken)
+returns c =
+    let a = c .before .before .before .before .before .args in
+    let q = stateOf (a .tasks) (a .links) (a .control .now) (a .values .now) in
+    (answered-unsound q (a .kind) (a .which) (a .value) (c .before .is-sound .ensures _) (c .if1 .taken), λ z. (refl, refl))
 
 number-of-requires : tie.Need-number-of-requires
 number-of-requires c κs = search needs
 
 returns-2 : tie.Need-returns-2
 returns-2 c =
-    let m = c .before .before .before .before .before .before .before in
-    let a = m .before .ask in
-    answered-none (a .result) (a .ensures) (c .before .before .is-sound .ensures) (c .before .if1 .left) (m .match .keys2) (c .number-of .ensures)
+    let s = c .before .before in
+    let m = s .before .before in
+    let k = m .before .ask in
+    let a = m .before .before .args in
+    let q = stateOf (a .tasks) (a .links) (a .control .now) (a .values .now) in (
+      answered-none q (a .kind) (a .which) (a .value) (k .result) (k .ensures) (s .is-sound .ensures _) (c .before .if1 .left) (m .match .keys2) (c .number-of .ensures),
+      λ z. (refl, refl),
+    )
 
 give-requires : tie.Need-give-requires
 give-requires c κs = search needs
 
 returns-3 : tie.Need-returns-3
 returns-3 c =
-    let a = c .before .before .before .before .before .before .before .before .before .before .ask in
-    answered-event (a .result) (a .ensures) (c .before .before .before .before .before .before .before .before .call .given .1) (c .give .ensures)
+    let known = c .before .before .before .before .before in
+    let k = known .before .before in
+    let a = k .before .args in
+    let q = stateOf (a .tasks) (a .links) (a .control .now) (a .values .now) in
+    (answered-event q (a .kind) (a .which) (a .value) (k .ask .result) (k .ask .ensures) (known .call .given .1) (c .give .ensures .0), c .give .ensures .1)
 
 pub parnusild-event-spec : {M : Type 1} → statement M
 parnusild-event-spec =

@@ -1,7 +1,7 @@
 -- `exports::fresh::parnusild_fresh` meets its contract: the state that is made is put into the parts.
 -- Assumes nothing.
-use borrow.Author.Needs.{needs}
 use Rattle.exports.proofs.Fills.{made-filled}
+use borrow.Author.Needs.{needs}
 use Rattle.exports.proofs.fresh.parnusild_fresh.Statement.{statement}
 use Rattle.exports.proofs.fresh.parnusild_fresh.Tie as tie
 
@@ -12,7 +12,9 @@ put-state-requires : tie.Need-put-state-requires
 put-state-requires c κs = search needs
 
 returns : tie.Need-returns
-returns c = made-filled (c .before .before .before .before .before .before .before .before .before .before .before .before .fresh .ensures .0) (c .put-state .ensures)
+returns c =
+    let m = c .before .before .before .before .before in
+    made-filled (m .fresh .result) (m .fresh .ensures .0 .answer) (c .put-state .ensures)
 
 pub parnusild-fresh-spec : {M : Type 1} → statement M
 parnusild-fresh-spec = tie.close (tie.spec fresh-requires put-state-requires returns)

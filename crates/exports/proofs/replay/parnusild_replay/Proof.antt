@@ -1,7 +1,7 @@
 -- `exports::replay::parnusild_replay` meets its contract: the state that the replay ends in is put into the parts.
 -- Assumes nothing.
-use borrow.Author.Needs.{needs}
 use Rattle.exports.proofs.Fills.{replay-filled}
+use borrow.Author.Needs.{needs}
 use Rattle.exports.proofs.replay.parnusild_replay.Statement.{statement}
 use Rattle.exports.proofs.replay.parnusild_replay.Tie as tie
 
@@ -16,8 +16,8 @@ same-length c = search needs
 
 returns : tie.Need-returns
 returns c =
-    let d = c .before .before .before .before .before .before .before .before .before .before .before .before .before .before .before in
-    (replay-filled _ _ (d .replay .result) (d .replay .ensures .0) (c .put-state .ensures), d .replay .ensures .1)
+    let d = c .before .before .before .before .before .before .before .before in
+    (replay-filled _ _ (d .replay .result) (d .replay .ensures .0) (c .put-state .ensures), d .replay .ensures .1 .1)
 
 pub parnusild-replay-spec : {M : Type 1} → statement M
 parnusild-replay-spec = tie.close (tie.spec replay-requires put-state-requires same-length returns)

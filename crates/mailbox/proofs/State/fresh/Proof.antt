@@ -1,11 +1,12 @@
 -- `mailbox::State::fresh` meets its contract: each way out is one law on tables.
 -- Assumes nothing.
-use mathlib.Core.Path.{sym, _∙_}
-use borrow.Author.Needs.{needs}
-use Rattle.protocol_state.proofs.Rules.{room}
 use Rattle.mailbox.proofs.Makes.{made-refused, made-fresh, makes-sound}
+use borrow.Author.Needs.{needs}
 use Rattle.mailbox.proofs.State.fresh.Statement.{statement}
 use Rattle.mailbox.proofs.State.fresh.Tie as tie
+
+control-of-requires : tie.Need-control-of-requires
+control-of-requires c κs = search needs
 
 judge-table-requires : tie.Need-judge-table-requires
 judge-table-requires c κs = search needs
@@ -15,20 +16,30 @@ single-requires c κs = search needs
 
 returns : tie.Need-returns
 returns c =
-    let a = c .before .before .before .before .before .before .args in
-    let g = made-refused (a .tasks) (a .links) (a .t3) (a .t4) (a .t5) (a .t6) (c .before .before .judge-table .ensures) (c .before .if1 .taken) (c .single .ensures) in
-    (g, makes-sound (a .tasks) (a .links) (a .t3) (a .t4) (a .t5) (a .t6) g)
+    let j = c .before .before in
+    let a = j .before .before .before .before .before .before .args in
+    let e = made-refused (a .tasks) (a .links) (a .t3) (a .t4) (a .t5) (a .t6) _ (j .before .before .control-of .ensures) (j .judge-table .ensures) (c .single .result)
+    (c .before .if1 .taken) (c .single .ensures .0) in
+    (record { answer = e; whole = c .single .ensures .1 }, makes-sound (a .tasks) (a .links) (a .t3) (a .t4) (a .t5) (a .t6) _ e)
 
-fresh-of-requires : tie.Need-fresh-of-requires
-fresh-of-requires c κs =
-    room _ _ _ _ _ _ _ (sym (c .before .before .before .before .before .judge-table .ensures) ∙ c .before .before .before .before .if1 .left)
+values-of-requires : tie.Need-values-of-requires
+values-of-requires c κs = search needs
 
 returns-2 : tie.Need-returns-2
 returns-2 c =
-    let a = c .before .before .before .before .before .before .before .before .before .before .args in
-    let g = made-fresh (a .tasks) (a .links) (a .t3) (a .t4) (a .t5) (a .t6) (c .before .before .before .before .before .before .judge-table .ensures) (c .before .before .before .before .before .if1 .left) (c .fresh-of .ensures) in
-    (g, makes-sound (a .tasks) (a .links) (a .t3) (a .t4) (a .t5) (a .t6) g)
+    let j = c .before .before .before in
+    let a = j .before .before .before .before .before .before .args in
+    let e = made-fresh (a .tasks) (a .links) (a .t3) (a .t4) (a .t5) (a .t6) _ (j .before .before .control-of .ensures) (j .judge-table .ensures) _ (c .values-of .ensures)
+    (c .before .before .if1 .left) in
+    (record { answer = e; whole = search needs }, makes-sound (a .tasks) (a .links) (a .t3) (a .t4) (a .t5) (a .t6) _ e)
 
 pub fresh-spec : {M : Type 1} → statement M
 fresh-spec =
-    tie.close (tie.spec judge-table-requires single-requires returns fresh-of-requires returns-2)
+    tie.close
+    (tie.spec
+    control-of-requires
+    judge-table-requires
+    single-requires
+    returns
+    values-of-requires
+    returns-2)

@@ -1,18 +1,23 @@
 -- `mailbox::State::single` meets its contract: computed.
 -- Assumes nothing.
-use mathlib.Core.Path.{refl, _∙_}
+use mathlib.Core.Path.{refl, ap, _∙_}
+use mathlib.Core.List.{List}
+use Prim.Native.Nat.{ℕ}
+use lib.ListN.{replicate}
 use borrow.Author.Needs.{needs}
 use Rattle.lists.specs.Lists.{upto}
 use Rattle.protocol_state.specs.Fresh.{freshOf}
+use Rattle.regions.specs.Regions.{regions}
+use Rattle.mailbox_layout.specs.Layout.{valueSize, cutValues, fieldsOf}
 use Rattle.mailbox.proofs.State.single.Statement.{statement}
 use Rattle.mailbox.proofs.State.single.Tie as tie
 
-fresh-of-requires : tie.Need-fresh-of-requires
-fresh-of-requires c κs = search needs
+fresh-control-requires : tie.Need-fresh-control-requires
+fresh-control-requires c κs = search needs
 
 returns : tie.Need-returns
-unfolding freshOf upto
-returns c = c .fresh-of .ensures ∙ refl
+unfolding freshOf upto regions
+returns c = (ap (λ (b : List (List ℕ)). fieldsOf 1 0 b (cutValues (replicate valueSize 0))) (c .fresh-control .ensures) ∙ refl, search needs)
 
 pub single-spec : {M : Type 1} → statement M
-single-spec = tie.close (tie.spec fresh-of-requires returns)
+single-spec = tie.close (tie.spec fresh-control-requires returns)

@@ -1,24 +1,26 @@
 -- `mailbox_cases::show::entries` is safe and ends: the invariant is how far it got, the measure what is left. Assumes nothing.
 use Prim.Native.Nat.{_≤_, _-_}
 use borrow.Author.Needs.{needs}
-use lib.ListN.{length}
 use Rattle.mailbox_cases.proofs.show.entries.Statement.{statement}
 use Rattle.mailbox_cases.proofs.show.entries.Tie as tie
 
 abbrev Inv-loop : tie.InvT-loop
-Inv-loop in-cells before after i₀ i = i ≤ length after
+Inv-loop before after field size i₀ i = i ≤ size
 
 abbrev μ-loop : tie.MeasureT-loop
-μ-loop in-cells before after i₀ i = length after - i
+μ-loop before after field size i₀ i = size - i
+
+size-of-requires : tie.Need-size-of-requires Inv-loop μ-loop
+size-of-requires c κs = search needs
 
 loop-holds : tie.Need-loop-holds Inv-loop μ-loop
 loop-holds c = search needs
 
-number-at-requires : tie.Need-number-at-requires Inv-loop μ-loop
-number-at-requires c κs = search needs
+entry-of-requires : tie.Need-entry-of-requires Inv-loop μ-loop
+entry-of-requires c κs = search needs
 
-number-at-requires-2 : tie.Need-number-at-requires-2 Inv-loop μ-loop
-number-at-requires-2 c κs = search needs
+entry-of-requires-2 : tie.Need-entry-of-requires-2 Inv-loop μ-loop
+entry-of-requires-2 c κs = search needs
 
 entry-requires : tie.Need-entry-requires Inv-loop μ-loop
 entry-requires c κs = search needs
@@ -41,9 +43,10 @@ entries-spec =
     (tie.spec
     Inv-loop
     μ-loop
+    size-of-requires
     loop-holds
-    number-at-requires
-    number-at-requires-2
+    entry-of-requires
+    entry-of-requires-2
     entry-requires
     add-i
     loop-less

@@ -1,21 +1,23 @@
 -- `mailbox_cases::show::largest` is safe and ends: the invariant is how far it got, the measure what is left. Assumes nothing.
 use Prim.Native.Nat.{_≤_, _-_}
 use borrow.Author.Needs.{needs}
-use lib.ListN.{length}
 use Rattle.mailbox_cases.proofs.show.largest.Statement.{statement}
 use Rattle.mailbox_cases.proofs.show.largest.Tie as tie
 
 abbrev Inv-loop : tie.InvT-loop
-Inv-loop a n most₀ i₀ most i = n ≤ i
+Inv-loop s field n size most₀ i₀ most i = n ≤ i
 
 abbrev μ-loop : tie.MeasureT-loop
-μ-loop a n most₀ i₀ most i = length a - i
+μ-loop s field n size most₀ i₀ most i = size - i
+
+size-of-requires : tie.Need-size-of-requires Inv-loop μ-loop
+size-of-requires c κs = search needs
 
 loop-holds : tie.Need-loop-holds Inv-loop μ-loop
 loop-holds c = search needs
 
-byte-at-requires : tie.Need-byte-at-requires Inv-loop μ-loop
-byte-at-requires c κs = search needs
+entry-of-requires : tie.Need-entry-of-requires Inv-loop μ-loop
+entry-of-requires c κs = search needs
 
 larger-requires : tie.Need-larger-requires Inv-loop μ-loop
 larger-requires c κs = search needs
@@ -38,8 +40,9 @@ largest-spec =
     (tie.spec
     Inv-loop
     μ-loop
+    size-of-requires
     loop-holds
-    byte-at-requires
+    entry-of-requires
     larger-requires
     add-i
     loop-less

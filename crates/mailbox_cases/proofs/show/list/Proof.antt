@@ -5,10 +5,10 @@ use Rattle.mailbox_cases.proofs.show.list.Statement.{statement}
 use Rattle.mailbox_cases.proofs.show.list.Tie as tie
 
 abbrev Inv-loop : tie.InvT-loop
-Inv-loop label a n i₀ i = i ≤ n
+Inv-loop label s field n i₀ i = i ≤ n
 
 abbrev μ-loop : tie.MeasureT-loop
-μ-loop label a n i₀ i = n - i
+μ-loop label s field n i₀ i = n - i
 
 text-requires : tie.Need-text-requires Inv-loop μ-loop
 text-requires c κs = search needs
@@ -16,11 +16,14 @@ text-requires c κs = search needs
 loop-holds : tie.Need-loop-holds Inv-loop μ-loop
 loop-holds c = search needs
 
-byte-at-requires : tie.Need-byte-at-requires Inv-loop μ-loop
-byte-at-requires c κs = search needs
+entry-of-requires : tie.Need-entry-of-requires Inv-loop μ-loop
+entry-of-requires c κs = search needs
 
-byte-requires : tie.Need-byte-requires Inv-loop μ-loop
-byte-requires c κs = search needs
+cast-number : tie.Need-cast-number Inv-loop μ-loop
+cast-number c = search needs
+
+number-requires : tie.Need-number-requires Inv-loop μ-loop
+number-requires c κs = search needs
 
 add-i : tie.Need-add-i Inv-loop μ-loop
 add-i c = search needs
@@ -42,8 +45,9 @@ list-spec =
     μ-loop
     text-requires
     loop-holds
-    byte-at-requires
-    byte-requires
+    entry-of-requires
+    cast-number
+    number-requires
     add-i
     loop-less
     loop-again

@@ -3,6 +3,7 @@
 use mathlib.Core.Path.{_≡_}
 use Prim.Native.Nat.{_≤_, _-_}
 use native.Mathlib.Omega.{arith}
+use Rattle.mailbox_layout.specs.Layout.{writerIn, readerIn}
 use borrow.Author.Needs.{needs}
 use Rattle.lists.specs.Lists.{some}
 use Rattle.lists.proofs.Lists.{some-none, some-more, some-end}
@@ -12,11 +13,11 @@ use Rattle.mailbox_checks.proofs.links.has_pair.Statement.{statement}
 use Rattle.mailbox_checks.proofs.links.has_pair.Tie as tie
 
 abbrev Inv-loop : tie.InvT-loop
-Inv-loop writer reader n w r end found₀ l₀ found l =
-    (l ≤ end) × (found ≡ some (joins (at writer) (at reader) w r) l)
+Inv-loop control n w r end found₀ l₀ found l =
+    (l ≤ end) × (found ≡ some (joins (at (writerIn control)) (at (readerIn control)) w r) l)
 
 abbrev μ-loop : tie.MeasureT-loop
-μ-loop writer reader n w r end found₀ l₀ found l = end - l
+μ-loop control n w r end found₀ l₀ found l = end - l
 
 few-requires : tie.Need-few-requires Inv-loop μ-loop
 few-requires c κs = search needs
@@ -24,11 +25,11 @@ few-requires c κs = search needs
 loop-holds : tie.Need-loop-holds Inv-loop μ-loop
 loop-holds c = (omega arith, some-none _)
 
-element-copy-out-is-pair : tie.Need-element-copy-out-is-pair Inv-loop μ-loop
-element-copy-out-is-pair c = omega arith
+control-at-requires : tie.Need-control-at-requires Inv-loop μ-loop
+control-at-requires c κs = search needs
 
-element-copy-out-is-pair-2 : tie.Need-element-copy-out-is-pair-2 Inv-loop μ-loop
-element-copy-out-is-pair-2 c = omega arith
+control-at-requires-2 : tie.Need-control-at-requires-2 Inv-loop μ-loop
+control-at-requires-2 c κs = search needs
 
 is-pair-requires : tie.Need-is-pair-requires Inv-loop μ-loop
 is-pair-requires c κs = search needs
@@ -43,8 +44,8 @@ loop-again : tie.Need-loop-again Inv-loop μ-loop
 loop-again c =
     let a = c .before .before .before .before .before .before .args in (
       omega arith,
-      some-more (joins (at (a .writer .now)) (at (a .reader .now)) (a .w) (a .r)) _
-          (c .is-pair .ensures) (c .before .before .before .before .loop .inv .1),
+      some-more (joins (at (writerIn (a .control .now))) (at (readerIn (a .control .now))) (a .w) (a .r)) _
+          (rw (c .before .before .control-at .ensures, c .before .control-at2 .ensures) at (c .is-pair .ensures)) (c .before .before .before .before .loop .inv .1),
     )
 
 returns : tie.Need-returns Inv-loop μ-loop
@@ -58,8 +59,8 @@ has-pair-spec =
     μ-loop
     few-requires
     loop-holds
-    element-copy-out-is-pair
-    element-copy-out-is-pair-2
+    control-at-requires
+    control-at-requires-2
     is-pair-requires
     add-l
     loop-less

@@ -3,6 +3,7 @@
 use mathlib.Core.Path.{_≡_}
 use Prim.Native.Nat.{_≤_, _-_}
 use native.Mathlib.Omega.{arith}
+use Rattle.mailbox_layout.specs.Layout.{writerIn, readerIn}
 use borrow.Author.Needs.{needs}
 use Rattle.lists.specs.Lists.{count}
 use Rattle.lists.proofs.Lists.{count-none, count-more, count-end, count-le}
@@ -14,11 +15,11 @@ use Rattle.mailbox_checks.proofs.links.readers_behind.Statement.{statem
 use Rattle.mailbox_checks.proofs.links.readers_behind.Tie as tie
 
 abbrev Inv-loop : tie.InvT-loop
-Inv-loop writer reader n t end c₀ l₀ c l =
-    (l ≤ end) × (c ≡ count (toBehind ltb (at writer) (at reader) t) l)
+Inv-loop control n t end c₀ l₀ c l =
+    (l ≤ end) × (c ≡ count (toBehind ltb (at (writerIn control)) (at (readerIn control)) t) l)
 
 abbrev μ-loop : tie.MeasureT-loop
-μ-loop writer reader n t end c₀ l₀ c l = end - l
+μ-loop control n t end c₀ l₀ c l = end - l
 
 few-requires : tie.Need-few-requires Inv-loop μ-loop
 few-requires c κs = search needs
@@ -26,11 +27,11 @@ few-requires c κs = search needs
 loop-holds : tie.Need-loop-holds Inv-loop μ-loop
 loop-holds c = (omega arith, count-none _)
 
-element-copy-out-is-behind : tie.Need-element-copy-out-is-behind Inv-loop μ-loop
-element-copy-out-is-behind c = omega arith
+control-at-requires : tie.Need-control-at-requires Inv-loop μ-loop
+control-at-requires c κs = search needs
 
-element-copy-out-is-behind-2 : tie.Need-element-copy-out-is-behind-2 Inv-loop μ-loop
-element-copy-out-is-behind-2 c = omega arith
+control-at-requires-2 : tie.Need-control-at-requires-2 Inv-loop μ-loop
+control-at-requires-2 c κs = search needs
 
 is-behind-requires : tie.Need-is-behind-requires Inv-loop μ-loop
 is-behind-requires c κs = search needs
@@ -44,7 +45,7 @@ add-c c =
     let l = c .before .before .before .before .before .loop in
     omega (
       arith,
-      count-le (toBehind ltb (at (a .writer .now)) (at (a .reader .now)) (a .t)) (l .l),
+      count-le (toBehind ltb (at (writerIn (a .control .now))) (at (readerIn (a .control .now))) (a .t)) (l .l),
       l .inv .1,
       c .one-if .ensures,
       cond-small (c .before .is-behind .result) {x = 1} {y = 0} {m = 1} (omega arith) (omega arith),
@@ -60,15 +61,15 @@ loop-again : tie.Need-loop-again Inv-loop μ-loop
 loop-again c =
     let a = c .before .before .before .before .before .before .before .args in (
       omega arith,
-      count-more (toBehind ltb (at (a .writer .now)) (at (a .reader .now)) (a .t)) _
-          (c .before .is-behind .ensures) (c .before .before .before .before .before .loop .inv .1) (c .one-if .ensures),
+      count-more (toBehind ltb (at (writerIn (a .control .now))) (at (readerIn (a .control .now))) (a .t)) _
+          (rw (c .before .before .before .control-at .ensures, c .before .before .control-at2 .ensures) at (c .before .is-behind .ensures)) (c .before .before .before .before .before .loop .inv .1) (c .one-if .ensures),
     )
 
 returns : tie.Need-returns Inv-loop μ-loop
 returns c =
     let a = c .before .before .before .args in
-    let e = count-end (toBehind ltb (at (a .writer .now)) (at (a .reader .now)) (a .t)) _ _ (c .before .loop .inv .1) (c .before .loop .inv .0) (c .loop-test .left) in
-    (rw (← c .before .before .few .ensures) e, omega (arith, count-le (toBehind ltb (at (a .writer .now)) (at (a .reader .now)) (a .t)) (c .before .loop .l), c .before .loop .inv .1))
+    let e = count-end (toBehind ltb (at (writerIn (a .control .now))) (at (readerIn (a .control .now))) (a .t)) _ _ (c .before .loop .inv .1) (c .before .loop .inv .0) (c .loop-test .left) in
+    (rw (← c .before .before .few .ensures) e, omega (arith, count-le (toBehind ltb (at (writerIn (a .control .now))) (at (readerIn (a .control .now))) (a .t)) (c .before .loop .l), c .before .loop .inv .1))
 
 pub readers-behind-spec : {M : Type 1} → statement M
 readers-behind-spec =
@@ -78,8 +79,8 @@ readers-behind-spec =
     μ-loop
     few-requires
     loop-holds
-    element-copy-out-is-behind
-    element-copy-out-is-behind-2
+    control-at-requires
+    control-at-requires-2
     is-behind-requires
     one-if-requires
     add-c

@@ -1,6 +1,7 @@
 -- `mailbox_checks::sound::is_sound` meets its contract: a table with a refusal, and one without, which has room.
 -- Assumes nothing.
 use mathlib.Core.Path.{sym, _∙_}
+use Rattle.mailbox_layout.specs.Layout.{stateOf}
 use borrow.Author.Needs.{needs}
 use Rattle.protocol_state.proofs.Rules.{room}
 use Rattle.mailbox_checks.proofs.Judged.{unsound, sound}
@@ -11,18 +12,21 @@ judge-table-requires : tie.Need-judge-table-requires
 judge-table-requires c κs = search needs
 
 returns : tie.Need-returns
-returns c = unsound _ _ _ _ _ _ _ _ _ (c .before .judge-table .ensures) (c .if1 .taken)
+returns c v =
+    let a = c .before .before .args in
+    unsound (stateOf (a .tasks) (a .links) (a .control .now) v) (c .before .judge-table .ensures) (c .if1 .taken)
 
 tasks-ok-requires : tie.Need-tasks-ok-requires
-tasks-ok-requires c κs = room _ _ _ _ _ _ _ (sym (c .before .judge-table .ensures) ∙ c .if1 .left)
+tasks-ok-requires c κs = room _ _ _ _ _ _ _ (sym (c .before .judge-table .ensures) ∙ c .if1 .left) .1
 
 pointers-ok-requires : tie.Need-pointers-ok-requires
 pointers-ok-requires c κs = room _ _ _ _ _ _ _ (sym (c .before .before .judge-table .ensures) ∙ c .before .if1 .left) .1
 
 returns-2 : tie.Need-returns-2
-returns-2 c =
-    sound _ _ _ _ _ _ _ _ _ (c .before .before .before .judge-table .ensures) (c .before .before .if1 .left)
-    (c .before .tasks-ok .ensures) (c .pointers-ok .ensures)
+returns-2 c v =
+    let a = c .before .before .before .before .args in
+    sound (stateOf (a .tasks) (a .links) (a .control .now) v) (c .before .before .before .judge-table .ensures) (c .before .before .if1 .left)
+    (c .before .tasks-ok .ensures (a .tasks) v) (c .pointers-ok .ensures (a .tasks) v)
 
 pub is-sound-spec : {M : Type 1} → statement M
 is-sound-spec =

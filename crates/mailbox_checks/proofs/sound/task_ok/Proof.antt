@@ -8,11 +8,29 @@ use Rattle.mailbox_checks.proofs.sound.task_ok.Tie as tie
 readers-behind-requires : tie.Need-readers-behind-requires
 readers-behind-requires c κs = search needs
 
+control-at-requires : tie.Need-control-at-requires
+control-at-requires c κs = search needs
+
+control-at-requires-2 : tie.Need-control-at-requires-2
+control-at-requires-2 c κs = search needs
+
+control-at-requires-3 : tie.Need-control-at-requires-3
+control-at-requires-3 c κs = search needs
+
 task-is-requires : tie.Need-task-is-requires
 task-is-requires c κs = search needs
 
 returns : tie.Need-returns
-returns c = rw (c .task-is .ensures, c .before .readers-behind .ensures .0, min-eq-left (c .before .before .pre))
+returns c T v =
+    let n = c .before .before .before .before in
+    rw (
+      c .task-is .ensures,
+      n .readers-behind .ensures .0,
+      min-eq-left (n .before .pre),
+      c .before .before .before .control-at .ensures,
+      c .before .before .control-at2 .ensures,
+      c .before .control-at3 .ensures,
+    )
 
 pub task-ok-spec : {M : Type 1} → statement M
-task-ok-spec = tie.close (tie.spec readers-behind-requires task-is-requires returns)
+task-ok-spec = tie.close (tie.spec readers-behind-requires control-at-requires control-at-requires-2 control-at-requires-3 task-is-requires returns)

@@ -9,14 +9,14 @@ use borrow.Author.Needs.{needs}
 use Rattle.mailbox_checks.proofs.table.fault_at.Statement.{statement}
 use Rattle.mailbox_checks.proofs.table.fault_at.Tie as tie
 
-element-copy-out-fault-after : tie.Need-element-copy-out-fault-after
-element-copy-out-fault-after c = search needs
+control-at-requires : tie.Need-control-at-requires
+control-at-requires c κs = search needs
 
-element-copy-out-fault-after-2 : tie.Need-element-copy-out-fault-after-2
-element-copy-out-fault-after-2 c = search needs
+control-at-requires-2 : tie.Need-control-at-requires-2
+control-at-requires-2 c κs = search needs
 
-element-copy-out-fault-after-3 : tie.Need-element-copy-out-fault-after-3
-element-copy-out-fault-after-3 c = search needs
+control-at-requires-3 : tie.Need-control-at-requires-3
+control-at-requires-3 c κs = search needs
 
 fault-after-requires : tie.Need-fault-after-requires
 fault-after-requires c κs = search needs
@@ -25,14 +25,19 @@ returns : tie.Need-returns
 unfolding fault
 returns c =
     let l : c .before .before .before .before .args .l ≤ base .links = omega (arith, c .before .before .before .before .pre) in
-    rw (min-eq-left l) at (c .fault-after .ensures)
+    rw (
+      min-eq-left l,
+      c .before .before .before .control-at .ensures,
+      c .before .before .control-at2 .ensures,
+      c .before .control-at3 .ensures,
+    ) at (c .fault-after .ensures)
 
 pub fault-at-spec : {M : Type 1} → statement M
 fault-at-spec =
     tie.close
     (tie.spec
-    element-copy-out-fault-after
-    element-copy-out-fault-after-2
-    element-copy-out-fault-after-3
+    control-at-requires
+    control-at-requires-2
+    control-at-requires-3
     fault-after-requires
     returns)

@@ -3,6 +3,7 @@
 use mathlib.Core.Path.{_≡_, refl}
 use Prim.Native.Nat.{_≤_, _-_}
 use native.Mathlib.Omega.{arith}
+use Rattle.mailbox_layout.specs.Layout.{writerIn, readerIn, kindIn}
 use borrow.Author.Needs.{needs}
 use Rattle.lists.specs.Lists.{leading}
 use Rattle.lists.proofs.Lists.{leading-none, leading-more, leading-end}
@@ -13,11 +14,11 @@ use Rattle.mailbox_checks.proofs.table.first_fault.Statement.{statement
 use Rattle.mailbox_checks.proofs.table.first_fault.Tie as tie
 
 abbrev Inv-loop : tie.InvT-loop
-Inv-loop tasks links writer reader kind found₀ l₀ found l =
-    (l ≤ links) × (found ≡ leading (fault ltb tasks (at writer) (at reader) (at kind)) l)
+Inv-loop tasks links control found₀ l₀ found l =
+    (l ≤ links) × (found ≡ leading (fault ltb tasks (at (writerIn control)) (at (readerIn control)) (at (kindIn control))) l)
 
 abbrev μ-loop : tie.MeasureT-loop
-μ-loop tasks links writer reader kind found₀ l₀ found l = links - l
+μ-loop tasks links control found₀ l₀ found l = links - l
 
 loop-holds : tie.Need-loop-holds Inv-loop μ-loop
 loop-holds c = (omega arith, leading-none _)
@@ -35,7 +36,7 @@ loop-again : tie.Need-loop-again Inv-loop μ-loop
 loop-again c =
     let a = c .before .before .before .args in (
       omega arith,
-      leading-more (fault ltb (a .tasks) (at (a .writer .now)) (at (a .reader .now)) (at (a .kind .now))) _ refl
+      leading-more (fault ltb (a .tasks) (at (writerIn (a .control .now))) (at (readerIn (a .control .now))) (at (kindIn (a .control .now)))) _ refl
           (c .before .before .loop .inv .1) (c .fault-or .ensures),
     )
 

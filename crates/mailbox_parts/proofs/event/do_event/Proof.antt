@@ -1,7 +1,6 @@
 -- `mailbox_parts::event::do_event` meets its contract: what the doing of its kind ensures.
 -- Assumes nothing.
 use borrow.Author.Needs.{needs}
-use Rattle.mailbox_parts.proofs.Done.{becomes-arrival, becomes-start, becomes-read, becomes-finish}
 use Rattle.mailbox_parts.proofs.event.do_event.Statement.{statement}
 use Rattle.mailbox_parts.proofs.event.do_event.Tie as tie
 
@@ -27,16 +26,16 @@ finish-requires : tie.Need-finish-requires
 finish-requires c κs = search needs
 
 returns : tie.Need-returns
-returns c right = becomes-arrival (c .before .before .before .before .before .before .e .given .1) (c .arrive .ensures right)
+returns c right = rw (c .before .before .before .e .given .1) (c .arrive .ensures right _)
 
 returns-2 : tie.Need-returns-2
-returns-2 c right = becomes-start (c .before .before .before .e2 .given .1) (c .advance .ensures)
+returns-2 c right = rw (c .before .before .before .e2 .given .1) (c .advance .ensures _ _ _)
 
 returns-3 : tie.Need-returns-3
-returns-3 c right = becomes-read (c .enum-told .given .1)
+returns-3 c right = rw (c .enum-told .given .1)
 
 returns-4 : tie.Need-returns-4
-returns-4 c right = becomes-finish (c .before .before .before .before .before .before .e3 .given .1) (c .finish .ensures)
+returns-4 c right = rw (c .before .before .before .before .e3 .given .1) (c .finish .ensures _)
 
 pub do-event-spec : {M : Type 1} → statement M
 do-event-spec =

@@ -1,6 +1,5 @@
 -- `mailbox_parts::event::value_of` meets its contract: the number of a read, else 0.
 -- Assumes nothing.
-use Rattle.mailbox_parts.proofs.Done.{valued}
 use borrow.Author.Needs.{needs}
 use Rattle.mailbox_parts.proofs.event.value_of.Statement.{statement}
 use Rattle.mailbox_parts.proofs.event.value_of.Tie as tie
@@ -27,7 +26,7 @@ returns-2 : tie.Need-returns-2
 returns-2 c = search needs
 
 returns-3 : tie.Need-returns-3
-returns-3 c = valued _ _ _ (c .before .before .e .given .1) (c .number-of .ensures)
+returns-3 c = rw (c .before .before .e .given .1) (c .number-of .ensures)
 
 returns-4 : tie.Need-returns-4
 returns-4 c = search needs

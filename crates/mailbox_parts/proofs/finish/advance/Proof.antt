@@ -1,20 +1,22 @@
--- `mailbox_parts::finish::advance` meets its contract: what the three calls ensure, put together.
+-- `mailbox_parts::finish::advance` meets its contract: the phase is put, and what is no task has none.
 -- Assumes nothing.
+use Rattle.mailbox_layout.proofs.Fields.{phase-put}
 use borrow.Author.Needs.{needs}
 use Rattle.mailbox_parts.proofs.finish.advance.Statement.{statement}
 use Rattle.mailbox_parts.proofs.finish.advance.Tie as tie
 
-at-requires : tie.Need-at-requires
-at-requires c κs = search needs
+control-at-requires : tie.Need-control-at-requires
+control-at-requires c κs = search needs
 
 decide-requires : tie.Need-decide-requires
 decide-requires c κs = search needs
 
-put-requires : tie.Need-put-requires
-put-requires c κs = search needs
+put-control-requires : tie.Need-put-control-requires
+put-control-requires c κs = search needs
 
 returns : tie.Need-returns
-returns c = rw (c .put .ensures, c .before .before .decide .ensures, c .before .before .before .at .ensures)
+returns c T L v =
+    phase-put T L _ _ v (rw (c .before .before .decide .ensures, c .before .before .before .control-at .ensures) at (c .put-control .ensures))
 
 pub advance-spec : {M : Type 1} → statement M
-advance-spec = tie.close (tie.spec at-requires decide-requires put-requires returns)
+advance-spec = tie.close (tie.spec control-at-requires decide-requires put-control-requires returns)

@@ -1,17 +1,17 @@
--- `mailbox_parts::finish::finish` meets its contract: what the five calls ensure, put together.
+-- `mailbox_parts::finish::finish` meets its contract: its three steps.
 -- Assumes nothing.
+use Rattle.mailbox_layout.specs.Layout.{stateOf}
+use Rattle.mailbox_layout.proofs.Fields.{cells-put}
+use Rattle.mailbox_parts.proofs.Done.{all-three}
 use borrow.Author.Needs.{needs}
 use Rattle.mailbox_parts.proofs.finish.finish.Statement.{statement}
 use Rattle.mailbox_parts.proofs.finish.finish.Tie as tie
 
-at-requires : tie.Need-at-requires
-at-requires c κs = search needs
+control-at-requires : tie.Need-control-at-requires
+control-at-requires c κs = search needs
 
-cell-of-requires : tie.Need-cell-of-requires
-cell-of-requires c κs = search needs
-
-put-number-requires : tie.Need-put-number-requires
-put-number-requires c κs = search needs
+put-cell-requires : tie.Need-put-cell-requires
+put-cell-requires c κs = search needs
 
 few-requires : tie.Need-few-requires
 few-requires c κs = search needs
@@ -23,25 +23,22 @@ advance-requires : tie.Need-advance-requires
 advance-requires c κs = search needs
 
 returns : tie.Need-returns
-returns c =
-    record {
-      cells =
-          rw (
-            c .before .before .before .before .before .put-number .ensures,
-            c .before .before .before .before .before .before .cell-of .ensures,
-            c .before .before .before .before .before .before .before .at .ensures,
-          );
-      pointer = rw (← c .before .before .before .before .few .ensures) (c .before .before .free-pointers .ensures);
-      phase = c .advance .ensures;
-    }
+returns c T =
+    let f = c .before .before .before .before in
+    let p = f .before in
+    let a = p .before .before .before .before .args in
+    let q = stateOf T (f .few .result) (a .control .now) (a .values .now) in
+    rw (← f .few .ensures)
+    (all-three (a .t) q (a .v)
+    (cells-put T _ _ _ _ (rw (p .before .control-at .ensures) at (p .put-cell .ensures)))
+    (c .before .before .free-pointers .ensures T _ _) (c .advance .ensures T _ _))
 
 pub finish-spec : {M : Type 1} → statement M
 finish-spec =
     tie.close
     (tie.spec
-    at-requires
-    cell-of-requires
-    put-number-requires
+    control-at-requires
+    put-cell-requires
     few-requires
     free-pointers-requires
     advance-requires

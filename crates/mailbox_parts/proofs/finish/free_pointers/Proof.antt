@@ -1,41 +1,25 @@
 -- `mailbox_parts::finish::free_pointers` meets its contract: after l turns the first l pointers are as a finish leaves them.
 -- Assumes nothing.
-use mathlib.Core.Path.{_≡_, sym}
-use Prim.Native.Nat.{_≤_, _-_}
+use Prim.Native.Nat.{ℕ, _≤_, _-_}
 use native.Mathlib.Omega.{arith}
 use borrow.Author.Needs.{needs}
-use Rattle.lists.specs.Lists.{upto}
-use Rattle.lists.proofs.Lists.{upto-none, upto-more, upto-end}
-use Rattle.protocol_state.specs.Next.{freedAt}
-use lib.Dec.{ltb}
-use Rattle.protocol_state.specs.Saved.{at}
+use Rattle.mailbox_layout.specs.Layout.{Becomes}
+use Rattle.mailbox_parts.specs.Frees.{freedFirst}
+use Rattle.mailbox_parts.proofs.Done.{freed-none, freed-more, freed-end}
 use Rattle.mailbox_parts.proofs.finish.free_pointers.Statement.{statement}
 use Rattle.mailbox_parts.proofs.finish.free_pointers.Tie as tie
 
 abbrev Inv-loop : tie.InvT-loop
-Inv-loop t links writer reader pointer₀ l₀ pointer l =
-    (l ≤ links) × (pointer ≡ upto (freedAt ltb t (at writer) (at reader)) l pointer₀)
+Inv-loop t links control₀ l₀ control l = (l ≤ links) × ((T L : ℕ) → Becomes (freedFirst t l) T L control₀ control)
 
 abbrev μ-loop : tie.MeasureT-loop
-μ-loop t links writer reader pointer₀ l₀ pointer l = links - l
+μ-loop t links control₀ l₀ control l = links - l
 
 loop-holds : tie.Need-loop-holds Inv-loop μ-loop
-loop-holds c = (omega arith, sym (upto-none _ _))
+loop-holds c = (omega arith, λ T L n. freed-none _ _)
 
-element-copy-out-freed-at : tie.Need-element-copy-out-freed-at Inv-loop μ-loop
-element-copy-out-freed-at c = omega arith
-
-element-copy-out-freed-at-2 : tie.Need-element-copy-out-freed-at-2 Inv-loop μ-loop
-element-copy-out-freed-at-2 c = omega arith
-
-element-copy-out-freed-at-3 : tie.Need-element-copy-out-freed-at-3 Inv-loop μ-loop
-element-copy-out-freed-at-3 c = omega arith
-
-freed-at-requires : tie.Need-freed-at-requires Inv-loop μ-loop
-freed-at-requires c κs = search needs
-
-element-write-pointer : tie.Need-element-write-pointer Inv-loop μ-loop
-element-write-pointer c = omega arith
+free-pointer-requires : tie.Need-free-pointer-requires Inv-loop μ-loop
+free-pointer-requires c κs = search needs
 
 add-l : tie.Need-add-l Inv-loop μ-loop
 add-l c = omega arith
@@ -44,29 +28,12 @@ loop-less : tie.Need-loop-less Inv-loop μ-loop
 loop-less c = omega arith
 
 loop-again : tie.Need-loop-again Inv-loop μ-loop
-loop-again c =
-    let a = c .before .before .before .before .before .before .args in (
-      omega arith,
-      upto-more (freedAt ltb (a .t) (at (a .writer .now)) (at (a .reader .now))) _ _ 0
-          (c .before .before .before .before .before .loop .inv .1) (c .freed-at .ensures),
-    )
+loop-again c = (omega arith, λ T L n. freed-more _ _ _ (c .before .before .before .loop .inv .1 T L n) (c .free-pointer .ensures T L n))
 
 returns : tie.Need-returns Inv-loop μ-loop
-returns c = upto-end _ _ _ _ (c .before .loop .inv .1) (c .before .loop .inv .0) (c .loop-test .left)
+returns c T L n = freed-end _ _ _ _ (c .before .loop .inv .1 T L n) (c .before .loop .inv .0) (c .loop-test .left)
 
 pub free-pointers-spec : {M : Type 1} → statement M
 free-pointers-spec =
     tie.close
-    (tie.spec
-    Inv-loop
-    μ-loop
-    loop-holds
-    element-copy-out-freed-at
-    element-copy-out-freed-at-2
-    element-copy-out-freed-at-3
-    freed-at-requires
-    element-write-pointer
-    add-l
-    loop-less
-    loop-again
-    returns)
+    (tie.spec Inv-loop μ-loop loop-holds free-pointer-requires add-l loop-less loop-again returns)

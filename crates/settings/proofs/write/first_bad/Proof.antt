@@ -7,7 +7,7 @@ use Rattle.lists.specs.Lists.{first}
 use borrow.Author.Tests.{not-true}
 use Rattle.lists.proofs.Bools.{passed}
 use Rattle.lists.proofs.Search.{first-on, first-here, first-end}
-use Rattle.settings.specs.Setting.{Held}
+use Rattle.settings_entry.specs.Setting.{Held}
 use Rattle.settings.specs.Writing.{settingAt, goodAt, firstBad}
 use Rattle.settings.proofs.Writing.{good-there, held-there, held-more}
 use borrow.Author.Needs.{needs}

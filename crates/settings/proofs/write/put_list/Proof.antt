@@ -6,7 +6,7 @@ use mathlib.Core.List.{_++_}
 use Prim.Native.Nat.{_+_, _-_, _*_, _≤_}
 use native.Mathlib.Omega.{arith}
 use lib.ListN.{length, drop}
-use Rattle.settings.proofs.Writing.{slot-there, begun, count-first, entry-behind, all-behind}
+use Rattle.settings.proofs.Writing.{begun, count-first, entry-behind, all-behind}
 use borrow.Author.Needs.{needs}
 use Rattle.settings.proofs.write.put_list.Statement.{statement}
 use Rattle.settings.proofs.write.put_list.Tie as tie
@@ -34,12 +34,7 @@ array-copy-out-slot : tie.Need-array-copy-out-slot Inv-loop μ-loop
 array-copy-out-slot c = omega (arith, c .loop-test .taken)
 
 put-entry-requires : tie.Need-put-entry-requires Inv-loop μ-loop
-put-entry-requires c κs =
-    let test = c .before .before in
-    let l = test .before .loop in
-    let start = test .before .before .before .before .before .before .before in
-    let a = start .args in
-    (omega (arith, test .loop-test .taken, start .pre .1 .0), rw (slot-there (a .t1) (l .i) _ (search needs) (omega (arith, test .loop-test .taken))) (start .pre .1 .1 (l .i) (test .loop-test .taken)))
+put-entry-requires c κs = search needs
 
 add-at : tie.Need-add-at Inv-loop μ-loop
 add-at c = record { fits = omega (arith, c .before .before .before .before .before .loop-test .taken) }
@@ -60,7 +55,8 @@ loop-again c =
       (omega (arith, test .loop-test .taken), omega arith),
       (
         search needs,
-        entry-behind (a .t1) (search needs) (a .n) (l .i) _ _ (omega (arith, test .loop-test .taken)) (omega (arith, test .loop-test .taken, start .pre .1 .0)) (l .inv .0 .1) (l .inv .1 .1) (put .put-entry .ensures),
+        entry-behind (a .t1) (search needs) (a .n) (l .i) _ _ (omega (arith, test .loop-test .taken)) (omega (arith, test .loop-test .taken, start .pre .1 .0)) (l .inv .0 .1) (l .inv .1 .0) (l .inv .1 .1)
+            (start .pre .1 .1 (l .i) (test .loop-test .taken)) (put .put-entry .ensures),
       ),
     )
 

@@ -1,0 +1,99 @@
+-- A saved state put into the arrays of the code's state, and that nothing of such a state lies outside what it holds.
+-- Assumes nothing.
+use mathlib.Core.Path.{_≡_, refl, sym, ap, subst, _∙_}
+use mathlib.Core.List.{List, [], _∷_}
+use Prim.Native.Nat.{ℕ}
+use lib.Dec.{ltb}
+use Rattle.protocol.specs.Event.{Event}
+use Rattle.protocol_state.specs.Saved.{Saved, Shape, base}
+use Rattle.protocol_state.specs.Give.{Reply, give}
+use Rattle.protocol_state.specs.Fresh as fresh
+use Rattle.protocol_state.proofs.Freshes.{made-shape}
+use Rattle.protocol_state.proofs.Give.{give-shape}
+use Rattle.regions.specs.Regions.{regions, joined, Widths}
+use Rattle.regions.proofs.Regions.{regions-joined, joined-length}
+use Rattle.mailbox_layout.specs.Layout.{controlWidths, valueWidths, cut, cutValues, fieldsOf, Filled}
+use Rattle.mailbox_layout.proofs.Places.{control-extent, value-extent}
+use Rattle.mailbox_layout.proofs.Whole.{filled-shape, same-control, same-values}
+use Rattle.mailbox.specs.States.{saved, Whole, Given, MadeFrom}
+use Rattle.mailbox.specs.declared.State.{State}
+use Rattle.mailbox.specs.declared.Step.{Step}
+use Rattle.mailbox.specs.declared.Made.{Made}
+
+-- the regions of the two arrays
+abbrev controlOf : Saved → List (List ℕ)
+controlOf q = q .phase ∷ q .newest ∷ q .previous ∷ q .pointer ∷ q .writer ∷ q .reader ∷ q .kind ∷ []
+
+abbrev valuesOf : Saved → List (List ℕ)
+valuesOf q = q .defaults ∷ q .cells ∷ []
+
+-- a saved state in the code's arrays
+pub packed : Saved → State
+packed q = record { tasks = q .tasks; links = q .links; control = joined (controlOf q); values = joined (valuesOf q) }
+
+module _ (q : Saved) (S : Shape base q) where
+  control-widths : Widths controlWidths (controlOf q)
+  unfolding Widths
+  control-widths = (S .phase, (S .newest, (S .previous, (S .pointer, (S .writer, (S .reader, (S .kind, tt)))))))
+
+  value-widths : Widths valueWidths (valuesOf q)
+  unfolding Widths
+  value-widths = (S .defaults, (S .cells, tt))
+
+  -- which it then is
+  pub saved-packed : saved (packed q) ≡ q
+  unfolding packed
+  saved-packed =
+      ap (λ (c : List (List ℕ)). fieldsOf (q .tasks) (q .links) c (cutValues (joined (valuesOf q)))) (regions-joined controlWidths (controlOf q) control-widths)
+      ∙ ap (λ (v : List (List ℕ)). fieldsOf (q .tasks) (q .links) (controlOf q) v) (regions-joined valueWidths (valuesOf q) value-widths)
+
+  pub packed-whole : Whole (packed q)
+  unfolding packed
+  packed-whole = record {
+    control = joined-length controlWidths (controlOf q) control-widths ∙ control-extent;
+    values = joined-length valueWidths (valuesOf q) value-widths ∙ value-extent;
+  }
+
+-- states with all their arrays are equal where they hold the same
+pub saved-same : (p q : State) → Whole p → Whole q → saved p ≡ saved q → p ≡ q
+saved-same p q w w′ e =
+    let c : p .control ≡ q .control = same-control (p .tasks) (p .links) (q .tasks) (q .links) (p .control) (p .values) (q .control) (q .values) e w w′ in
+    let v : p .values ≡ q .values = same-values (p .tasks) (p .links) (q .tasks) (q .links) (p .control) (p .values) (q .control) (q .values) e w w′ in
+    λ i. record { tasks = e i .tasks; links = e i .links; control = c i; values = v i }
+
+-- its parts have their lengths
+pub whole-shape : (q : State) → Whole q → Shape base (saved q)
+whole-shape q w = filled-shape (q .tasks) (q .links) (q .control) (q .values) w
+
+-- so a state with all its arrays is the packing of what it holds
+pub packed-is : (p : State) (q : Saved) → Whole p → saved p ≡ q → p ≡ packed q
+packed-is p q w e =
+    let S : Shape base q = subst (λ (x : Saved). Shape base x) e (whole-shape p w) in
+    saved-same p (packed q) w (packed-whole q S) (e ∙ sym (saved-packed q S))
+
+-- the answer to an event, and to a table
+abbrev pub stepTo : Reply → Step
+stepTo a = record { state = packed (a .state); answer = record { refusal = a .refusal; value = a .value } }
+
+pub given-to : (q : State) (e : Event ℕ) → Whole q → Given q e (stepTo (give ltb base (saved q) e))
+given-to q e w =
+    let a = give ltb base (saved q) e in
+    let S : Shape base (give ltb base (saved q) e .state) = give-shape ltb base (saved q) e (whole-shape q w) in
+    record {
+      answer = λ i. record { state = saved-packed (a .state) S i; refusal = a .refusal; value = a .value };
+      lent = w;
+      whole = packed-whole (a .state) S;
+    }
+
+-- of a packed state
+pub given-packed : (q : Saved) (e : Event ℕ) → Shape base q → Given (packed q) e (stepTo (give ltb base q e))
+given-packed q e S = subst (λ (x : Saved). Given (packed q) e (stepTo (give ltb base x e))) (saved-packed q S) (given-to (packed q) e (packed-whole q S))
+
+abbrev pub madeTo : fresh.Made → Made
+madeTo m = record { refusal = m .refusal; state = packed (m .state) }
+
+pub made-to : (T L : ℕ) (D W R K : List ℕ) → MadeFrom T L D W R K (madeTo (fresh.made ltb base T L D W R K))
+made-to T L D W R K =
+    let m = fresh.made ltb base T L D W R K in
+    let S : Shape base (fresh.made ltb base T L D W R K .state) = made-shape ltb base T L D W R K in
+    record { answer = λ i. record { refusal = m .refusal; state = saved-packed (m .state) S i }; whole = packed-whole (m .state) S }

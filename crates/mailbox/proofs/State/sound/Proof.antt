@@ -1,0 +1,14 @@
+-- `mailbox::State::sound` meets its contract: what the test of the control ensures.
+-- Assumes nothing.
+use borrow.Author.Needs.{needs}
+use Rattle.mailbox.proofs.State.sound.Statement.{statement}
+use Rattle.mailbox.proofs.State.sound.Tie as tie
+
+is-sound-requires : tie.Need-is-sound-requires
+is-sound-requires c κs = search needs
+
+returns : tie.Need-returns
+returns c = c .is-sound .ensures _
+
+pub sound-spec : {M : Type 1} → statement M
+sound-spec = tie.close (tie.spec is-sound-requires returns)

@@ -1,0 +1,5 @@
+-- Laws that the proofs cite.
+pub mod Places
+pub mod Fields
+pub mod Whole
+pub mod Filling

@@ -1,0 +1,55 @@
+// The arrays of a fresh state: no link yet, and every position of a task holding its default.
+ghost use mathlib.Core.Path.{_≡_};
+ghost use lib.ListN.{set};
+ghost use Rattle.mailbox_layout.specs.Layout.{cut, cutValues, cellsIn, defaultsIn};
+ghost use Rattle.mailbox_layout.specs.Fresh.{freshControl, noColumn, columnsPut, eachDefault};
+use crate::CELL;
+use crate::CONTROL;
+use crate::DEFAULT;
+use crate::KIND;
+use crate::NEWEST;
+use crate::PREVIOUS;
+use crate::READER;
+use crate::VALUES;
+use crate::WRITER;
+use crate::put_control;
+use crate::put_value;
+use crate::value_at;
+use mailbox_base::numbers::CELLS;
+use mailbox_base::numbers::POSITIONS;
+use mailbox_base::numbers::TASKS;
+
+// The control of a fresh state without links: newest and previous at 1, every task idle, every pointer absent.
+pub fn fresh_control() -> [u8; CONTROL]
+    ensures { λ r. ⌜ cut r ≡ freshControl noColumn noColumn noColumn ⌝ }
+{
+    let mut control = [0u8; CONTROL];
+    let mut t = 0;
+    while t < TASKS {
+        put_control(&mut control, NEWEST, t, 1);
+        put_control(&mut control, PREVIOUS, t, 1);
+        t += 1;
+    }
+    control
+}
+
+// Puts link `l`: its writer, its reader and its kind.
+pub fn put_link(control: &mut [u8; CONTROL], l: usize, w: u8, r: u8, k: u8)
+    ensures { λ _. ⌜ cut (now (control .exit)) ≡ columnsPut (cut (now (control .entry))) l w r k ⌝ }
+{
+    put_control(control, WRITER, l, w);
+    put_control(control, READER, l, r);
+    put_control(control, KIND, l, k);
+}
+
+// Each position of a task holds its default.
+pub fn fill_cells(values: &mut [u32; VALUES])
+    ensures { λ _. ⌜ cutValues (now (values .exit)) ≡ set (cutValues (now (values .entry))) 1 (eachDefault (defaultsIn (now (values .entry))) (cellsIn (now (values .entry)))) ⌝ }
+{
+    let mut i = 0;
+    while i < CELLS {
+        let x = value_at(values, DEFAULT, i / POSITIONS);
+        put_value(values, CELL, i, x);
+        i += 1;
+    }
+}

@@ -1,0 +1,136 @@
+// The state of the mailboxes in two lent arrays, each cut into regions: bytes (control: phases, positions, pointers, links) and numbers of
+// 32 bits (values: defaults, mailboxes). Every access to them goes through these functions; what is above speaks of the fields of a state.
+// A field more is one region here, one field of the view in specs/Layout, and one accessor of the state.
+ghost use mathlib.Core.Path.{_≡_};
+ghost use lib.ListN.{set};
+ghost use Rattle.protocol_state.specs.Saved.{at, cellOf};
+ghost use Rattle.regions.specs.Regions.{region, place};
+ghost use Rattle.mailbox_layout.specs.Layout.{controlWidths, valueWidths, cut, cutValues, cellsIn};
+use mailbox_base::numbers::CELLS;
+use mailbox_base::numbers::LINKS;
+use mailbox_base::numbers::TASKS;
+use mailbox_base::numbers::cell_of;
+
+pub mod fresh;
+
+// The regions of the control by task,
+pub const PHASE: usize = 0;
+
+pub const NEWEST: usize = 1;
+
+pub const PREVIOUS: usize = 2;
+
+// then those by link.
+pub const POINTER: usize = 3;
+
+pub const WRITER: usize = 4;
+
+pub const READER: usize = 5;
+
+pub const KIND: usize = 6;
+
+// How many are by task and by link.
+const BY_TASK: usize = 3;
+
+const BY_LINK: usize = 4;
+
+// The bytes of a state's control.
+pub const CONTROL: usize = BY_TASK * TASKS + BY_LINK * LINKS;
+
+// The regions of the values: by task, then the positions of all tasks.
+pub const DEFAULT: usize = 0;
+
+pub const CELL: usize = 1;
+
+// The numbers of a state's values.
+pub const VALUES: usize = TASKS + CELLS;
+
+// Where place `i` of region `k` of the control stands, by task or by link: at the end, if there is no such place.
+fn control_place(k: usize, i: usize) -> usize
+    ensures { λ r. ⌜ r ≡ place controlWidths k i ⌝ }
+{
+    if k < BY_TASK {
+        if i < TASKS {
+            return k * TASKS + i;
+        }
+    } else if k < BY_TASK + BY_LINK {
+        if i < LINKS {
+            return BY_TASK * TASKS + (k - BY_TASK) * LINKS + i;
+        }
+    }
+    CONTROL
+}
+
+// What stands at place `i` of region `k`, by task or by link; 0 where there is no such place.
+pub fn control_at(control: &[u8; CONTROL], k: usize, i: usize) -> u8
+    ensures { λ r. ⌜ r ≡ at (region (cut (now (control .entry))) k) i ⌝ }
+{
+    let p = control_place(k, i);
+    if p < CONTROL { control[p] } else { 0 }
+}
+
+// Puts a byte there, where there is such a place: no other place of any region changes.
+pub fn put_control(control: &mut [u8; CONTROL], k: usize, i: usize, x: u8)
+    ensures { λ _. ⌜ cut (now (control .exit)) ≡ set (cut (now (control .entry))) k (set (region (cut (now (control .entry))) k) i x) ⌝ }
+{
+    let p = control_place(k, i);
+    if p < CONTROL {
+        control[p] = x;
+    }
+}
+
+// Where place `i` of region `k` of the values stands, likewise.
+fn value_place(k: usize, i: usize) -> usize
+    ensures { λ r. ⌜ r ≡ place valueWidths k i ⌝ }
+{
+    if k == DEFAULT {
+        if i < TASKS {
+            return i;
+        }
+    } else if k == CELL {
+        if i < CELLS {
+            return TASKS + i;
+        }
+    }
+    VALUES
+}
+
+// What stands at place `i` of region `k` of the values; 0 where there is no such place.
+pub fn value_at(values: &[u32; VALUES], k: usize, i: usize) -> u32
+    ensures { λ r. ⌜ r ≡ at (region (cutValues (now (values .entry))) k) i ⌝ }
+{
+    let p = value_place(k, i);
+    if p < VALUES { values[p] } else { 0 }
+}
+
+// Puts a number there, where there is such a place.
+pub fn put_value(values: &mut [u32; VALUES], k: usize, i: usize, x: u32)
+    ensures { λ _. ⌜ cutValues (now (values .exit)) ≡ set (cutValues (now (values .entry))) k (set (region (cutValues (now (values .entry))) k) i x) ⌝ }
+{
+    let p = value_place(k, i);
+    if p < VALUES {
+        values[p] = x;
+    }
+}
+
+// The numbers at the positions of all tasks, one task after the other, lent.
+pub fn cells_in(values: &[u32; VALUES]) -> &[u32]
+    ensures { λ r. ⌜ now r ≡ cellsIn (now (values .entry)) ⌝ }
+{
+    let all: &[u32] = values;
+    &all[TASKS..VALUES]
+}
+
+// The number at position `p` of task `t`, 0 for what is none.
+pub fn cell_at(values: &[u32; VALUES], t: u8, p: u8) -> u32
+    ensures { λ r. ⌜ r ≡ at (cellsIn (now (values .entry))) (cellOf t p) ⌝ }
+{
+    value_at(values, CELL, cell_of(t, p))
+}
+
+// Puts a number at position `p` of task `t`, where there is such a position.
+pub fn put_cell(values: &mut [u32; VALUES], t: u8, p: u8, x: u32)
+    ensures { λ _. ⌜ cutValues (now (values .exit)) ≡ set (cutValues (now (values .entry))) 1 (set (cellsIn (now (values .entry))) (cellOf t p) x) ⌝ }
+{
+    put_value(values, CELL, cell_of(t, p), x);
+}

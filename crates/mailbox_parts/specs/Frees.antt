@@ -1,0 +1,25 @@
+-- What a finish and a start make of a state, step by step.
+-- Assumes nothing.
+use Prim.Native.Nat.{ℕ}
+use lib.Dec.{ltb}
+use lib.ListN.{set}
+use Rattle.lists.specs.Lists.{upto}
+use Rattle.protocol_state.specs.Saved.{Saved, at, cellOf}
+use Rattle.protocol_state.specs.Next.{freedAt, phasesAfter}
+use Rattle.mailbox_layout.specs.Layout.{withPhase, withPointer, withCells}
+
+-- as t finishes: what becomes of the pointer x of link l
+abbrev pub freedOn : ℕ → Saved → ℕ → ℕ → ℕ
+freedOn t q = freedAt ltb t (at (q .writer)) (at (q .reader))
+
+-- the pointer of link l
+abbrev pub freedOne : ℕ → ℕ → Saved → Saved
+freedOne t l q = withPointer (set (q .pointer) l (freedOn t q l (at (q .pointer) l))) q
+
+-- and those of the first L links
+abbrev pub freedFirst : ℕ → ℕ → Saved → Saved
+freedFirst t L q = withPointer (upto (freedOn t q) L (q .pointer)) q
+
+-- the next phase of task t, at an event of kind k
+abbrev pub advanced : ℕ → ℕ → Saved → Saved
+advanced k t q = withPhase (phasesAfter k t (q .phase)) q

@@ -1,0 +1,16 @@
+-- Lines computed from the definitions.
+-- Assumes nothing.
+use mathlib.Core.Path.{_≡_, refl}
+use mathlib.Core.List.{[], _∷_}
+use Rattle.text_line.specs.Numeral.{decimal, number}
+use Rattle.record_lines.specs.Lines.{reason, faultLine, refusedLine}
+
+-- `line 12: too few numbers`
+line-12 : faultLine 12 4 ≡ 108 ∷ 105 ∷ 110 ∷ 101 ∷ 32 ∷ 49 ∷ 50 ∷ 58 ∷ 32 ∷ 116 ∷ 111 ∷ 111 ∷ 32 ∷ 102 ∷ 101 ∷ 119 ∷ 32 ∷ 110 ∷ 117 ∷ 109 ∷ 98 ∷ 101 ∷ 114 ∷ 115 ∷ 10 ∷ []
+unfolding decimal number reason
+line-12 = refl
+
+-- `line 1: refused 2 at 0`
+line-1 : refusedLine 1 2 0 ≡ 108 ∷ 105 ∷ 110 ∷ 101 ∷ 32 ∷ 49 ∷ 58 ∷ 32 ∷ 114 ∷ 101 ∷ 102 ∷ 117 ∷ 115 ∷ 101 ∷ 100 ∷ 32 ∷ 50 ∷ 32 ∷ 97 ∷ 116 ∷ 32 ∷ 48 ∷ 10 ∷ []
+unfolding decimal number
+line-1 = refl

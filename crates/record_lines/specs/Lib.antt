@@ -1,0 +1,3 @@
+-- What the contracts cite.
+pub mod Words
+pub mod Lines

@@ -1,0 +1,29 @@
+-- `recording_text_fields::number::and_number` meets its contract.
+-- Assumes nothing.
+use Rattle.recording_text_fields.proofs.Numerals.{gathered-next}
+use borrow.Author.Needs.{needs}
+use Rattle.recording_text_fields.proofs.number.and_number.Statement.{statement}
+use Rattle.recording_text_fields.proofs.number.and_number.Tie as tie
+
+add-t3 : tie.Need-add-t3
+add-t3 c = search needs
+
+pick-requires : tie.Need-pick-requires
+pick-requires c κs = search needs
+
+pick-requires-2 : tie.Need-pick-requires-2
+pick-requires-2 c κs = search needs
+
+pick-requires-3 : tie.Need-pick-requires-3
+pick-requires-3 c κs = search needs
+
+bit-requires : tie.Need-bit-requires
+bit-requires c κs = search needs
+
+returns : tie.Need-returns
+returns c = λ ns g.
+    gathered-next ns (c .before .before .before .before .before .before .before .before .before .args .n) g (c .before .before .before .before .before .before .pick .ensures) (c .before .before .before .before .pick2 .ensures) (c .before .before .pick3 .ensures) (c .before .bit .ensures)
+
+pub and-number-spec : {M : Type 1} → statement M
+and-number-spec =
+    tie.close (tie.spec add-t3 pick-requires pick-requires-2 pick-requires-3 bit-requires returns)

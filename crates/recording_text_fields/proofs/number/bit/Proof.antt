@@ -1,0 +1,25 @@
+-- `recording_text_fields::number::bit` meets its contract: below 32 nothing is shifted out.
+-- Assumes nothing.
+use mathlib.Core.Path.{ap, _∙_}
+use Prim.Native.Nat.{ℕ, _^_}
+use native.Mathlib.Nat.{one-mul}
+use native.Mathlib.Omega.{arith}
+use lib.Dec.{lit<}
+use lib.Pow.{shl-exact}
+use borrow.Author.Needs.{needs}
+use Rattle.recording_text_fields.proofs.number.bit.Statement.{statement}
+use Rattle.recording_text_fields.proofs.number.bit.Tie as tie
+
+at-most-31-requires : tie.Need-at-most-31-requires
+at-most-31-requires c κs = search needs
+
+shl-result : tie.Need-shl-result
+shl-result c = omega arith
+
+returns : tie.Need-returns
+returns c =
+    let k = c .at-most-31 .result in
+    shl-exact 1 k 32 (lit< tt) (omega arith) ∙ one-mul (2 ^ k) ∙ ap (λ (n : ℕ). 2 ^ n) (c .at-most-31 .ensures)
+
+pub bit-spec : {M : Type 1} → statement M
+bit-spec = tie.close (tie.spec at-most-31-requires shl-result returns)

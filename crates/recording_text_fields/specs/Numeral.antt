@@ -1,0 +1,66 @@
+-- Fields that are numbers.
+-- Assumes nothing.
+use mathlib.Core.Bool.{Bool, true, cond, _&&_}
+use mathlib.Core.List.{List, [], _∷_, _++_, map}
+use Prim.Native.Nat.{ℕ, _+_, _-_, _*_, _^_, min}
+use lib.Bits.{bitOr}
+use lib.Dec.{eqb, leb, ltb}
+use lib.ListN.{length, getD}
+use Rattle.recording_text_fields.specs.declared.number.Number.{Number}
+use Rattle.recording_text_fields.specs.declared.number.Numbers.{Numbers}
+
+-- `0` to `9`
+abbrev pub isDigit : ℕ → Bool
+isDigit b = leb 48 b && leb b 57
+
+-- only digits
+unfoldable pub allDigits : List ℕ → Bool
+allDigits [] = true
+allDigits (b ∷ f) = isDigit b && allDigits f
+
+-- the number in decimal of the digits n and these behind them
+unfoldable pub valueFrom : ℕ → List ℕ → ℕ
+valueFrom n [] = n
+valueFrom n (b ∷ f) = valueFrom (n * 10 + (b - 48)) f
+
+-- the number of a field
+abbrev pub value : List ℕ → ℕ
+value f = valueFrom 0 f
+
+-- why a field is no number of a recording: it is not a number, 2, or above 4294967295, 3; 0 where it is one
+unfoldable pub numberFault : List ℕ → ℕ
+numberFault f = cond (allDigits f) (cond (ltb 4294967295 (value f)) 3 0) 2
+
+-- a field as a number, 0 with a fault
+abbrev pub fieldNumber : List ℕ → Number
+fieldNumber f = record { fault = numberFault f; value = cond (eqb (numberFault f) 0) (value f) 0 }
+
+-- the first field from the left that is no number says why; 0 where there is none
+unfoldable pub firstFault : List (List ℕ) → ℕ
+firstFault [] = 0
+firstFault (f ∷ fs) = cond (eqb (numberFault f) 0) (firstFault fs) (numberFault f)
+
+-- the numbers of fields
+unfoldable pub fieldValues : List (List ℕ) → List ℕ
+fieldValues fs = map value fs
+
+-- a set and the tasks of these numbers: bit t is task t; no table has a task 31, which stands for all above
+unfoldable pub setWith : ℕ → List ℕ → ℕ
+setWith set [] = set
+setWith set (n ∷ ns) = setWith (bitOr set (2 ^ min n 31)) ns
+
+-- the set of tasks of these numbers
+abbrev pub setOf : List ℕ → ℕ
+setOf ns = setWith 0 ns
+
+-- numbers as they are gathered: how many there are, the first three, and all as a set
+abbrev pub gathered : List ℕ → Numbers
+gathered ns = record { fault = 0; count = length ns; first = getD ns 0 0; second = getD ns 1 0; third = getD ns 2 0; set = setOf ns }
+
+-- no numbers, but a fault
+abbrev pub noNumbers : ℕ → Numbers
+noNumbers fault = record { fault = fault; count = 0; first = 0; second = 0; third = 0; set = 0 }
+
+-- numbers and those of fields behind them, or the first fault
+unfoldable pub numbersWith : List ℕ → List (List ℕ) → Numbers
+numbersWith ns fs = cond (eqb (firstFault fs) 0) (gathered (ns ++ fieldValues fs)) (noNumbers (firstFault fs))

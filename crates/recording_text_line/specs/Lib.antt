@@ -1,0 +1,2 @@
+-- What a line says.
+pub mod Line

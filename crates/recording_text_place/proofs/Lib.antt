@@ -1,0 +1,3 @@
+-- Laws that the proofs cite, and worked examples.
+pub mod Places
+pub mod Examples

@@ -1,0 +1,103 @@
+-- Lines found by their records, one by one.
+-- Assumes nothing.
+use mathlib.Core.Path.{_≡_, sym, ap, _∙_}
+use mathlib.Core.Bool.{Bool, true, false, cond, _&&_}
+use mathlib.Core.List.{List, [], _∷_}
+use Prim.Native.Nat.{ℕ, suc, _+_, _-_, _≤_}
+use native.Mathlib.Numerals.{add-one}
+use native.Mathlib.Omega.{arith}
+use borrow.Author.Tests.{ne-eqb}
+use lib.Dec.{eqb}
+use lib.ListN.{length, drop, drop-of-length-le}
+use Rattle.recording_text_line.specs.declared.Said.{Said}
+use Rattle.recording_text_fields.specs.Pieces.{pieces, separator, lines, between, Ends}
+use Rattle.recording_text_line.specs.Line.{Says, isEvent, says, saidOf, sort}
+use Rattle.recording_text_place.specs.Place.{step, allBytes, lineAfter, linksAt, eventsAt, oneOf, refusalLine}
+
+-- past the end there is no line
+pub lines-past : (s : List ℕ) (i : ℕ) → length s ≤ i → lines (drop i s) ≡ []
+unfolding pieces
+lines-past s i h = rw (drop-of-length-le s h)
+
+-- the letter of a line
+pub letter-same : (r : Said) {w : Says} → saidOf r ≡ w → r .letter ≡ w .letter
+letter-same r e = ap (λ (x : Says). x .letter) e
+
+-- a line more
+module _ (s : List ℕ) (a e : ℕ) (w : Ends (separator false) s a e) (r : Said) (q : saidOf r ≡ says (between a e s)) (k : ℕ) where
+  pub bytes-on :
+      (much : ℕ) {x left : ℕ} → x ≡ step true k (r .letter) → left ≡ much - x → much - allBytes k (lines (drop a s)) ≡ left - allBytes k (lines (drop (e + 1) s))
+  unfolding allBytes
+  bytes-on much {x} {left} f g =
+      let y : x ≡ step true k (says (between a e s) .letter) = f ∙ ap (λ (b : ℕ). step true k b) (letter-same r q) in
+      let z : allBytes k (lines (drop a s)) ≡ x + allBytes k (lines (drop (e + 1) s)) = ap (allBytes k) (w .split) ∙ rw y in
+      omega arith
+
+  pub line-here :
+      (bytewise : Bool) (much n : ℕ) {t : ℕ} → t ≡ sort (r .letter) → (eqb t k && eqb much 0) ≡ true → lineAfter bytewise k much n (lines (drop a s)) ≡ n
+  unfolding lineAfter
+  line-here bytewise much n {t} f g =
+      let h : (eqb (sort (says (between a e s) .letter)) k && eqb much 0) ≡ true = ap (λ (b : ℕ). eqb (sort b) k && eqb much 0) (sym (letter-same r q)) ∙ ap (λ (b : ℕ). eqb b k && eqb much 0) (sym f) ∙ g in
+      ap (lineAfter bytewise k much n) (w .split) ∙ rw h
+
+  pub line-on :
+      (bytewise : Bool) (much n : ℕ) {t x left : ℕ} → t ≡ sort (r .letter) → (eqb t k && eqb much 0) ≡ false → x ≡ step bytewise k (r .letter) → left ≡ much - x →
+      lineAfter bytewise k much n (lines (drop a s)) ≡ lineAfter bytewise k left (n + 1) (lines (drop (e + 1) s))
+  unfolding lineAfter
+  line-on bytewise much n {t} {x} {left} f g c d =
+      let h : (eqb (sort (says (between a e s) .letter)) k && eqb much 0) ≡ false = ap (λ (b : ℕ). eqb (sort b) k && eqb much 0) (sym (letter-same r q)) ∙ ap (λ (b : ℕ). eqb b k && eqb much 0) (sym f) ∙ g in
+      let y : left ≡ much - step bytewise k (says (between a e s) .letter) = d ∙ ap (λ (b : ℕ). much - b) c ∙ ap (λ (b : ℕ). much - step bytewise k b) (letter-same r q) in
+      ap (lineAfter bytewise k much n) (w .split) ∙ rw (h, y, add-one n)
+
+-- no line more
+pub bytes-end : (k much : ℕ) (s : List ℕ) (a : ℕ) → length s ≤ a → much - allBytes k (lines (drop a s)) ≡ much
+unfolding allBytes
+bytes-end k much s a h = let e : allBytes k (lines (drop a s)) ≡ 0 = ap (allBytes k) (lines-past s a h) in omega arith
+
+pub line-end : (bytewise : Bool) (k much n : ℕ) (s : List ℕ) (a : ℕ) → length s ≤ a → lineAfter bytewise k much n (lines (drop a s)) ≡ n
+unfolding lineAfter
+line-end bytewise k much n s a h = ap (lineAfter bytewise k much n) (lines-past s a h)
+
+-- no record has the sort 4
+sort-small : (b : ℕ) → sort b ≤ 3
+unfolding sort
+sort-small b = go (eqb b 84) (eqb b 76) (isEvent b)
+  where
+    go : (t l e : Bool) → cond t 1 (cond l 2 (cond e 3 0)) ≤ 3
+    go true l e = omega arith
+    go false true e = omega arith
+    go false false true = omega arith
+    go false false false = omega arith
+
+-- so the line after it is the one after the last
+pub none-such : (much n : ℕ) (ls : List (List ℕ)) → lineAfter false 4 much n ls ≡ n + length ls
+unfolding lineAfter
+none-such much n [] = omega arith
+none-such much n (l ∷ ls) =
+    let e = ne-eqb (sort (says l .letter)) 4 (λ q. omega (arith, sort-small (says l .letter), q)) in
+    let z : much - 0 ≡ much = omega arith in
+    rw (e, z) (none-such much (suc n) ls ∙ omega arith)
+
+-- a refusal and its line
+module _ (ls : List (List ℕ)) (refusal place : ℕ) where
+  pub of-link :
+      {t : Bool} → t ≡ oneOf 4 9 refusal → t ≡ true → {x y r : ℕ} → x ≡ place - 2 → y ≡ x - allBytes 1 ls → r ≡ lineAfter true 2 y 1 ls → r ≡ refusalLine refusal place ls
+  unfolding refusalLine
+  of-link f g {x} {y} e h q =
+      let z : y ≡ place - linksAt ls = omega arith in
+      q ∙ rw (← f, g, z)
+
+  pub of-event :
+      {t u : Bool} → t ≡ oneOf 4 9 refusal → t ≡ false → u ≡ oneOf 12 16 refusal → u ≡ true → {x y z r : ℕ} → x ≡ place - 4 → y ≡ x - allBytes 1 ls → z ≡ y - allBytes 2 ls →
+      r ≡ lineAfter true 3 z 1 ls → r ≡ refusalLine refusal place ls
+  unfolding refusalLine
+  of-event f g k m {x} {y} {z} e h i q =
+      let w : z ≡ place - eventsAt ls = omega arith in
+      q ∙ rw (← f, g, ← k, m, w)
+
+  pub of-none :
+      {t u : Bool} → t ≡ oneOf 4 9 refusal → t ≡ false → u ≡ oneOf 12 16 refusal → u ≡ false → (refusal ≡ 2 → ⊥) → (refusal ≡ 3 → ⊥) → (refusal ≡ 10 → ⊥) → {r : ℕ} →
+      r ≡ lineAfter false 4 0 1 ls → r ≡ refusalLine refusal place ls
+  unfolding refusalLine
+  of-none f g k m a b d q =
+      q ∙ none-such 0 1 ls ∙ rw (← f, g, ← k, m, ne-eqb refusal 2 a, ne-eqb refusal 3 b, ne-eqb refusal 10 d) (omega arith)

@@ -1,0 +1,2 @@
+-- The line of a record that the writer refuses.
+pub mod Place

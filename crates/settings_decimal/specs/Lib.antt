@@ -1,0 +1,3 @@
+-- A float in decimal: what the contracts cite.
+pub mod Decimal
+pub mod Answer

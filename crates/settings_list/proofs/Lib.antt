@@ -1,0 +1,4 @@
+-- Laws that several proofs cite.
+pub mod Turns
+pub mod Counting
+pub mod Answers

@@ -1,0 +1,157 @@
+//! Where the named fields of a state stand in the two arrays that the library is lent: by their offsets, by what the library puts into
+//! each of them, and by what it takes from each of them.
+use parnusild::{Control, Event, State, Table, Values, CELLS, CONTROL, LINKS, POSITIONS, TASKS, VALUES};
+use std::array::from_fn;
+use std::mem::size_of;
+use Event::{Arrival, Finish, Read, Start};
+
+/// Where a field begins in its struct and how long it is, both in elements.
+fn region<S, E, const LENGTH: usize>(whole: &S, field: &[E; LENGTH]) -> (usize, usize) {
+    let bytes = field.as_ptr() as usize - whole as *const S as usize;
+    (bytes / size_of::<E>(), LENGTH)
+}
+
+/// The numbers are those of the proved layout, crates/mailbox_layout/src/lib.rt.
+#[test]
+fn each_field_stands_where_the_layout_has_its_region() {
+    let State { control, values, .. } = amid_a_round();
+    assert_eq!(region(&control, &control.phase), (0, 16));
+    assert_eq!(region(&control, &control.newest), (16, 16));
+    assert_eq!(region(&control, &control.previous), (32, 16));
+    assert_eq!(region(&control, &control.pointer), (48, 32));
+    assert_eq!(region(&control, &control.writer), (80, 32));
+    assert_eq!(region(&control, &control.reader), (112, 32));
+    assert_eq!(region(&control, &control.kind), (144, 32));
+    assert_eq!((CONTROL, size_of::<Control>()), (176, 176));
+    assert_eq!(region(&values, &values.defaults), (0, 16));
+    assert_eq!(region(&values, &values.cells), (16, 160));
+    assert_eq!((VALUES, size_of::<Values>()), (176, 4 * 176));
+}
+
+/// As many tasks and links as there can be, so that no slot of a region is left out: each task writes to the next one, then each to the one
+/// before, direct where the reader is behind.
+fn full_table() -> Table {
+    let step = |l: usize| if l < TASKS { 1 } else { TASKS - 1 };
+    let writer: [u8; LINKS] = from_fn(|l| (l % TASKS) as u8);
+    let reader: [u8; LINKS] = from_fn(|l| ((l + step(l)) % TASKS) as u8);
+    let kind = from_fn(|l| u8::from(reader[l] < writer[l]));
+    Table { tasks: TASKS, links: LINKS, defaults: from_fn(|t| 1000 + t as u32), writer, reader, kind }
+}
+
+/// A state in which no two regions hold the same: the odd tasks have run once; then all have arrived, tasks 0 and 1 have run, and task 2
+/// runs.
+fn amid_a_round() -> State {
+    let odd_ones_run = (1..16).step_by(2).flat_map(|t| [Start(t), Finish(t, 100 + t)]);
+    let then = [Arrival(0xffff), Start(0), Finish(0, 500), Start(1), Finish(1, 501), Start(2)];
+    let mut state = State::fresh(&full_table()).state;
+    for event in [Arrival(0xaaaa)].into_iter().chain(odd_ones_run).chain(then) {
+        assert_eq!(state.event(event), Ok(0), "{:?}", event);
+    }
+    state
+}
+
+/// Position `p` of task `t`, after `amid_a_round`: what the last finish there was given, else the default.
+fn number_at(t: usize, p: usize) -> u32 {
+    match (t, p) {
+        (0, 2) => 500,
+        (1, 1) => 501,
+        (_, 2) if t % 2 == 1 => 100 + t as u32,
+        _ => 1000 + t as u32,
+    }
+}
+
+#[test]
+fn the_library_puts_each_field_where_the_host_has_it() {
+    let State { tasks, links, control, values } = amid_a_round();
+    assert_eq!((tasks, links), (16, 32));
+    assert_eq!(control.phase, [0, 0, 2, 1, 1, 1, 1, 1, 1, 1, 1, 1, 1, 1, 1, 1]);
+    assert_eq!(control.newest, [2, 1, 2, 1, 2, 1, 2, 1, 2, 1, 2, 1, 2, 1, 2, 1]);
+    assert_eq!(control.previous, [1, 2, 1, 2, 1, 2, 1, 2, 1, 2, 1, 2, 1, 2, 1, 2]);
+    // a direct link has the writer's newest position, a delayed one its previous; that of task 1, which has finished, is absent
+    assert_eq!(control.pointer[..16], [0, 1, 2, 1, 2, 1, 2, 1, 2, 1, 2, 1, 2, 1, 2, 2]);
+    assert_eq!(control.pointer[16..], [2, 2, 1, 2, 1, 2, 1, 2, 1, 2, 1, 2, 1, 2, 1, 2]);
+    assert_eq!(control.writer[..16], [0, 1, 2, 3, 4, 5, 6, 7, 8, 9, 10, 11, 12, 13, 14, 15]);
+    assert_eq!(control.writer[16..], [0, 1, 2, 3, 4, 5, 6, 7, 8, 9, 10, 11, 12, 13, 14, 15]);
+    assert_eq!(control.reader[..16], [1, 2, 3, 4, 5, 6, 7, 8, 9, 10, 11, 12, 13, 14, 15, 0]);
+    assert_eq!(control.reader[16..], [15, 0, 1, 2, 3, 4, 5, 6, 7, 8, 9, 10, 11, 12, 13, 14]);
+    assert_eq!(control.kind[..16], [0, 0, 0, 0, 0, 0, 0, 0, 0, 0, 0, 0, 0, 0, 0, 1]);
+    assert_eq!(control.kind[16..], [0, 1, 1, 1, 1, 1, 1, 1, 1, 1, 1, 1, 1, 1, 1, 1]);
+    let defaults: [u32; TASKS] = from_fn(|t| 1000 + t as u32);
+    assert_eq!(values.defaults, defaults);
+    let cells: [u32; CELLS] = from_fn(|c| number_at(c / POSITIONS, c % POSITIONS + 1));
+    assert_eq!(values.cells, cells);
+}
+
+/// The fresh state of four tasks and one direct link, from task 0 to task 2; with its own number in each position.
+fn one_link() -> State {
+    let mut reader = [0; LINKS];
+    reader[0] = 2;
+    let table = Table { tasks: 4, links: 1, defaults: [0; TASKS], writer: [0; LINKS], reader, kind: [0; LINKS] };
+    let mut state = State::fresh(&table).state;
+    state.values.cells = from_fn(|c| 100 + c as u32);
+    state
+}
+
+/// The same, while task 2 runs and task 3 waits.
+fn reader_runs() -> State {
+    let mut state = one_link();
+    for event in [Arrival(0b1100), Start(2)] {
+        assert_eq!(state.event(event), Ok(0));
+    }
+    state
+}
+
+/// The answer to an event, and the state after it, where the host has changed the state before.
+fn changed(mut state: State, change: fn(&mut State), event: Event) -> (Result<u32, u8>, State) {
+    change(&mut state);
+    let answer = state.event(event);
+    (answer, state)
+}
+
+#[test]
+fn a_read_takes_each_field_from_where_the_host_has_it() {
+    let read = |change: fn(&mut State)| changed(reader_runs(), change, Read(0)).0;
+    assert_eq!(read(|_| ()), Ok(100), "position 1 of task 0");
+    assert_eq!(read(|s| s.values.cells[0] = 7), Ok(7));
+    assert_eq!(read(|s| s.control.pointer[0] = 2), Ok(101), "position 2 of task 0");
+    assert_eq!(read(|s| s.control.writer[0] = 1), Ok(110), "position 1 of task 1");
+    assert_eq!(read(|s| s.control.reader[0] = 3), Err(15), "task 3 only waits");
+    assert_eq!(read(|s| s.control.phase[2] = 1), Err(15), "task 2 only waits");
+}
+
+#[test]
+fn an_arrival_takes_each_field_from_where_the_host_has_it() {
+    let pointer = |change: fn(&mut State)| changed(one_link(), change, Arrival(0b0100)).1.control.pointer[0];
+    assert_eq!(pointer(|_| ()), 1);
+    assert_eq!(pointer(|s| s.control.newest[0] = 2), 2, "direct: where the writer is");
+    assert_eq!(pointer(|s| s.control.previous[0] = 3), 1);
+    let delayed = |s: &mut State| {
+        s.control.kind[0] = 1;
+        s.control.newest[0] = 2;
+        s.control.previous[0] = 3;
+    };
+    assert_eq!(pointer(delayed), 3, "delayed: where the writer was");
+}
+
+#[test]
+fn a_finish_takes_each_field_from_where_the_host_has_it() {
+    let positions = |change: fn(&mut State)| {
+        let (answer, after) = changed(reader_runs(), change, Finish(2, 9));
+        assert_eq!(answer, Ok(0));
+        (after.values.cells[20], after.values.cells[21])
+    };
+    assert_eq!(positions(|_| ()), (120, 9));
+    assert_eq!(positions(|s| s.control.newest[2] = 1), (9, 121));
+}
+
+/// An event neither looks at a default nor changes one.
+#[test]
+fn an_event_leaves_the_defaults_where_the_host_has_them() {
+    let other_defaults = |s: &mut State| s.values.defaults = from_fn(|t| 1000 + t as u32);
+    for event in [Arrival(1), Start(3), Read(0), Finish(2, 9)] {
+        let mut expected = reader_runs();
+        let answer = expected.event(event);
+        other_defaults(&mut expected);
+        assert_eq!(changed(reader_runs(), other_defaults, event), (answer, expected));
+    }
+}
