@@ -6,14 +6,15 @@ use mathlib.Core.Bool.{true}
 use mathlib.Core.List.{List, [], _∷_, _++_, append-nil}
 use Prim.Native.Nat.{ℕ}
 use borrow.Author.Tests.{eq-eqb}
-use lib.Dec.{eqb, ltb}
+use lib.Dec.{eqb}
+use lib.ListN.{length}
 use Rattle.protocol.specs.Event.{Event, arrival, start, read, finish}
 use Rattle.protocol.specs.Table.{Table}
-use Rattle.protocol_state.specs.Saved.{Saved, base, at, table}
-use Rattle.protocol_state.specs.Rules.{judgedTable}
-use Rattle.protocol_state.specs.Fresh.{freshOf}
+use Rattle.protocol_state.specs.Records.{Task, Link, linkOf, firstTasks, firstLinks, aheadOf}
+use Rattle.protocol_state.specs.Saved.{Saved, base, aheadIn, table}
+use Rattle.protocol_state.specs.Fresh.{freshOf, judgedLists}
 use Rattle.protocol_state.specs.Fresh as state
-use Rattle.protocol_state.specs.Give.{Reply, Progress, note, give, afterEvent}
+use Rattle.protocol_state.specs.Give.{Reply, Progress, note, afterEvent, givenTo}
 use Rattle.protocol_state.specs.Reached.{Reached}
 use Rattle.protocol_state.proofs.Rules as rules
 use Rattle.protocol_state.proofs.Freshes.{made-fresh}
@@ -25,7 +26,7 @@ use Rattle.mailbox.proofs.Packed.{saved-same}
 use Rattle.mailbox.specs.declared.State.{State}
 use Rattle.mailbox.specs.declared.Step.{Step}
 use Rattle.mailbox.specs.declared.Made.{Made}
-use Rattle.demands.specs.Station.{station, firstTasks, firstLinks}
+use Rattle.demands.specs.Station.{station}
 use Rattle.demands.specs.Calls.{Makes, Gives, numbersOf, Calls, fresh, accepted, refused}
 use Rattle.demands.specs.Order.{turned}
 use Rattle.demands.proofs.Tables.{fresh-station}
@@ -38,24 +39,24 @@ stands q h os = record { state = saved q; history = h; numbers = os }
 -- the fresh state q₀ of the table, and the numbers read with the last one first, such that they reach it
 pub record Come (T : Table ℕ) (es : List (Event ℕ)) (ns : List ℕ) (q : State) : Type 0 where
   pub begin : Saved
-  pub same : table ltb begin ≡ T
+  pub same : table (aheadIn begin) begin ≡ T
   pub os : List ℕ
-  pub reached : Reached ltb base begin (stands q (past [] es) os)
+  pub reached : Reached (aheadIn begin) base begin (stands q (past [] es) os)
   pub turns : ns ≡ turned os
 
 -- an accepted call is one event more
 after-accepted : (q : State) (h : List (Event ℕ)) (os : List ℕ) (e : Event ℕ) (r : Step) → Gives q e r → r .answer .refusal ≡ 0
-    → afterEvent ltb base (stands q h os) e ≡ stands (r .state) (e ∷ h) (note e (r .answer .value) os)
+    → afterEvent (aheadIn (saved q)) base (stands q h os) e ≡ stands (r .state) (e ∷ h) (note e (r .answer .value) os)
 unfolding afterEvent
 after-accepted q h os e r call z =
-    let i : eqb (give ltb base (saved q) e .refusal) 0 ≡ true = eq-eqb _ 0 (ap (λ (x : Reply). x .refusal) (sym (call .answer)) ∙ z) in
+    let i : eqb (givenTo base (saved q) e .refusal) 0 ≡ true = eq-eqb _ 0 (ap (λ (x : Reply). x .refusal) (sym (call .answer)) ∙ z) in
     rw i (ap (λ (x : Reply). record { state = x .state; history = e ∷ h; numbers = note e (x .value) os }) (sym (call .answer)))
 
 -- a refused one hands the state back
 pub same-state : (q : State) (e : Event ℕ) (r : Step) → Gives q e r → r .answer .refusal ≢ 0 → r .state ≡ q
 same-state q e r call n =
     saved-same (r .state) q (call .whole) (call .lent)
-    (ap (λ (x : Reply). x .state) (call .answer) ∙ refused-same ltb base (saved q) e (λ z. n (ap (λ (x : Reply). x .refusal) (call .answer) ∙ z)) .0)
+    (ap (λ (x : Reply). x .state) (call .answer) ∙ refused-same (aheadIn (saved q)) base (saved q) e (λ z. n (ap (λ (x : Reply). x .refusal) (call .answer) ∙ z)) .0)
 
 -- the number of a read, in either order
 noted : (e : Event ℕ) (r : Step) (os : List ℕ) → turned os ++ numbersOf e r ≡ turned (note e (r .answer .value) os)
@@ -67,21 +68,20 @@ noted (finish t v) r os = append-nil (turned os)
 
 -- a table that was accepted keeps the rules, and its state is the fresh one
 pub made-is : (T L : ℕ) (D W R K : List ℕ) (m : Made) → Makes T L D W R K m → m .refusal ≡ 0
-    → (judgedTable ltb T (at W) (at R) (at K) base L ≡ 0) × (saved (m .state) ≡ freshOf base T L D W R K)
+    → (judgedLists base (firstTasks T D) (firstLinks L W R K) ≡ 0) × (saved (m .state) ≡ freshOf base (firstTasks T D) (firstLinks L W R K))
 made-is T L D W R K m said ok =
-    let i = made-fresh ltb base T L D W R K (ap (λ (x : state.Made). x .refusal) (sym (said .answer)) ∙ ok) in
+    let i = made-fresh base (firstTasks T D) (firstLinks L W R K) (ap (λ (x : state.Made). x .refusal) (sym (said .answer)) ∙ ok) in
     (i .0, ap (λ (x : state.Made). x .state) (said .answer) ∙ i .1)
 
-come-fresh : (T L : ℕ) (D W R K : List ℕ) (m : Made) → Makes T L D W R K m → m .refusal ≡ 0 → Come (station (firstTasks T D) (firstLinks L W R K)) [] [] (m .state)
+come-fresh : (ds : List Task) (ls : List Link) (q : State) → judgedLists base ds ls ≡ 0 → saved q ≡ freshOf base ds ls → Come (station ds ls) [] [] q
 unfolding past turned
-come-fresh T L D W R K m said ok =
-    let i = made-is T L D W R K m said ok in
-    let few = rules.room ltb T (at W) (at R) (at K) base L (i .0) in
+come-fresh ds ls q ok i =
+    let few = rules.room (aheadOf ds) (length ds) (linkOf ls) base (length ls) ok in
     record {
-      begin = freshOf base T L D W R K;
-      same = fresh-station T L D W R K (few .0) (few .1);
+      begin = freshOf base ds ls;
+      same = fresh-station ds ls (few .0) (few .1);
       os = [];
-      reached = subst (λ (q : Saved). Reached ltb base (freshOf base T L D W R K) (record { state = q; history = []; numbers = [] })) (sym (i .1)) (reached-fresh ltb base T L D W R K (i .0));
+      reached = subst (λ (x : Saved). Reached (aheadOf ds) base (freshOf base ds ls) (record { state = x; history = []; numbers = [] })) (sym i) (reached-fresh (aheadOf ds) base ds ls ok);
       turns = refl;
     }
 
@@ -91,8 +91,8 @@ module _ {T : Table ℕ} {es : List (Event ℕ)} {ns : List ℕ} {q : State} (C 
     begin = C .begin;
     same = C .same;
     os = note e (r .answer .value) (C .os);
-    reached = subst (λ (h : List (Event ℕ)). Reached ltb base (C .begin) (stands (r .state) h (note e (r .answer .value) (C .os)))) (sym (past-snoc [] es e))
-        (subst (λ (o : Progress). Reached ltb base (C .begin) o) (after-accepted q (past [] es) (C .os) e r call z) (reached-after (C .reached) e));
+    reached = subst (λ (h : List (Event ℕ)). Reached (aheadIn (C .begin)) base (C .begin) (stands (r .state) h (note e (r .answer .value) (C .os)))) (sym (past-snoc [] es e))
+        (subst (λ (o : Progress). Reached (aheadIn (C .begin)) base (C .begin) o) (after-accepted q (past [] es) (C .os) e r call z) (reached-after (C .reached) e));
     turns = ap (λ (xs : List ℕ). xs ++ numbersOf e r) (C .turns) ∙ noted e r (C .os);
   }
 
@@ -100,7 +100,7 @@ module _ {T : Table ℕ} {es : List (Event ℕ)} {ns : List ℕ} {q : State} (C 
   come-refused n = subst (λ (x : State). Come T es ns x) (sym (same-state q e r call n)) C
 
 pub comes : {T : Table ℕ} {es : List (Event ℕ)} {ns : List ℕ} {q : State} → Calls T es ns q → Come T es ns q
-comes (fresh T L D W R K m said ok) = come-fresh T L D W R K m said ok
+comes (fresh T L D W R K m said ok) = let i = made-is T L D W R K m said ok in come-fresh (firstTasks T D) (firstLinks L W R K) (m .state) (i .0) (i .1)
 comes (accepted c e r call z) = come-accepted (comes c) e r call z
 comes (refused c e r call n) = come-refused (comes c) e r call n
 

@@ -4,7 +4,6 @@ use mathlib.Core.Path.{_≡_, sym, ap, _∙_}
 use mathlib.Core.List.{List, [], _∷_, append-nil}
 use Prim.Native.Nat.{ℕ, _+_, _≤_, _<_}
 use native.Mathlib.Omega.{arith}
-use lib.Dec.{ltb}
 use lib.ListN.{length, take}
 use lib.Seq.{take-all}
 use Rattle.protocol.specs.Event.{Event}
@@ -12,7 +11,7 @@ use Rattle.protocol_state.specs.Saved.{base}
 use Rattle.byte_format.specs.Format.{encodes}
 use Rattle.byte_format.specs.Play.{Verdict, Cut}
 use Rattle.recording_format.specs.RecordingKind.{baseRecording}
-use Rattle.recording_format.specs.Link.{Link, listed}
+use Rattle.recording_format.specs.Link.{Link}
 use Rattle.recording_format.specs.Event.{events}
 use Rattle.recording_format.specs.Recording.{throughE}
 use Rattle.recording_core.specs.Playing.{Playing, coreOf, steppedIn}
@@ -37,7 +36,7 @@ one-event e = ap length (append-nil (events baseRecording .encode e))
 module _ {s out after ds : List ℕ} {ls : List Link} {es : List (Event ℕ)} {b : Answer} {m : ℕ} (g : Genuine s out ds ls es) (said : Replays (take m s) out b after) where
   pub power-cut : throughE baseRecording ds ls ≤ m → m < length s → CutShort out ds ls es m b after
   power-cut through lost =
-      let c : Cut (events baseRecording) (steppedIn ltb) (coreOf ltb base out .start ds (listed ls)) es (throughE baseRecording ds ls) m (replied b after) = after-cut (genuine-core g) m said through lost in
+      let c : Cut (events baseRecording) steppedIn (coreOf base out .start ds ls) es (throughE baseRecording ds ls) m (replied b after) = after-cut (genuine-core g) m said through lost in
       let p : b .place ≡ throughE baseRecording ds ls + length (encodes (events baseRecording) (c .whole)) = ap (λ (x : Verdict Playing). x .place) (c .says) in
       record {
         whole = c .whole;

@@ -6,19 +6,19 @@ use mathlib.Core.Bool.{Bool, true, false, cond}
 use mathlib.Core.List.{List, [], _∷_}
 use Prim.Native.Nat.{ℕ, _≤_}
 use borrow.Author.Tests.{eqb-true, ne-eqb}
-use lib.Dec.{eqb, ltb}
+use lib.Dec.{eqb}
 use lib.ListN.{length}
 use Rattle.protocol.specs.Event.{Event}
 use Rattle.protocol.specs.Table.{Table}
-use Rattle.protocol_state.specs.Saved.{Saved, base, at}
-use Rattle.protocol_state.specs.Sound.{isSound, Sound}
+use Rattle.protocol_state.specs.Saved.{Saved, base, aheadIn}
+use Rattle.protocol_state.specs.Sound.{StandsSound, testedSound}
 use Rattle.protocol_state.specs.Fresh as state
-use Rattle.protocol_state.specs.Fresh.{made}
-use Rattle.protocol_state.specs.Rules.{judgedTable}
-use Rattle.protocol_state.specs.Give.{Reply, give}
+use Rattle.protocol_state.specs.Fresh.{made, judgedLists}
+use Rattle.protocol_state.specs.Give.{Reply, givenTo}
 use Rattle.protocol_state.proofs.Sound.{sound-says, says-sound}
 use Rattle.protocol_state.proofs.Give.{give-refusal, give-unsound, refused-same}
 use Rattle.protocol.specs.History.{past}
+use Rattle.protocol_state.specs.Records.{Task}
 use Rattle.recording_demands.proofs.Contract.{learnt-ensured, ensured-learnt}
 use Rattle.recording_demands.proofs.Rest.{unread}
 use Rattle.demands.proofs.Contract.{fresh-learnt, fresh-told, arrival-learnt, arrival-told, start-learnt, start-told, read-learnt, read-told, finish-learnt, finish-told, event-learnt, event-told}
@@ -42,7 +42,7 @@ use Rattle.demands.specs.Refusals as refusals
 use Rattle.demands.specs.Contracts.{AsksNothing, Tells}
 use Rattle.demands.specs.Demands.{asLent, Demand1, Demand2, Demand3, WholeRecordings}
 use Rattle.demands.proofs.Earned.{earns-exactly}
-use Rattle.demands.proofs.TableEarned.{judged-table-earned, table-earns-one, arrays-judged}
+use Rattle.demands.proofs.TableEarned.{judged-table-earned, table-earns-one}
 use Rattle.demands.proofs.Events.{phases-earned, judged-earned}
 use Rattle.demands.proofs.Calls.{same-state}
 use Rattle.demands.proofs.Runs.{calls-refusal, calls-event, calls-published, calls-there, calls-order, calls-no-time, calls-direct, calls-delayed, calls-finished}
@@ -82,58 +82,60 @@ tells = record {
 
 -- ---- a table
 -- the refusal of what a table makes is what the table is judged
-made-refusal : (T L : ℕ) (D W R K : List ℕ) → made ltb base T L D W R K .refusal ≡ judgedTable ltb T (at W) (at R) (at K) base L
+made-refusal : (ds : List Task) (ls : List Link) → made base ds ls .refusal ≡ judgedLists base ds ls
 unfolding made
-made-refusal T L D W R K = go (eqb (judgedTable ltb T (at W) (at R) (at K) base L) 0) refl
+made-refusal ds ls = go (eqb (judgedLists base ds ls) 0) refl
   where
-    go : (b : Bool) → eqb (judgedTable ltb T (at W) (at R) (at K) base L) 0 ≡ b
-        → cond {A = state.Made} b (record { refusal = 0; state = state.freshOf base T L D W R K })
-        (record { refusal = judgedTable ltb T (at W) (at R) (at K) base L; state = state.single base }) .refusal ≡ judgedTable ltb T (at W) (at R) (at K) base L
+    go : (b : Bool) → eqb (judgedLists base ds ls) 0 ≡ b
+        → cond {A = state.Made} b (record { refusal = 0; state = state.freshOf base ds ls }) (record { refusal = judgedLists base ds ls; state = state.single base }) .refusal
+        ≡ judgedLists base ds ls
     go true e = sym (eqb-true _ 0 e)
     go false e = refl
 
 module _ (T L : ℕ) (D W R K : List ℕ) (m : Made) (said : Makes T L D W R K m) where
-  refusal-is : m .refusal ≡ judgedTable ltb T (at W) (at R) (at K) base L
-  refusal-is = ap (λ (x : state.Made). x .refusal) (said .answer) ∙ made-refusal T L D W R K
+  abbrev ds : List Task
+  ds = firstTasks T D
 
-  table-number : (n : ℕ) → (m .refusal ≡ n) ↔ TableEarns (firstTasks T D) (firstLinks L W R K) n
-  table-number n =
-      let e = refusal-is ∙ arrays-judged T L D W R K in (
-        λ z. subst (λ (k : ℕ). TableEarns (firstTasks T D) (firstLinks L W R K) k) (sym e ∙ z) (judged-table-earned (firstTasks T D) (firstLinks L W R K)),
-        λ t. e ∙ sym (table-earns-one (firstTasks T D) (firstLinks L W R K) t),
-      )
+  abbrev ls : List Link
+  ls = firstLinks L W R K
+
+  refusal-is : m .refusal ≡ judgedLists base ds ls
+  refusal-is = ap (λ (x : state.Made). x .refusal) (said .answer) ∙ made-refusal ds ls
+
+  table-number : (n : ℕ) → (m .refusal ≡ n) ↔ TableEarns ds ls n
+  table-number n = (
+    λ z. subst (λ (k : ℕ). TableEarns ds ls k) (sym refusal-is ∙ z) (judged-table-earned ds ls),
+    λ t. refusal-is ∙ sym (table-earns-one ds ls t),
+  )
 
   -- a table that is refused makes the single task's state
   table-refused : m .refusal ≢ 0 → Makes 1 0 (0 ∷ []) [] [] [] (record { refusal = 0; state = m .state })
   unfolding made
   table-refused n =
-      let e : eqb (judgedTable ltb T (at W) (at R) (at K) base L) 0 ≡ false = ne-eqb _ 0 (λ z. n (refusal-is ∙ z)) in
-      let single : made ltb base T L D W R K .state ≡ state.single base = rw e in
+      let e : eqb (judgedLists base ds ls) 0 ≡ false = ne-eqb _ 0 (λ z. n (refusal-is ∙ z)) in
+      let single : made base ds ls .state ≡ state.single base = rw e in
       single-held (m .state) (ap (λ (x : state.Made). x .state) (said .answer) ∙ single) (said .whole)
 
-  table-kept : (m .refusal ≡ 0) ↔ Keeps (firstTasks T D) (firstLinks L W R K)
-  table-kept = (
-    λ z. keeps-of (firstTasks T D) (firstLinks L W R K) (sym (arrays-judged T L D W R K) ∙ sym refusal-is ∙ z),
-    λ k. table-number 0 .1 (refusals.kept k),
-  )
+  table-kept : (m .refusal ≡ 0) ↔ Keeps ds ls
+  table-kept = (λ z. keeps-of ds ls (sym refusal-is ∙ z), λ k. table-number 0 .1 (refusals.kept k))
 
 -- ---- an event given to any state
 
 -- a state that is not sound fails the test
-pub not-sound : (q : Saved) → (Sound ltb base q → ⊥) → isSound ltb base q ≡ false
-not-sound q n = go (isSound ltb base q) refl
+pub not-sound : (q : Saved) → (StandsSound base q → ⊥) → testedSound base q ≡ false
+not-sound q n = go (testedSound base q) refl
   where
-    go : (b : Bool) → isSound ltb base q ≡ b → isSound ltb base q ≡ false
-    go true i = absurd (n (sound-says ltb base q i))
+    go : (b : Bool) → testedSound base q ≡ b → testedSound base q ≡ false
+    go true i = absurd (n (sound-says (aheadIn q) base q i))
     go false i = i
 
 module _ (q : State) (e : Event ℕ) (r : Step) (call : Gives q e r) where
   event-number : IsSound q → (n : ℕ) → (r .answer .refusal ≡ n) ↔ Earns (EventBreaks (tableIn q) (standingIn q) e) n
-  event-number S = earns-exactly (ap (λ (x : Reply). x .refusal) (call .answer) ∙ give-refusal ltb base (saved q) e (says-sound ltb base (saved q) S)) (phases-earned (saved q) S e)
+  event-number S = earns-exactly (ap (λ (x : Reply). x .refusal) (call .answer) ∙ give-refusal (aheadIn (saved q)) base (saved q) e (says-sound (aheadIn (saved q)) base (saved q) S)) (phases-earned (saved q) S e)
 
   unknown-state : (IsSound q → ⊥) → r ≡ asLent q 19
   unknown-state n =
-      let u = call .answer ∙ give-unsound ltb base (saved q) e (not-sound (saved q) n) in
+      let u = call .answer ∙ give-unsound (aheadIn (saved q)) base (saved q) e (not-sound (saved q) n) in
       λ j. record {
         state = saved-same (r .state) q (call .whole) (call .lent) (ap (λ (x : Reply). x .state) u) j;
         answer = record { refusal = u j .refusal; value = u j .value };
@@ -141,8 +143,8 @@ module _ (q : State) (e : Event ℕ) (r : Step) (call : Gives q e r) where
 
   unchanged : r .answer .refusal ≢ 0 → r ≡ asLent q (r .answer .refusal)
   unchanged n =
-      let i : give ltb base (saved q) e .refusal ≢ 0 = λ z. n (ap (λ (x : Reply). x .refusal) (call .answer) ∙ z) in
-      let u = refused-same ltb base (saved q) e i in
+      let i : givenTo base (saved q) e .refusal ≢ 0 = λ z. n (ap (λ (x : Reply). x .refusal) (call .answer) ∙ z) in
+      let u = refused-same (aheadIn (saved q)) base (saved q) e i in
       λ j. record {
         state = same-state q e r call n j;
         answer = record { refusal = r .answer .refusal; value = (ap (λ (x : Reply). x .value) (call .answer) ∙ u .1) j };
@@ -169,7 +171,7 @@ told b x = record { answer = explained-is x; whole = explained-whole x; bytes = 
 
 -- no recording is longer
 longest : {s out ds : List ℕ} {ls : List Link} {es : List (Event ℕ)} → Genuine s out ds ls es → length s ≤ 60164
-longest {s} {out} {ds} {ls} {es} g = base-length ltb (coreOf ltb base out) s ds ls es (genuine-kept g)
+longest {s} {out} {ds} {ls} {es} g = base-length (coreOf base out) s ds ls es (genuine-kept g)
 
 -- ---- the theorems
 pub demand-1 : Demand1

@@ -3,7 +3,7 @@
 use mathlib.Core.Path.{_≡_, refl}
 use mathlib.Core.List.{List, [], _∷_, _++_}
 use Prim.Native.Nat.{ℕ}
-use lib.Dec.{ltb, lit<}
+use lib.Dec.{lit<}
 use Rattle.lists.specs.Lists.{some, count, leading}
 use Rattle.protocol.specs.Event.{Event, arrival, start, read, finish, has}
 use Rattle.protocol.specs.Table.{Table}
@@ -14,7 +14,7 @@ use Rattle.protocol.specs.ZeroTime.{dues}
 use Rattle.protocol.specs.Instant.{upward}
 use Rattle.protocol_state.specs.Rules.{fault, judgedTable}
 use Rattle.protocol_state.specs.Saved.{base}
-use Rattle.protocol_state.specs.Give.{give}
+use Rattle.protocol_state.specs.Give.{givenTo}
 use Rattle.mailbox.specs.States.{saved}
 use Rattle.mailbox.proofs.Packed.{stepTo, given-to}
 use Rattle.demands.proofs.Calls.{calls-whole}
@@ -39,13 +39,13 @@ Some es = (ns : List ℕ) × (q : State) × Calls two es ns q
 
 more : {es : List (Event ℕ)} → Some es → (e : Event ℕ) → Possible two (urgent two) (past [] es) e → Some (es ++ (e ∷ []))
 more {es} c e p =
-    let r = stepTo (give ltb base (saved (c .1)) e) in
+    let r = stepTo (givenTo base (saved (c .1)) e) in
     let g = given-to (c .1) e (calls-whole (c .2)) in
     (_, _, accepted (c .2) e r g (calls-event (c .2) e r g .1 p))
 
 none : Some []
-unfolding judgedTable fault leading some count upward
-none = (_, _, begins 2 1 (0 ∷ 100 ∷ []) (0 ∷ []) (1 ∷ []) (0 ∷ []) refl)
+unfolding judgedTable fault leading some count
+none = (_, _, begins (0 ∷ 100 ∷ []) (record { writer = 0; reader = 1; kind = 0 } ∷ []) refl)
 
 made : Some five
 unfolding past Possible arrivals starts finishes has some

@@ -5,21 +5,23 @@ use mathlib.Core.Logic.{_≢_, inl, inr}
 use mathlib.Core.List.{List, [], _∷_}
 use Prim.Native.Nat.{ℕ, _+_, _≤_}
 use native.Mathlib.Omega.{arith}
-use lib.Dec.{ltb}
 use lib.ListN.{length}
 use Rattle.protocol.specs.Event.{Event}
 use Rattle.protocol.specs.Table.{Table}
 use Rattle.protocol.specs.History.{counts, past}
+use Rattle.protocol.specs.Instant.{upward}
 use Rattle.protocol_state.specs.Saved.{base, at}
 use Rattle.protocol_state.specs.Fresh as fresh
-use Rattle.protocol_state.proofs.Rules.{ltb-ranks, no-refusal}
+use Rattle.protocol_state.proofs.Rules.{no-refusal}
+use Rattle.protocol_state.specs.Records.{aheadOf, linkOf, firstTasks, firstLinks}
+use Rattle.protocol_state.specs.Fresh.{judgedLists}
 use Rattle.byte_format.specs.Stands.{Stands}
 use Rattle.byte_format.specs.Format.{Got, stop, FitEach, encodeBegun}
 use Rattle.byte_format.specs.Play.{Verdict, verdict, refusalOf}
 use Rattle.byte_format.specs.Section.{Faulty}
 use Rattle.byte_format.proofs.Standing.{stands-join}
 use Rattle.byte_format.proofs.Kinded.{Case, missing, strange, short, whole, which}
-use Rattle.recording_format.specs.Link.{Link, listed}
+use Rattle.recording_format.specs.Link.{Link}
 use Rattle.recording_format.specs.Event as format
 use Rattle.recording_format.specs.Event.{Kind, eventKinds, events, eventAt, sizeOf}
 use Rattle.recording_format.specs.RecordingKind.{baseRecording, eventLimit}
@@ -45,7 +47,7 @@ use Rattle.demands.specs.Refusals.{Earns, RecordBreaks}
 use Rattle.demands.specs.Recordings.{EventsBegun, TableFault, AtTable, KindOf, anArrival, aStart, aRead, aFinish, Ending, noKind, unknownKind, cutEvent, badEvent, AtEvents, Explained}
 use Rattle.demands.specs.Recordings as recordings
 use Rattle.demands.proofs.Events.{record-earned}
-use Rattle.demands.proofs.Replays.{made-ok, Went, went, Fine}
+use Rattle.demands.proofs.Replays.{made-ok, Went, went}
 use Rattle.demands.proofs.Genuine.{calls-there, listed-there}
 use Rattle.demands.proofs.TableFaults.{table-begun, task-count-fault, task-fault, link-count-fault, link-fault, event-count-fault}
 
@@ -63,9 +65,10 @@ known-kind aRead = (format.aRead, refl, refl)
 known-kind aFinish = (format.aFinish, refl, refl)
 
 -- the single task's state is what its table makes
-pub single-made : fresh.made ltb base 1 0 (0 ∷ []) [] [] [] ≡ record { refusal = 0; state = fresh.single base }
+pub single-made : fresh.made base (firstTasks 1 (0 ∷ [])) (firstLinks 0 [] [] []) ≡ record { refusal = 0; state = fresh.single base }
+unfolding upward
 single-made =
-    made-ok 1 0 (0 ∷ []) [] [] [] (no-refusal ltb 1 (at []) (at []) (at []) base 0 (omega arith) (omega arith) (omega arith) (λ l h. absurd (omega arith)))
+    made-ok (0 ∷ []) [] (no-refusal (aheadOf (0 ∷ [])) 1 (linkOf []) base 0 (omega arith) (omega arith) (omega arith) (λ l h. absurd (omega arith)))
 
 -- so whatever holds it is
 pub single-held : (q : State) → saved q ≡ fresh.single base → Whole q → Makes 1 0 (0 ∷ []) [] [] [] (record { refusal = 0; state = q })
@@ -73,7 +76,7 @@ single-held q e w = record { answer = (λ i. record { refusal = 0; state = e i }
 
 module _ {s out list : List ℕ} {a : Answer} (said : Replays s out a list) where
   -- refused in the table
-  at-table : {r p : ℕ} → replied a list ≡ verdict r p (coreOf ltb base out .single) → TableFault s r p → AtTable s out a list
+  at-table : {r p : ℕ} → replied a list ≡ verdict r p (coreOf base out .single) → TableFault s r p → AtTable s out a list
   at-table e f = record {
     fault = rw (ap (λ (x : Verdict Playing). x .refusal) e, ap (λ (x : Verdict Playing). x .place) e) f;
     state = single-held (a .state) (ap (λ (x : Verdict Playing). x .state .state) e) (said .whole);
@@ -82,8 +85,8 @@ module _ {s out list : List ℕ} {a : Answer} (said : Replays s out a list) wher
   }
 
   -- an answer with the state that some events came to: all but what lies at its place
-  module _ {r p : ℕ} {ds : List ℕ} {ls : List Link} {es : List (Event ℕ)} (e : replied a list ≡ verdict r p (stateAfter (coreOf ltb base out) ds ls es))
-      (w : Went out ds ls es (stateAfter (coreOf ltb base out) ds ls es)) (E : ℕ) (b : EventsBegun s ds ls E es p) (t : Ending (station ds ls) s out E es p r) where
+  module _ {r p : ℕ} {ds : List ℕ} {ls : List Link} {es : List (Event ℕ)} (e : replied a list ≡ verdict r p (stateAfter (coreOf base out) ds ls es))
+      (w : Went out ds ls es (stateAfter (coreOf base out) ds ls es)) (E : ℕ) (b : EventsBegun s ds ls E es p) (t : Ending (station ds ls) s out E es p r) where
     at-events : AtEvents s out a list
     at-events = record {
       ds = ds;
@@ -99,13 +102,13 @@ module _ {s out list : List ℕ} {a : Answer} (said : Replays s out a list) wher
     }
 
   -- a record that is not there, or is refused by the table and the events before it
-  record-fault : {ds : List ℕ} {ls : List Link} {m : ℕ} {es : List (Event ℕ)} {r p : ℕ} (t : TableTo ltb baseRecording s ds ls m)
-      (f : Faulty (events baseRecording) (eventLimit baseRecording) (judgedIn ltb) (steppedIn ltb) s (coreOf ltb base out .start ds (listed ls)) m es r p)
-      → tableOf ltb base ds ls ≡ station ds ls → r ≢ 0 → Ending (station ds ls) s out (f .total) es p r
+  record-fault : {ds : List ℕ} {ls : List Link} {m : ℕ} {es : List (Event ℕ)} {r p : ℕ} (t : TableTo baseRecording s ds ls m)
+      (f : Faulty (events baseRecording) (eventLimit baseRecording) judgedIn steppedIn s (coreOf base out .start ds ls) m es r p)
+      → tableOf base ds ls ≡ station ds ls → r ≢ 0 → Ending (station ds ls) s out (f .total) es p r
   record-fault {ds} {ls} {m} {es} {r} {p} t f same n = go (which (eventKinds baseRecording) byteOf (events-told baseRecording) s p)
     where
       stopped : {k : ℕ} → eventAt baseRecording s p ≡ stop k → k ≡ r
-      stopped i = sym (f .fault ∙ ap (λ (y : Got (Event ℕ)). refusalOf y (judgedIn ltb (stateAfter (coreOf ltb base out) ds ls es))) i)
+      stopped i = sym (f .fault ∙ ap (λ (y : Got (Event ℕ)). refusalOf y (judgedIn (stateAfter (coreOf base out) ds ls es))) i)
 
       given : {k : ℕ} → k ≡ r → Ending (station ds ls) s out (f .total) es p k → Ending (station ds ls) s out (f .total) es p r
       given e x = subst (λ (k : ℕ). Ending (station ds ls) s out (f .total) es p k) e x
@@ -119,13 +122,13 @@ module _ {s out list : List ℕ} {a : Answer} (said : Replays s out a list) wher
           let w = events-lawful baseRecording .tells s p x (p + sizeOf baseRecording k) (said .bytes) (f .played .bytes .within) i in
           badEvent (f .more) x (p + sizeOf baseRecording k) (w .1) (w .0)
           (subst (λ (j : ℕ). Earns (RecordBreaks (station ds ls) out (past [] es) x) j)
-          (sym (event-refused ltb-ranks baseRecording base base-room out t f i ∙ ap (λ (T : Table ℕ). refusedBy T out (past [] es) x) same)) (record-earned (station ds ls) (past [] es) out x)) n
+          (sym (event-refused baseRecording base base-room out t f i ∙ ap (λ (T : Table ℕ). refusedBy T out (past [] es) x) same)) (record-earned (station ds ls) (past [] es) out x)) n
 
-  table-fine : {ds : List ℕ} {ls : List Link} {m : ℕ} → TableTo ltb baseRecording s ds ls m → Fine ds ls
-  table-fine {ds} {ls} t = allowed-judged ltb (length ds) baseRecording base base-room ls (t .tasked .kept .few) (t .linked .kept .few) (t .linked .kept .allowed)
+  table-fine : {ds : List ℕ} {ls : List Link} {m : ℕ} → TableTo baseRecording s ds ls m → judgedLists base ds ls ≡ 0
+  table-fine {ds} {ls} t = allowed-judged (aheadOf ds) (length ds) baseRecording base base-room ls (t .tasked .kept .few) (t .linked .kept .few) (t .linked .kept .allowed)
 
   -- the table and the first events stand there
-  events-begun : {ds : List ℕ} {ls : List Link} {m : ℕ} → TableTo ltb baseRecording s ds ls m → (es : List (Event ℕ)) (E p : ℕ) → E ≤ baseRecording .events → FitEach (events baseRecording) es
+  events-begun : {ds : List ℕ} {ls : List Link} {m : ℕ} → TableTo baseRecording s ds ls m → (es : List (Event ℕ)) (E p : ℕ) → E ≤ baseRecording .events → FitEach (events baseRecording) es
       → Stands s m (encodeBegun (events baseRecording) E es) p → EventsBegun s ds ls E es p
   events-begun t es E p few fits b =
       let k = table-begun s t in
@@ -134,7 +137,7 @@ module _ {s out list : List ℕ} {a : Answer} (said : Replays s out a list) wher
   pub every-answer : Explained s out a list
   every-answer = go (answered said)
     where
-      go : RecordingOutcome ltb baseRecording (coreOf ltb base out) s (replied a list) → Explained s out a list
+      go : RecordingOutcome baseRecording (coreOf base out) s (replied a list) → Explained s out a list
       go (taskCount r n u e) = inl (at-table e (task-count-fault s u))
       go (taskRecord ds r p n f e) = inl (at-table e (task-fault s n f))
       go (linkCount ds r p n t u e) = inl (at-table e (link-count-fault s t u))

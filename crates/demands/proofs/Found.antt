@@ -5,7 +5,6 @@ use mathlib.Core.Logic.{_≢_}
 use mathlib.Core.List.{List, [], _++_}
 use Prim.Native.Nat.{ℕ, _+_, _<_}
 use native.Mathlib.Omega.{arith}
-use lib.Dec.{ltb}
 use lib.ListN.{length}
 use Rattle.protocol.specs.Event.{Event}
 use Rattle.protocol.specs.Table.{Table}
@@ -19,7 +18,7 @@ use Rattle.byte_format.specs.Section.{Faulty}
 use Rattle.byte_format.proofs.Standing.{stands-join, stands-first, stands-left}
 use Rattle.byte_format.proofs.Kinded as kinded
 use Rattle.recording_format.specs.Task.{tasks}
-use Rattle.recording_format.specs.Link.{Link, links, listed}
+use Rattle.recording_format.specs.Link.{Link, links}
 use Rattle.recording_format.specs.Event.{eventKinds, events, eventAt, sizeOf}
 use Rattle.recording_format.specs.RecordingKind.{baseRecording, eventLimit}
 use Rattle.recording_format.specs.Recording.{encodeRecording, stateAfter}
@@ -54,7 +53,7 @@ module _ {s out ds : List ℕ} {ls : List Link} {es : List (Event ℕ)} {E p : �
   from-events : Stands s tableEnds (bytesOf (baseRecording .eventCountWidth) E ++ encodes (events baseRecording) es) p
   from-events = stands-left (encodeSection (links baseRecording) ls) _ from-links
 
-  table-there : TableTo ltb baseRecording s ds ls tableEnds
+  table-there : TableTo baseRecording s ds ls tableEnds
   table-there = begun-table s (record {
     few = b .keeps .links;
     keeps = b .keeps;
@@ -62,15 +61,15 @@ module _ {s out ds : List ℕ} {ls : List Link} {es : List (Event ℕ)} {E p : �
     bytes = stands-join (stands-first (encodeSection (tasks baseRecording) ds) _ (b .bytes)) (stands-first (encodeSection (links baseRecording) ls) _ from-links);
   })
 
-  allowed-there : Allowed (judgedIn ltb) (steppedIn ltb) (coreOf ltb base out .start ds (listed ls)) es
+  allowed-there : Allowed judgedIn steppedIn (coreOf base out .start ds ls) es
   allowed-there = genuine-kept alone .played .allowed
 
-  pub went-there : Went out ds ls es (stateAfter (coreOf ltb base out) ds ls es)
-  went-there = went out ds ls es (recorded-judged ltb baseRecording base base-room (coreOf ltb base out) (encodeRecording baseRecording ds ls es) ds ls es (genuine-kept alone)) allowed-there
+  pub went-there : Went out ds ls es (stateAfter (coreOf base out) ds ls es)
+  went-there = went out ds ls es (recorded-judged baseRecording base base-room (coreOf base out) (encodeRecording baseRecording ds ls es) ds ls es (genuine-kept alone)) allowed-there
 
   -- what the reader finds at the place
-  faulty : (r : ℕ) → length es < E → r ≡ refusalOf (eventAt baseRecording s p) (judgedIn ltb (stateAfter (coreOf ltb base out) ds ls es))
-      → Faulty (events baseRecording) (eventLimit baseRecording) (judgedIn ltb) (steppedIn ltb) s (coreOf ltb base out .start ds (listed ls)) tableEnds es r p
+  faulty : (r : ℕ) → length es < E → r ≡ refusalOf (eventAt baseRecording s p) (judgedIn (stateAfter (coreOf base out) ds ls es))
+      → Faulty (events baseRecording) (eventLimit baseRecording) judgedIn steppedIn s (coreOf base out .start ds ls) tableEnds es r p
   faulty r more e =
       let few = within-events baseRecording (E) (b .few) in
       record {
@@ -86,17 +85,17 @@ module _ {s out ds : List ℕ} {ls : List Link} {es : List (Event ℕ)} {E p : �
 
   -- a record that stops the reader
   stops : (r : ℕ) → length es < E → r ≢ 0 → eventAt baseRecording s p ≡ stop r
-      → RecordingOutcome ltb baseRecording (coreOf ltb base out) s (verdict r p (stateAfter (coreOf ltb base out) ds ls es))
+      → RecordingOutcome baseRecording (coreOf base out) s (verdict r p (stateAfter (coreOf base out) ds ls es))
   stops r more n i =
       eventRecord ds ls tableEnds es r p n table-there
-      (faulty r more (sym (ap (λ (y : Got (Event ℕ)). refusalOf y (judgedIn ltb (stateAfter (coreOf ltb base out) ds ls es))) i))) refl
+      (faulty r more (sym (ap (λ (y : Got (Event ℕ)). refusalOf y (judgedIn (stateAfter (coreOf base out) ds ls es))) i))) refl
 
   pub found : {r : ℕ} → Ending (station ds ls) s out (E) es p r
-      → RecordingOutcome ltb baseRecording (coreOf ltb base out) s (verdict r p (stateAfter (coreOf ltb base out) ds ls es))
+      → RecordingOutcome baseRecording (coreOf base out) s (verdict r p (stateAfter (coreOf base out) ds ls es))
   found (recordings.whole e i) =
       accepted ds ls tableEnds es table-there
       (record { kept = genuine-kept alone .played; bytes = rw (← i) (subst (λ (n : ℕ). Stands s tableEnds (bytesOf (baseRecording .eventCountWidth) n ++ encodes (events baseRecording) es) p) (sym e) from-events) })
-      refl (ap (λ (k : ℕ). verdict 0 k (stateAfter (coreOf ltb base out) ds ls es)) i)
+      refl (ap (λ (k : ℕ). verdict 0 k (stateAfter (coreOf base out) ds ls es)) i)
   found (recordings.extra e h) =
       extraBytes ds ls tableEnds es p table-there
       (record { kept = genuine-kept alone .played; bytes = subst (λ (n : ℕ). Stands s tableEnds (bytesOf (baseRecording .eventCountWidth) n ++ encodes (events baseRecording) es) p) (sym e) from-events }) h refl
@@ -109,9 +108,9 @@ module _ {s out ds : List ℕ} {ls : List Link} {es : List (Event ℕ)} {E p : �
       stops 1 more (λ z. omega arith) (kinded.rest-missing (eventKinds baseRecording) byteOf (events-told baseRecording) s p (w .0) h (w .1) (omega (arith, w .2)))
   found (badEvent {r} more e q x f g n) =
       let i : eventAt baseRecording s p ≡ got e q = events-lawful baseRecording .reads s p e q f x in
-      let j : judgedIn ltb (stateAfter (coreOf ltb base out) ds ls es) e ≡ refusedBy (station ds ls) out (past [] es) e =
+      let j : judgedIn (stateAfter (coreOf base out) ds ls es) e ≡ refusedBy (station ds ls) out (past [] es) e =
       refused-by (went-there .right) e ∙ ap (λ (T : Table ℕ). refusedBy T out (past [] es) e) (went-there .same) in
       eventRecord ds ls tableEnds es r p n table-there
       (faulty r more
       (earns-one g (record-earned (station ds ls) (past [] es) out e) ∙ sym j
-      ∙ sym (ap (λ (y : Got (Event ℕ)). refusalOf y (judgedIn ltb (stateAfter (coreOf ltb base out) ds ls es))) i))) refl
+      ∙ sym (ap (λ (y : Got (Event ℕ)). refusalOf y (judgedIn (stateAfter (coreOf base out) ds ls es))) i))) refl

@@ -3,19 +3,16 @@
 use mathlib.Core.Path.{_≡_, refl, sym, ap, subst, _∙_}
 use mathlib.Core.Logic.{_↔_}
 use mathlib.Core.List.{List, []}
-use Prim.Native.Nat.{ℕ, _+_, _<_, _≤_}
+use Prim.Native.Nat.{ℕ, _+_, _≤_}
 use native.Mathlib.Omega.{arith}
-use lib.Dec.{ltb}
 use lib.ListN.{length, replicate, length-replicate}
 use Rattle.protocol.specs.Event.{Event}
 use Rattle.protocol.specs.Table.{Table}
 use Rattle.protocol.specs.History.{reads, past}
 use Rattle.protocol.specs.Schedule.{urgent, AllPossible}
-use Rattle.protocol_state.specs.Saved.{base, at}
-use Rattle.protocol_state.specs.Rules.{Obeys}
-use Rattle.protocol_state.proofs.Rules.{ltb-ranks}
+use Rattle.protocol_state.specs.Saved.{base}
 use Rattle.byte_format.specs.Play.{Verdict, verdict}
-use Rattle.recording_format.specs.Link.{Link, Links}
+use Rattle.recording_format.specs.Link.{Link}
 use Rattle.recording_format.specs.RecordingKind.{baseRecording}
 use Rattle.recording_format.specs.Recording.{stateAfter, Recorded}
 use Rattle.recording_format.proofs.Base.{base-room, base-counts}
@@ -34,16 +31,13 @@ use Rattle.recording_demands.proofs.Demands.{accepted-only, accepted-all}
 use Rattle.demands.specs.Station.{station}
 use Rattle.demands.specs.Calls.{Calls}
 use Rattle.demands.specs.Recordings.{Genuine, Listed}
-use Rattle.demands.proofs.Tables.{listed-columns, recorded-station}
+use Rattle.demands.proofs.Tables.{fresh-station}
 use Rattle.demands.proofs.Orders.{past-reads, happen-possible, possible-happen}
 use Rattle.demands.proofs.Replays.{Went, went}
 
 -- ---- the exactly-when, in the words of this crate and of recording_core
-abbrev Ruled : List ℕ → List Link → Links → Type 0
-Ruled ds ls c = (l : ℕ) → l < length ls → Obeys ltb (length ds) (at (c .writer)) (at (c .reader)) (at (c .kind)) l
-
 module _ {s out ds : List ℕ} {ls : List Link} {es : List (Event ℕ)} where
-  pub genuine-core : Genuine s out ds ls es → core.CoreGenuine ltb baseRecording base s out ds ls es
+  pub genuine-core : Genuine s out ds ls es → core.CoreGenuine baseRecording base s out ds ls es
   unfolding reads AllPossible
   genuine-core g = record {
     bytes = g .bytes;
@@ -51,27 +45,27 @@ module _ {s out ds : List ℕ} {ls : List Link} {es : List (Event ℕ)} where
     few-tasks = g .keeps .tasks;
     few-links = g .keeps .links;
     few-events = g .few;
-    rules = subst (λ (c : Links). Ruled ds ls c) (sym (listed-columns ls)) (g .keeps .rules);
-    happens = subst (λ (t : Table ℕ). AllPossible t (urgent t) (past [] es)) (sym (recorded-station ds ls (g .keeps .tasks .1) (g .keeps .links)))
+    rules = g .keeps .rules;
+    happens = subst (λ (t : Table ℕ). AllPossible t (urgent t) (past [] es)) (sym (fresh-station ds ls (g .keeps .tasks .1) (g .keeps .links)))
         (happen-possible (station ds ls) [] es tt (g .happen));
     room = omega (arith, past-reads [] es, g .room);
   }
 
-  pub core-genuine : core.CoreGenuine ltb baseRecording base s out ds ls es → Genuine s out ds ls es
+  pub core-genuine : core.CoreGenuine baseRecording base s out ds ls es → Genuine s out ds ls es
   unfolding reads
   core-genuine g = record {
-    keeps = record { tasks = g .few-tasks; links = g .few-links; rules = subst (λ (c : Links). Ruled ds ls c) (listed-columns ls) (g .rules) };
+    keeps = record { tasks = g .few-tasks; links = g .few-links; rules = g .rules };
     bytes = g .bytes;
     fits = g .fits;
     few = g .few-events;
     room = omega (arith, past-reads [] es, g .room);
     happen = possible-happen (station ds ls) [] es
-        (subst (λ (t : Table ℕ). AllPossible t (urgent t) (past [] es)) (recorded-station ds ls (g .few-tasks .1) (g .few-links)) (g .happens)) .0;
+        (subst (λ (t : Table ℕ). AllPossible t (urgent t) (past [] es)) (fresh-station ds ls (g .few-tasks .1) (g .few-links)) (g .happens)) .0;
   }
 
   -- a genuine recording, as the reader judges it
-  pub genuine-kept : Genuine s out ds ls es → Recorded ltb baseRecording (coreOf ltb base out) s ds ls es
-  genuine-kept g = genuine-recorded ltb-ranks baseRecording base base-room out base-counts (genuine-core g)
+  pub genuine-kept : Genuine s out ds ls es → Recorded baseRecording (coreOf base out) s ds ls es
+  genuine-kept g = genuine-recorded baseRecording base base-room out base-counts (genuine-core g)
 
 -- another list with room for the numbers
 genuine-room : {s out out′ ds : List ℕ} {ls : List Link} {es : List (Event ℕ)} → Genuine s out ds ls es → reads es ≤ length out′ → Genuine s out′ ds ls es
@@ -85,7 +79,7 @@ one-reading {s} {out} {out′} {ds} {ds′} {ls} {ls′} {es} {es′} g g′ =
     let long = length-replicate {A = ℕ} n 0 in
     let k = genuine-kept (genuine-room {out′ = replicate {A = ℕ} n 0} g (omega arith)) in
     let k′ = genuine-kept (genuine-room {out′ = replicate {A = ℕ} n 0} g′ (omega arith)) in
-    let u = recorded-unique ltb baseRecording (coreOf ltb base (replicate {A = ℕ} n 0)) s ds ds′ ls ls′ es es′ k k′ in
+    let u = recorded-unique baseRecording (coreOf base (replicate {A = ℕ} n 0)) s ds ds′ ls ls′ es es′ k k′ in
     (u .0, u .1 .0, u .1 .1)
 
 module _ {s out list : List ℕ} {a : Answer} (said : Replays s out a list) where
@@ -97,7 +91,7 @@ module _ {s out list : List ℕ} {a : Answer} (said : Replays s out a list) wher
 
 -- an answer with the state that some events came to
 module _ {s out list : List ℕ} {a : Answer} {r p : ℕ} {ds : List ℕ} {ls : List Link} {es : List (Event ℕ)} (said : Replays s out a list)
-    (e : replied a list ≡ verdict r p (stateAfter (coreOf ltb base out) ds ls es)) (w : Went out ds ls es (stateAfter (coreOf ltb base out) ds ls es)) where
+    (e : replied a list ≡ verdict r p (stateAfter (coreOf base out) ds ls es)) (w : Went out ds ls es (stateAfter (coreOf base out) ds ls es)) where
   pub calls-there : Calls (station ds ls) es (w .ns) (a .state)
   calls-there = subst (λ (x : State). Calls (station ds ls) es (w .ns) x) (sym (packed-is (a .state) _ (said .whole) (ap (λ (x : Verdict Playing). x .state .state) e))) (w .calls)
 
@@ -109,6 +103,6 @@ pub accepted-calls : {s out list ds : List ℕ} {a : Answer} {ls : List Link} {e
     → (ns : List ℕ) × Calls (station ds ls) es ns (a .state) × Listed ns out list × (a .place ≡ length s)
 accepted-calls {s} {out} {list} {ds} {a} {ls} {es} said g =
     let k = genuine-kept g in
-    let e = said .answer ∙ recorded-accepted ltb baseRecording (coreOf ltb base out) s ds ls es k refl in
-    let w = went out ds ls es (recorded-judged ltb baseRecording base base-room (coreOf ltb base out) s ds ls es k) (k .played .allowed) in
+    let e = said .answer ∙ recorded-accepted baseRecording (coreOf base out) s ds ls es k refl in
+    let w = went out ds ls es (recorded-judged baseRecording base base-room (coreOf base out) s ds ls es k) (k .played .allowed) in
     (w .ns, calls-there said e w, listed-there said e w, ap (λ (x : Verdict Playing). x .place) e)

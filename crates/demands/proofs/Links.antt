@@ -1,6 +1,6 @@
 -- The refusal of a link, in words and as the code computes it.
 -- Assumes nothing.
-use mathlib.Core.Path.{_≡_, refl, sym, ap, subst, _∙_}
+use mathlib.Core.Path.{_≡_, refl, sym, ap, _∙_}
 use mathlib.Core.Logic.{_≢_, _⊎_, inl, inr}
 use mathlib.Core.Bool.{Bool, true, false, _&&_, _||_}
 use mathlib.Core.List.{List, [], _∷_}
@@ -8,16 +8,13 @@ use Prim.Native.Nat.{ℕ, zero, suc, _≤_, _<_}
 use native.Mathlib.Omega.{arith}
 use borrow.Author.Tests.{eqb-true, eq-eqb, ltb-true, lt-ltb, leb-true, le-leb}
 use lib.Dec.{eqb, ltb, leb, lit<}
-use lib.ListN.{length, length-map}
+use lib.ListN.{length}
 use Rattle.lists.specs.Lists.{some}
 use Rattle.lists.proofs.Bools.{and-left, and-right, and-both}
-use Rattle.protocol.specs.Table.{behinds}
-use Rattle.protocol_state.specs.Saved.{at}
-use Rattle.protocol_state.specs.Rules.{joins, faultAfter}
-use Rattle.recording_format.specs.Link.{Link, Links, listed, linkFault}
-use Rattle.demands.specs.Station.{writers, readers}
+use Rattle.protocol_state.specs.Records.{linkOf, aheadOf}
+use Rattle.protocol_state.specs.Rules.{alike, linksBehind}
+use Rattle.recording_format.specs.Link.{Link, linkFault}
 use Rattle.demands.specs.Refusals.{Earns, LinkBreaks, noTask, itself, unknownKind, directAhead, twice, ninth}
-use Rattle.demands.proofs.Tables.{listed-columns}
 use Rattle.demands.proofs.Earned.{earns-alike, Test, test, Fires, here, later, chain-earns}
 
 -- one of two tests holds
@@ -59,9 +56,9 @@ module _ (ds : List ℕ) (ls : List Link) (l : Link) where
       test 4 (leb (length ds) (l .writer) || leb (length ds) (l .reader))
       ∷ test 5 (eqb (l .writer) (l .reader))
       ∷ test 6 (ltb 1 (l .kind))
-      ∷ test 7 (eqb (l .kind) 0 && ltb (l .reader) (l .writer))
-      ∷ test 8 (some (joins (at (writers ls)) (at (readers ls)) (l .writer) (l .reader)) (length ls))
-      ∷ test 9 (ltb (l .writer) (l .reader) && leb 8 (behinds ltb (at (writers ls)) (at (readers ls)) (l .writer) (length ls)))
+      ∷ test 7 (eqb (l .kind) 0 && aheadOf ds (l .reader) (l .writer))
+      ∷ test 8 (some (λ j. alike l (linkOf ls j)) (length ls))
+      ∷ test 9 (aheadOf ds (l .writer) (l .reader) && leb 8 (linksBehind (aheadOf ds) (linkOf ls) (l .writer) (length ls)))
       ∷ []
 
   broken-fires : {n : ℕ} → LinkBreaks ds ls l n → Fires tests n
@@ -83,24 +80,14 @@ module _ (ds : List ℕ) (ls : List Link) (l : Link) where
   fires-broken (later (later (here e))) = let h = ltb-true 1 (l .kind) e in unknownKind (λ z. omega arith) (λ z. omega arith)
   fires-broken (later (later (later (here e)))) = directAhead (eqb-true _ _ (and-left (eqb (l .kind) 0) _ e)) (and-right (eqb (l .kind) 0) _ e)
   fires-broken (later (later (later (later (here e))))) =
-      let w = found (joins (at (writers ls)) (at (readers ls)) (l .writer) (l .reader)) (length ls) e in
-      twice (w .0) (w .1) (eqb-true _ _ (and-left (eqb (at (writers ls) (w .0)) (l .writer)) _ (w .2))) (eqb-true _ _ (and-right (eqb (at (writers ls) (w .0)) (l .writer)) _ (w .2)))
+      let w = found (λ j. alike l (linkOf ls j)) (length ls) e in
+      twice (w .0) (w .1) (eqb-true _ _ (and-left (eqb (linkOf ls (w .0) .writer) (l .writer)) _ (w .2))) (eqb-true _ _ (and-right (eqb (linkOf ls (w .0) .writer) (l .writer)) _ (w .2)))
   fires-broken (later (later (later (later (later (here e)))))) =
-      ninth (and-left (ltb (l .writer) (l .reader)) _ e) (leb-true 8 _ (and-right (ltb (l .writer) (l .reader)) _ e))
+      ninth (and-left (aheadOf ds (l .writer) (l .reader)) _ e) (leb-true 8 _ (and-right (aheadOf ds (l .writer) (l .reader)) _ e))
 
-  -- what the code computes is what the link earns
-  pub fault-earned : Earns (LinkBreaks ds ls l) (faultAfter ltb (length ds) (at (writers ls)) (at (readers ls)) (length ls) (l .writer) (l .reader) (l .kind))
-  fault-earned =
+  -- what the reader of a recording computes after the links ls is what the link earns
+  pub link-earned : Earns (LinkBreaks ds ls l) (linkFault (aheadOf ds) (length ds) ls l)
+  unfolding linkFault
+  link-earned =
       earns-alike (λ n f. fires-broken f) (λ n b. broken-fires b)
       (chain-earns 0 tests (lit< tt, (lit< tt, (lit< tt, (lit< tt, (lit< tt, (lit< tt, tt)))))))
-
-  -- so does the reader of a recording, after the links ls
-  pub link-earned : Earns (LinkBreaks ds ls l) (linkFault ltb (length ds) (listed ls) l)
-  unfolding linkFault
-  link-earned = subst (λ (n : ℕ). Earns (LinkBreaks ds ls l) n) (sym there) fault-earned
-    where
-      there : faultAfter ltb (length ds) (at (listed ls .writer)) (at (listed ls .reader)) (length (listed ls .writer)) (l .writer) (l .reader) (l .kind)
-          ≡ faultAfter ltb (length ds) (at (writers ls)) (at (readers ls)) (length ls) (l .writer) (l .reader) (l .kind)
-      there =
-          ap (λ (c : Links). faultAfter ltb (length ds) (at (c .writer)) (at (c .reader)) (length (c .writer)) (l .writer) (l .reader) (l .kind)) (listed-columns ls)
-          ∙ ap (λ (n : ℕ). faultAfter ltb (length ds) (at (writers ls)) (at (readers ls)) n (l .writer) (l .reader) (l .kind)) (length-map ls (λ (x : Link). x .writer))

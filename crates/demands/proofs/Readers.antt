@@ -8,16 +8,15 @@ use Prim.Native.Nat.{ℕ, zero, suc, _+_, _≤_, _<_}
 use native.Mathlib.Decide.{ℕ-discrete}
 use native.Mathlib.Omega.{arith}
 use borrow.Author.Tests.{eqb-true, ne-eqb, eq-eqb}
-use lib.Dec.{eqb, ltb}
+use lib.Dec.{eqb}
 use Rattle.lists.specs.Lists.{some, count}
 use Rattle.protocol.specs.Event.{Event, arrival, start, read, finish}
 use Rattle.protocol.specs.Table.{Table, behinds, N}
-use Rattle.protocol.specs.Schedule.{Policy}
+use Rattle.protocol.specs.Schedule.{Policy, AllPossible}
 use Rattle.protocol.specs.Published.{Boxes, Free, Step, Run, fresh, next}
 use Rattle.protocol.proofs.Ranges.{ranged}
-use Rattle.protocol_state.specs.Saved.{Saved, base, table}
-use Rattle.protocol_state.specs.Rules.{joins}
-use Rattle.protocol_state.specs.Sound.{Sound}
+use Rattle.protocol_state.specs.Saved.{Saved, base, aheadIn, table}
+use Rattle.protocol_state.specs.Sound.{StandsSound}
 use Rattle.protocol_state.proofs.Places.{count-same}
 use Rattle.demands.specs.Mailboxes.{lessUrgentReaders, Mailboxes}
 
@@ -40,6 +39,10 @@ count-more f g k (suc m) l a b law = go (ℕ-discrete m k) (λ l. count-more f g
         both : (c : Bool) → count g m ≡ count f m + 1 → cond c (count g m + 1) (count g m) ≡ cond c (count f m + 1) (count f m) + 1
         both true j = ap (λ (n : ℕ). n + 1) j
         both false j = j
+
+-- link j goes from w to r
+abbrev joins : (ℕ → ℕ) → (ℕ → ℕ) → ℕ → ℕ → ℕ → Bool
+joins W R w r j = eqb (W j) w && eqb (R j) r
 
 module _ (ahead : ℕ → ℕ → Bool) (W R : ℕ → ℕ) (w T L : ℕ) (inside : (l : ℕ) → l < L → R l < T) (single : (j l : ℕ) → j < l → l < L → W j ≡ W l → R j ≢ R l) where
   -- r is behind w, and reads from it by one of the first n links
@@ -87,18 +90,18 @@ pub record Apart (T : Table ℕ) : Type 0 where
   pub single : (j l : ℕ) → j < l → l < T .links → T .writer j ≡ T .writer l → T .reader j ≢ T .reader l
 
 -- the table of a sound state
-pub sound-apart : (q : Saved) → Sound ltb base q → Apart (table ltb q)
+pub sound-apart : (q : Saved) → StandsSound base q → Apart (table (aheadIn q) q)
 sound-apart q S =
     record { inside = λ l h. S .rules .each l h .reader; single = λ j l i h. S .rules .each l h .single j i }
 
 -- nothing is ever put past a task's positions
-run-unused : {T : Table ℕ} {may : Policy ℕ} {s : Boxes ℕ} {h : List (Event ℕ)} → Run T may (Free T) s h → (t p : ℕ) → N T t + 2 < p → s .cell t p ≡ T .default t
-unfolding Step
-run-unused (fresh f) t p l = f .cell t p
-run-unused (next (arrival m) r i A) t p l = A .cell t p ∙ run-unused r t p l
-run-unused (next (start u) r i e) t p l = rw e (run-unused r t p l)
-run-unused (next (read k) r i e) t p l = rw e (run-unused r t p l)
-run-unused {T} {may} (next {s = s} (finish u v) r i F) t p l = F .cell t p ∙ go (eqb t u) (eqb p (s .newest u)) refl refl (ranged T may r .newest u .1) (run-unused r t p l)
+run-unused : (T : Table ℕ) (may : Policy ℕ) {s : Boxes ℕ} {h : List (Event ℕ)} → Run T (Free T) s h → AllPossible T may h → (t p : ℕ) → N T t + 2 < p → s .cell t p ≡ T .default t
+unfolding Step AllPossible
+run-unused T may (fresh f) P t p l = f .cell t p
+run-unused T may (next (arrival m) r A) P t p l = A .cell t p ∙ run-unused T may r (P .1) t p l
+run-unused T may (next (start u) r e) P t p l = rw e (run-unused T may r (P .1) t p l)
+run-unused T may (next (read k) r e) P t p l = rw e (run-unused T may r (P .1) t p l)
+run-unused T may (next {s = s} (finish u v) r F) P t p l = F .cell t p ∙ go (eqb t u) (eqb p (s .newest u)) refl refl (ranged T may r (P .1) .newest u .1) (run-unused T may r (P .1) t p l)
   where
     go : (b c : Bool) → eqb t u ≡ b → eqb p (s .newest u) ≡ c → s .newest u ≤ N T u + 2 → s .cell t p ≡ T .default t → cond (b && c) v (s .cell t p) ≡ T .default t
     go true true eb ec high k =
@@ -109,10 +112,10 @@ run-unused {T} {may} (next {s = s} (finish u v) r i F) t p l = F .cell t p ∙ g
     go false c eb ec high k = k
 
 -- positions and pointers of a run are among the mailboxes
-pub run-mailboxes : {T : Table ℕ} {may : Policy ℕ} {h : List (Event ℕ)} {s : Boxes ℕ} → Apart T → Run T may (Free T) s h → Mailboxes T h s
+pub run-mailboxes : (T : Table ℕ) (may : Policy ℕ) {h : List (Event ℕ)} {s : Boxes ℕ} → Apart T → Run T (Free T) s h → AllPossible T may h → Mailboxes T h s
 unfolding lessUrgentReaders
-run-mailboxes {T} {may} {h} {s} A run =
-    let r = ranged T may run in
+run-mailboxes T may {h} {s} A run P =
+    let r = ranged T may run P in
     let same : (w : ℕ) → N T w ≡ lessUrgentReaders T w =
     λ w. links-readers (T .ahead) (T .writer) (T .reader) w (T .tasks) (T .links) (A .inside) (A .single) (T .links) (omega arith) in
     record {
@@ -120,5 +123,5 @@ run-mailboxes {T} {may} {h} {s} A run =
       previous = λ t l. subst (λ (n : ℕ). (1 ≤ s .previous t) × (s .previous t ≤ n + 2)) (same t) (r .previous t);
       pointer = λ l k. subst (λ (n : ℕ). s .pointer l ≤ n + 2) (same (T .writer l)) (r .pointer l k);
       present = r .present;
-      unused = λ t p l k. run-unused run t p (subst (λ (n : ℕ). n + 2 < p) (sym (same t)) k);
+      unused = λ t p l k. run-unused T may run P t p (subst (λ (n : ℕ). n + 2 < p) (sym (same t)) k);
     }

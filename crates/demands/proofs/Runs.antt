@@ -5,7 +5,6 @@ use mathlib.Core.Logic.{_↔_}
 use mathlib.Core.Bool.{Bool, true, false}
 use mathlib.Core.List.{List, [], _∷_, append-nil}
 use Prim.Native.Nat.{ℕ, pred, _≤_}
-use lib.Dec.{ltb}
 use lib.ListN.{length}
 use Rattle.protocol.specs.Event.{Event, arrival, start, read, finish}
 use Rattle.protocol.specs.Table.{Table, Lawful}
@@ -20,13 +19,14 @@ use Rattle.protocol.proofs.Schedule.{urgent-fair, judged-possible, possible-jud
 use Rattle.protocol.proofs.Theorem.{lowest-only, weaken, finished-then, zero-time, ideals-there, ideals-count}
 use Rattle.protocol.proofs.Unique.{runs-same}
 use Rattle.protocol.proofs.Upward.{upward-order}
-use Rattle.protocol_state.specs.Saved.{base, table, boxes}
+use Rattle.protocol_state.specs.Saved.{base, tasksIn, aheadIn, table, boxes}
+use Rattle.protocol_state.specs.Rules.{Ranks}
 use Rattle.protocol_state.specs.Judge.{judgedOn}
 use Rattle.protocol_state.specs.Give.{Reply}
 use Rattle.protocol_state.proofs.Give.{give-done, give-refusal}
-use Rattle.protocol_state.proofs.Rules.{ltb-ranks}
+use Rattle.protocol_state.proofs.Rules.{ranked}
 use Rattle.protocol_state.proofs.Phases.{active-is, waiting-is, running-is}
-use Rattle.protocol_state.proofs.History.{reached-sound, judged-history, reached-refusal, reached-possible, reached-number}
+use Rattle.protocol_state.proofs.History.{reached-sound, judged-history, reached-refusal, reached-number}
 use Rattle.protocol_state.proofs.Numbers.{table-lawful, reached-ideals, reached-zero-run}
 use Rattle.mailbox.specs.States.{saved}
 use Rattle.mailbox.specs.declared.State.{State}
@@ -48,14 +48,17 @@ module _ {T : Table ℕ} {es : List (Event ℕ)} {ns : List ℕ} {q : State} (c 
   C = comes c
 
   abbrev T₀ : Table ℕ
-  T₀ = table ltb (C .begin)
+  T₀ = table (aheadIn (C .begin)) (C .begin)
+
+  ranks : Ranks (aheadIn (C .begin))
+  ranks = ranked (tasksIn (C .begin))
 
   -- the accepted events could happen
   pub calls-possible : AllPossible T (urgent T) (past [] es)
-  calls-possible = subst (λ (t : Table ℕ). AllPossible t (urgent t) (past [] es)) (C .same) (reached-possible (C .reached))
+  calls-possible = subst (λ (t : Table ℕ). AllPossible t (urgent t) (past [] es)) (C .same) (C .reached .possible)
 
   calls-lawful : Lawful T
-  calls-lawful = subst (λ (t : Table ℕ). Lawful t) (C .same) (table-lawful ltb-ranks (C .reached))
+  calls-lawful = subst (λ (t : Table ℕ). Lawful t) (C .same) (table-lawful ranks (C .reached))
 
   -- demand 2: a refusal is what the table and the accepted events say
   pub calls-refusal : (e : Event ℕ) (r : Step) → Gives q e r → r .answer .refusal ≡ judged T (urgent T) (past [] es) e
@@ -70,11 +73,12 @@ module _ {T : Table ℕ} {es : List (Event ℕ)} {ns : List ℕ} {q : State} (c 
 
   published-there : Published T₀ es ns q
   published-there = record {
+    possible = C .reached .possible;
     run = C .reached .run;
     only = λ s r. runs-same T₀ (C .reached .run) r;
     numbers = C .turns ∙ ap turned (C .reached .read);
-    mailboxes = run-mailboxes (subst (λ (t : Table ℕ). Apart t) (C .reached .same) (sound-apart (saved q) (C .reached .sound)))
-        (weaken T₀ (urgent T₀) (lowest-only T₀) (C .reached .run));
+    mailboxes = run-mailboxes T₀ (urgent T₀) (subst (λ (t : Table ℕ). Apart t) (C .reached .same) (sound-apart (saved q) (C .reached .sound)))
+        (weaken T₀ (lowest-only T₀) (C .reached .run)) (C .reached .possible);
   }
 
   -- demand 2: the published protocol's
@@ -96,7 +100,7 @@ module _ {T : Table ℕ} {es : List (Event ℕ)} {ns : List ℕ} {q : State} (c 
 
   -- the numbers are the ideal ones
   pub calls-ideals : ns ≡ turned (ideals T (past [] es))
-  calls-ideals = C .turns ∙ ap turned (reached-ideals ltb-ranks (C .reached)) ∙ ap (λ (t : Table ℕ). turned (ideals t (past [] es))) (C .same)
+  calls-ideals = C .turns ∙ ap turned (reached-ideals ranks (C .reached)) ∙ ap (λ (t : Table ℕ). turned (ideals t (past [] es))) (C .same)
 
   -- one for each read
   pub calls-count : length (ideals T (past [] es)) ≡ reads (past [] es)
@@ -105,8 +109,8 @@ module _ {T : Table ℕ} {es : List (Event ℕ)} {ns : List ℕ} {q : State} (c 
   -- each is what its link was due
   zero-there : dues T₀ (past [] es) ≡ looked T₀ (zeroRun T₀ (upward 0 (T₀ .tasks)) (past [] es)) (past [] es)
   zero-there =
-      sym (ideals-there T₀ (urgent T₀) (table-lawful ltb-ranks (C .reached)) (urgent-fair T₀) (past [] es) (reached-possible (C .reached)))
-      ∙ ap theres (sym (reached-ideals ltb-ranks (C .reached))) ∙ reached-zero-run ltb-ranks (C .reached) (upward 0 (T₀ .tasks)) (upward-order T₀ (λ u t. refl))
+      sym (ideals-there T₀ (urgent T₀) (table-lawful ranks (C .reached)) (urgent-fair T₀) (past [] es) (C .reached .possible))
+      ∙ ap theres (sym (reached-ideals ranks (C .reached))) ∙ reached-zero-run ranks (C .reached) (upward 0 (T₀ .tasks)) (upward-order T₀ (λ u t. refl))
 
   zero-run : dues T (past [] es) ≡ looked T (zeroRun T (upward 0 (T .tasks)) (past [] es)) (past [] es)
   zero-run = subst (λ (t : Table ℕ). dues t (past [] es) ≡ looked t (zeroRun t (upward 0 (t .tasks)) (past [] es)) (past [] es)) (C .same) zero-there
@@ -121,12 +125,12 @@ module _ {T : Table ℕ} {es : List (Event ℕ)} {ns : List ℕ} {q : State} (c 
   -- the number of an accepted read is what its link is due
   read-due : (l : ℕ) (r : Step) → Gives q (read l) r → r .answer .refusal ≡ 0 → there (r .answer .value) ≡ due T (past [] es) l
   read-due l r call z =
-      let j : judgedOn ltb (saved q) (read l) ≡ 0 = sym (give-refusal ltb base (saved q) (read l) (reached-sound (C .reached))) ∙ ap (λ (x : Reply). x .refusal) (sym (call .answer)) ∙ z in
+      let j : judgedOn (aheadIn (saved q)) (saved q) (read l) ≡ 0 = sym (give-refusal (aheadIn (saved q)) base (saved q) (read l) (reached-sound (C .reached))) ∙ ap (λ (x : Reply). x .refusal) (sym (call .answer)) ∙ z in
       let v : r .answer .value ≡ number T₀ (boxes (saved q)) l =
-      ap (λ (x : Reply). x .value) (call .answer) ∙ ap (λ (x : Reply). x .value) (give-done ltb base (saved q) (read l) (reached-sound (C .reached)) j) ∙ reached-number (C .reached) l j in
+      ap (λ (x : Reply). x .value) (call .answer) ∙ ap (λ (x : Reply). x .value) (give-done (aheadIn (saved q)) base (saved q) (read l) (reached-sound (C .reached)) j) ∙ reached-number (C .reached) l j in
       let p : Possible T₀ (urgent T₀) (past [] es) (read l) = judged-possible T₀ (urgent T₀) (past [] es) (read l) (sym (judged-history (C .reached) (read l)) ∙ j) in
       ap (λ (x : ℕ). there x) v
-      ∙ zero-time T₀ (urgent T₀) (table-lawful ltb-ranks (C .reached)) (urgent-fair T₀) (lowest-only T₀) (C .reached .run) p .0
+      ∙ zero-time T₀ (urgent T₀) (table-lawful ranks (C .reached)) (urgent-fair T₀) (lowest-only T₀) (C .reached .run) (C .reached .possible) p .0
       ∙ ap (λ (t : Table ℕ). due t (past [] es) l) (C .same)
 
 -- so at each read

@@ -3,28 +3,30 @@
 use mathlib.Core.Path.{_≡_, refl, sym, ap, subst, _∙_}
 use mathlib.Core.Logic.{_≢_, _⊎_, inl, inr}
 use mathlib.Core.Bool.{Bool, true, false, cond, _||_}
-use mathlib.Core.List.{List, [], _∷_, _++_, map}
+use mathlib.Core.List.{List, [], _∷_, _++_}
 use Prim.Native.Nat.{ℕ, zero, suc, _≤_, _<_}
 use native.Mathlib.Omega.{arith}
 use native.Mathlib.Decide.{ℕ-discrete}
 use borrow.Author.Tests.{eqb-true, eqb-false, eq-eqb, ne-eqb, ltb-true, ltb-false, lt-ltb, le-ltb}
 use lib.Dec.{eqb, ltb}
-use lib.ListN.{length, length-append, take, drop, getD, take-append-drop, List·getD-map}
-use lib.Seq.{length-take-le, drop-cons, take-at, getD-at}
+use lib.ListN.{length, length-append, take, drop, getD, take-append-drop}
+use lib.Seq.{getD-take, length-take-le, drop-cons, take-at, getD-at}
 use Rattle.lists.specs.Lists.{leading}
 use Rattle.lists.proofs.Bools.{or-left, or-right}
 use Rattle.lists.proofs.Lists.{leading-zero}
-use Rattle.protocol_state.specs.Saved.{base, at}
+use Rattle.protocol_state.specs.Records.{Task, noLink, linkOf, aheadOf}
+use Rattle.protocol_state.specs.Saved.{base}
+use Rattle.protocol_state.specs.Fresh.{judgedLists}
 use Rattle.protocol_state.specs.Rules.{faultAfter, fault, judgedTable}
 use Rattle.protocol_state.proofs.Rules.{fault-agrees, obeys, no-fault, no-refusal}
-use Rattle.protocol_state.proofs.Places.{leading-same, leading-none-other}
-use Rattle.recording_format.specs.Link.{Link}
-use Rattle.demands.specs.Station.{writers, readers, kinds, Keeps, firstTasks, firstLinks}
+use Rattle.protocol_state.proofs.Places.{leading-none-other}
+use Rattle.protocol_state.proofs.Freshes.{fault-same}
+use Rattle.recording_format.specs.Link.{Link, linkFault}
+use Rattle.demands.specs.Station.{Keeps}
 use Rattle.demands.specs.Refusals.{Earns, LinkBreaks, TableEarns}
 use Rattle.demands.specs.Refusals as refusals
-use Rattle.demands.proofs.Tables.{length-numbered, Firsts, column}
 use Rattle.demands.proofs.Earned.{earns-one}
-use Rattle.demands.proofs.Links.{either, or-second, fault-earned}
+use Rattle.demands.proofs.Links.{either, or-second, link-earned}
 
 -- ---- the first of some numbers that is not 0
 first-at : (f : ℕ → ℕ) (n : ℕ) → leading f n ≢ 0 → (j : ℕ) × (j < n) × ((i : ℕ) → i < j → f i ≡ 0) × (f j ≡ leading f n)
@@ -60,68 +62,38 @@ first-is f (suc n) j h z ne = go (ℕ-discrete j n) (λ k. first-is f n j k z ne
 
 -- ---- a table of tasks ds and links ls
 
--- a link's fault looks at the links up to it
-fault-alike : (T : ℕ) {W W′ R R′ : ℕ → ℕ} (K K′ : ℕ → ℕ) (i : ℕ) → ((j : ℕ) → j ≤ i → W j ≡ W′ j) → ((j : ℕ) → j ≤ i → R j ≡ R′ j) → K i ≡ K′ i
-    → fault ltb T W R K i ≡ fault ltb T W′ R′ K′ i
-unfolding fault
-fault-alike T {W} {W′} {R} {R′} K K′ i w r k =
-    fault-agrees ltb T i (W i) (R i) (K i) (λ j h. w j (omega arith)) (λ j h. r j (omega arith))
-    ∙ ap (λ (x : ℕ). faultAfter ltb T W′ R′ i x (R i) (K i)) (w i (omega arith))
-    ∙ ap (λ (x : ℕ). faultAfter ltb T W′ R′ i (W′ i) x (K i)) (r i (omega arith))
-    ∙ ap (λ (x : ℕ). faultAfter ltb T W′ R′ i (W′ i) (R′ i) x) k
-
--- what stands past the links
-abbrev noLink : Link
-noLink = record { writer = 0; reader = 0; kind = 0 }
-
-module _ (ds : List ℕ) (ls : List Link) where
+module _ (ds : List Task) (ls : List Link) where
   abbrev faults : ℕ → ℕ
-  faults = fault ltb (length ds) (at (writers ls)) (at (readers ls)) (at (kinds ls))
+  faults = fault (aheadOf ds) (length ds) (linkOf ls)
 
-  -- a column of the first links
-  column-take : (f : Link → ℕ) (j i : ℕ) → i < j → at (map f (take j ls)) i ≡ at (map f ls) i
-  column-take f j i h = goes ls j i h
-    where
-      goes : (xs : List Link) (j i : ℕ) → i < j → at (map f (take j xs)) i ≡ at (map f xs) i
-      goes [] zero i h = refl
-      goes [] (suc j) i h = refl
-      goes (x ∷ xs) zero i h = absurd (omega arith)
-      goes (x ∷ xs) (suc j) zero h = refl
-      goes (x ∷ xs) (suc j) (suc i) h = goes xs j i (omega arith)
+  -- the first links are these links
+  link-take : (j i : ℕ) → i < j → linkOf (take j ls) i ≡ linkOf ls i
+  link-take j i h = getD-take j ls i noLink h
 
-  -- link j
-  abbrev nth : ℕ → Link
-  nth j = getD ls j noLink
-
-  nth-column : (f : Link → ℕ) (j : ℕ) → f noLink ≡ 0 → at (map f ls) j ≡ f (nth j)
-  nth-column f j z = ap (λ (d : ℕ). getD (map f ls) j d) (sym z) ∙ List·getD-map f ls j noLink
+  -- and have their faults
+  fault-take : (j i : ℕ) → i < j → fault (aheadOf ds) (length ds) (linkOf (take j ls)) i ≡ faults i
+  fault-take j i h = fault-same (aheadOf ds) (length ds) j (linkOf (take j ls)) (linkOf ls) (link-take j) i h
 
   -- what the code finds at fault in link j is what that link earns after the ones before it
-  fault-nth : (j : ℕ) → j < length ls → Earns (LinkBreaks ds (take j ls) (nth j)) (faults j)
-  unfolding fault
-  fault-nth j h = subst (λ (n : ℕ). Earns (LinkBreaks ds (take j ls) (nth j)) n) there (fault-earned ds (take j ls) (nth j))
-    where
-      there : faultAfter ltb (length ds) (at (writers (take j ls))) (at (readers (take j ls))) (length (take j ls)) (nth j .writer) (nth j .reader) (nth j .kind) ≡ faults j
-      there =
-          ap (λ (n : ℕ). faultAfter ltb (length ds) (at (writers (take j ls))) (at (readers (take j ls))) n (nth j .writer) (nth j .reader) (nth j .kind)) (length-take-le j ls (omega arith))
-          ∙ fault-agrees ltb (length ds) j (nth j .writer) (nth j .reader) (nth j .kind) (column-take (λ l. l .writer) j) (column-take (λ l. l .reader) j)
-          ∙ rw (← nth-column (λ l. l .writer) j refl, ← nth-column (λ l. l .reader) j refl, ← nth-column (λ l. l .kind) j refl)
+  fault-nth : (j : ℕ) → j < length ls → Earns (LinkBreaks ds (take j ls) (linkOf ls j)) (faults j)
+  unfolding fault linkFault
+  fault-nth j h =
+      subst (λ (n : ℕ). Earns (LinkBreaks ds (take j ls) (linkOf ls j)) n)
+      (ap (λ (n : ℕ). faultAfter (aheadOf ds) (length ds) (linkOf (take j ls)) n (linkOf ls j)) (length-take-le j ls (omega arith))
+      ∙ fault-agrees (aheadOf ds) (length ds) j (linkOf ls j) (link-take j))
+      (link-earned ds (take j ls) (linkOf ls j))
 
   -- a link that is not at fault obeys the rules, among the first links too
   first-keeps : (j : ℕ) → j ≤ length ls → (1 ≤ length ds) × (length ds ≤ base .tasks) → length ls ≤ base .links → ((i : ℕ) → i < j → faults i ≡ 0) → Keeps ds (take j ls)
   first-keeps j h few least z = record {
     tasks = few;
     links = omega (arith, length-take-le j ls h);
-    rules = λ i k. obeys ltb (length ds) (at (writers (take j ls))) (at (readers (take j ls))) (at (kinds (take j ls))) i
-        (same i (omega (arith, length-take-le j ls h)) ∙ z i (omega (arith, length-take-le j ls h)));
+    rules = λ i k. let m : i < j = omega (arith, length-take-le j ls h) in obeys (aheadOf ds) (length ds) (linkOf (take j ls)) i (fault-take j i m ∙ z i m);
   }
-    where
-      same : (i : ℕ) → i < j → fault ltb (length ds) (at (writers (take j ls))) (at (readers (take j ls))) (at (kinds (take j ls))) i ≡ faults i
-      same i k = fault-alike (length ds) (at (kinds (take j ls))) (at (kinds ls)) i (λ m l. column-take (λ x. x .writer) j m (omega arith)) (λ m l. column-take (λ x. x .reader) j m (omega arith)) (column-take (λ x. x .kind) j i k)
 
   -- what the code computes
   abbrev judgedHere : ℕ
-  judgedHere = judgedTable ltb (length ds) (at (writers ls)) (at (readers ls)) (at (kinds ls)) base (length ls)
+  judgedHere = judgedLists base ds ls
 
   pub judged-table-earned : TableEarns ds ls judgedHere
   unfolding judgedTable
@@ -129,13 +101,13 @@ module _ (ds : List ℕ) (ls : List Link) where
     where
       links : (1 ≤ length ds) × (length ds ≤ base .tasks) → length ls ≤ base .links → (x : ℕ) → leading faults (length ls) ≡ x → Dec (x ≡ 0) → TableEarns ds ls x
       links few least x e (yes z) =
-          rw z (refusals.kept (record { tasks = few; links = least; rules = λ l h. obeys ltb (length ds) (at (writers ls)) (at (readers ls)) (at (kinds ls)) l (leading-zero faults (length ls) l (e ∙ z) h) }))
+          rw z (refusals.kept (record { tasks = few; links = least; rules = λ l h. obeys (aheadOf ds) (length ds) (linkOf ls) l (leading-zero faults (length ls) l (e ∙ z) h) }))
       links few least x e (no n) =
           let w = first-at faults (length ls) (λ z. n (sym e ∙ z)) in
-          refusals.link least (take (w .0) ls) (nth (w .0)) (drop (suc (w .0)) ls)
+          refusals.link least (take (w .0) ls) (linkOf ls (w .0)) (drop (suc (w .0)) ls)
           (sym (take-append-drop (w .0) ls) ∙ ap (λ (ys : List Link). take (w .0) ls ++ ys) (drop-cons ls (w .0) noLink (w .1)))
           (first-keeps (w .0) (omega (arith, w .1)) few least (w .2))
-          (subst (λ (k : ℕ). Earns (LinkBreaks ds (take (w .0) ls) (nth (w .0))) k) (w .3 ∙ e) (fault-nth (w .0) (w .1))) n
+          (subst (λ (k : ℕ). Earns (LinkBreaks ds (take (w .0) ls) (linkOf ls (w .0))) k) (w .3 ∙ e) (fault-nth (w .0) (w .1))) n
 
       second : (1 ≤ length ds) × (length ds ≤ base .tasks) → (b : Bool) → ltb (base .links) (length ls) ≡ b → TableEarns ds ls (cond b 3 (leading faults (length ls)))
       second few true e = refusals.links (few .0) (few .1) (ltb-true (base .links) (length ls) e)
@@ -152,12 +124,12 @@ module _ (ds : List ℕ) (ls : List Link) where
           second (omega arith, ltb-false (base .tasks) (length ds) (or-right (eqb (length ds) 0) _ e)) (ltb (base .links) (length ls)) refl
 
 -- no other number is earned
-pub table-earns-one : (ds : List ℕ) (ls : List Link) {n : ℕ} → TableEarns ds ls n → n ≡ judgedHere ds ls
+pub table-earns-one : (ds : List Task) (ls : List Link) {n : ℕ} → TableEarns ds ls n → n ≡ judgedHere ds ls
 unfolding judgedTable
 table-earns-one ds ls (refusals.tasks (inl z)) = rw (eq-eqb (length ds) 0 z)
 table-earns-one ds ls (refusals.tasks (inr h)) = rw (or-second (eqb (length ds) 0) (lt-ltb (base .tasks) (length ds) h))
 table-earns-one ds ls (refusals.links a b h) = rw (ne-eqb (length ds) 0 (λ z. omega arith), le-ltb (base .tasks) (length ds) b, lt-ltb (base .links) (length ls) h)
-table-earns-one ds ls (refusals.kept k) = sym (no-refusal ltb (length ds) (at (writers ls)) (at (readers ls)) (at (kinds ls)) base (length ls) (k .tasks .0) (k .tasks .1) (k .links) (k .rules))
+table-earns-one ds ls (refusals.kept k) = sym (no-refusal (aheadOf ds) (length ds) (linkOf ls) base (length ls) (k .tasks .0) (k .tasks .1) (k .links) (k .rules))
 table-earns-one ds ls {n} (refusals.link least before l after e k g ne) =
     rw (ne-eqb (length ds) 0 (λ z. omega (arith, k .tasks .0)), le-ltb (base .tasks) (length ds) (k .tasks .1), le-ltb (base .links) (length ls) least) (sym there)
   where
@@ -170,34 +142,17 @@ table-earns-one ds ls {n} (refusals.link least before l after e k g ne) =
     first : take j ls ≡ before
     first = ap (take j) e ∙ take-at before (l ∷ after) j refl
 
-    this : nth ds ls j ≡ l
+    this : linkOf ls j ≡ l
     this = ap (λ (xs : List Link). getD xs j noLink) e ∙ getD-at before l after noLink j refl
 
     earned : faults ds ls j ≡ n
-    earned = earns-one (subst (λ (xs : List Link). Earns (LinkBreaks ds xs (nth ds ls j)) (faults ds ls j)) first (fault-nth ds ls j inside)) (subst (λ (x : Link). Earns (LinkBreaks ds before x) n) (sym this) g)
+    earned = earns-one (subst (λ (xs : List Link). Earns (LinkBreaks ds xs (linkOf ls j)) (faults ds ls j)) first (fault-nth ds ls j inside)) (subst (λ (x : Link). Earns (LinkBreaks ds before x) n) (sym this) g)
 
     zero-before : (i : ℕ) → i < j → faults ds ls i ≡ 0
-    zero-before i h = sym (kept-alike i h) ∙ no-fault ltb (length ds) (at (writers before)) (at (readers before)) (at (kinds before)) i (k .rules i h)
-      where
-        kept-alike : (i : ℕ) → i < j → fault ltb (length ds) (at (writers before)) (at (readers before)) (at (kinds before)) i ≡ faults ds ls i
-        kept-alike i h =
-            ap (λ (xs : List Link). fault ltb (length ds) (at (writers xs)) (at (readers xs)) (at (kinds xs)) i) (sym first)
-            ∙ fault-alike (length ds) (at (kinds (take j ls))) (at (kinds ls)) i (λ m q. column-take ds ls (λ x. x .writer) j m (omega arith)) (λ m q. column-take ds ls (λ x. x .reader) j m (omega arith)) (column-take ds ls (λ x. x .kind) j i h)
+    zero-before i h =
+        sym (fault-take ds ls j i h)
+        ∙ ap (λ (xs : List Link). fault (aheadOf ds) (length ds) (linkOf xs) i) first
+        ∙ no-fault (aheadOf ds) (length ds) (linkOf before) i (k .rules i h)
 
     there : leading (faults ds ls) (length ls) ≡ n
     there = first-is (faults ds ls) (length ls) j inside zero-before (λ z. ne (sym earned ∙ z)) ∙ earned
-
--- of a table in arrays
-pub arrays-judged : (T L : ℕ) (D W R K : List ℕ) → judgedTable ltb T (at W) (at R) (at K) base L ≡ judgedHere (firstTasks T D) (firstLinks L W R K)
-unfolding judgedTable
-arrays-judged T L D W R K =
-    let link : ℕ → Link = λ l. record { writer = at W l; reader = at R l; kind = at K l } in
-    let t = length-numbered (at D) 0 T in
-    let n = length-numbered link 0 L in
-    let w : Firsts L W (writers (firstLinks L W R K)) = column (λ l. l .writer) link W (λ i. refl) L in
-    let r : Firsts L R (readers (firstLinks L W R K)) = column (λ l. l .reader) link R (λ i. refl) L in
-    let k : Firsts L K (kinds (firstLinks L W R K)) = column (λ l. l .kind) link K (λ i. refl) L in
-    rw (t, n)
-    (ap (λ (x : ℕ). cond (eqb T 0 || ltb (base .tasks) T) 2 (cond (ltb (base .links) L) 3 x))
-    (leading-same (fault ltb T (at W) (at R) (at K)) (fault ltb T (at (writers (firstLinks L W R K))) (at (readers (firstLinks L W R K))) (at (kinds (firstLinks L W R K)))) L
-    (λ i h. fault-alike T (at K) (at (kinds (firstLinks L W R K))) i (λ j q. sym (w .at-first j (omega arith))) (λ j q. sym (r .at-first j (omega arith))) (sym (k .at-first i h)))))

@@ -18,28 +18,27 @@ use Rattle.byte_format.specs.Section.{countAt, Faulty}
 use Rattle.byte_format.proofs.Counts.{count-missing, count-limited}
 use Rattle.byte_format.proofs.Sized.{sized-reads, sized-ends}
 use Rattle.byte_format.proofs.Standing.{stands-join, stands-first, stands-left}
-use Rattle.recording_format.specs.Task.{tasks, anyDefault, andDefault}
-use Rattle.recording_format.specs.Link.{Link, links, linkAt, noLinks, andLink, listed, linkFault}
+use Rattle.recording_format.specs.Task.{tasks, anyTask, andTask}
+use Rattle.recording_format.specs.Link.{Link, links, linkAt, andLink, linkFault}
 use Rattle.recording_format.specs.RecordingKind.{baseRecording, taskLimit, linkLimit, eventLimit}
 use Rattle.recording_format.specs.Recording.{taskCountAt, linkCountAt, eventCountAt}
 use Rattle.recording_format.specs.Outcome.{TasksTo, TableTo, RecordingOutcome, taskCount, taskRecord, linkCount, linkRecord, eventCount}
 use Rattle.recording_format.proofs.Base.{base-room, base-counts}
 use Rattle.recording_format.proofs.Sizes.{tasks-within, within-tasks, links-within, within-links, tasks-fit, links-fit}
-use Rattle.recording_format.proofs.LinkRules.{length-listed, no-fault-allowed, allowed-judged}
-use Rattle.recording_format.proofs.Onward.{any-allowed}
+use Rattle.recording_format.proofs.LinkRules.{no-fault-allowed, allowed-judged}
+use Rattle.recording_format.proofs.Onward.{any-allowed, in-order}
 use Rattle.recording_core.specs.Playing.{coreOf}
 use Rattle.protocol_state.proofs.Rules.{no-fault}
 use Rattle.protocol_state.specs.Saved.{at}
 use Rattle.protocol_state.specs.Rules.{fault}
+use Rattle.protocol_state.specs.Records.{aheadOf, linkOf}
 use Rattle.byte_format.specs.Play.{Allowed}
-use Rattle.recording_format.specs.Link.{Links}
-use Rattle.demands.specs.Station.{writers, readers, kinds, Keeps}
+use Rattle.demands.specs.Station.{Keeps}
 use Rattle.demands.specs.Refusals.{Earns, LinkBreaks}
 use Rattle.demands.specs.Recordings.{TasksBegun, LinksBegun, TableFault, cutTaskCount, badTaskCount, cutTask, cutLinkCount, badLinkCount, cutLink, badLink, cutEventCount, badEventCount}
-use Rattle.demands.proofs.Tables.{listed-columns}
 use Rattle.demands.proofs.Earned.{earns-one}
 use Rattle.demands.proofs.Links.{either, or-second, link-earned}
-use Rattle.demands.proofs.Replays.{fine-columns, keeps-of}
+use Rattle.demands.proofs.Replays.{keeps-of}
 
 -- why a count is refused: a byte of it is missing, or it is above its limit
 pub data CountFault (w : ℕ) (limit : ℕ → ℕ) (s : List ℕ) (p : ℕ) : ℕ → Type 0 where
@@ -98,14 +97,11 @@ over-one most k n ne = go (ltb most n) refl ne
     go false e m = absurd (m refl)
 
 -- ---- links that keep the rules, as the reader judges them
-pub allowed-keeps : (ds : List ℕ) (ls : List Link) → taskLimit baseRecording (length ds) ≡ 0 → length ls ≤ base .links → Allowed (linkFault ltb (length ds)) andLink noLinks ls → Keeps ds ls
-allowed-keeps ds ls t h a = keeps-of ds ls (fine-columns ds ls (allowed-judged ltb (length ds) baseRecording base base-room ls t (within-links baseRecording (length ls) h) a))
+pub allowed-keeps : (ds : List ℕ) (ls : List Link) → taskLimit baseRecording (length ds) ≡ 0 → length ls ≤ base .links → Allowed (linkFault (aheadOf ds) (length ds)) andLink [] ls → Keeps ds ls
+allowed-keeps ds ls t h a = keeps-of ds ls (allowed-judged (aheadOf ds) (length ds) baseRecording base base-room ls t (within-links baseRecording (length ls) h) a)
 
-pub keeps-allowed : (ds : List ℕ) (ls : List Link) → Keeps ds ls → Allowed (linkFault ltb (length ds)) andLink noLinks ls
-keeps-allowed ds ls k = no-fault-allowed ltb (length ds) ls
-    (λ l h.
-    subst (λ (c : Links). fault ltb (length ds) (at (c .writer)) (at (c .reader)) (at (c .kind)) l ≡ 0) (sym (listed-columns ls))
-    (no-fault ltb (length ds) (at (writers ls)) (at (readers ls)) (at (kinds ls)) l (k .rules l (omega (arith, length-listed ls)))))
+pub keeps-allowed : (ds : List ℕ) (ls : List Link) → Keeps ds ls → Allowed (linkFault (aheadOf ds) (length ds)) andLink [] ls
+keeps-allowed ds ls k = no-fault-allowed (aheadOf ds) (length ds) ls (λ l h. no-fault (aheadOf ds) (length ds) (linkOf ls) l (k .rules l h))
 
 module _ (s : List ℕ) where
   -- ---- what stands at the beginning
@@ -125,7 +121,7 @@ module _ (s : List ℕ) where
   links-tasks {ds} b =
       begun-tasks (record { few = b .keeps .tasks; fits = b .fits .0; bytes = stands-first (encodeSection (tasks baseRecording) ds) _ (b .bytes) })
 
-  pub table-begun : {ds : List ℕ} {ls : List Link} {p : ℕ} → TableTo ltb baseRecording s ds ls p → LinksBegun s ds (length ls) ls p
+  pub table-begun : {ds : List ℕ} {ls : List Link} {p : ℕ} → TableTo baseRecording s ds ls p → LinksBegun s ds (length ls) ls p
   table-begun {ds} {ls} t = record {
     few = links-within baseRecording (length ls) (t .linked .kept .few);
     keeps = allowed-keeps ds ls (t .tasked .kept .few) (links-within baseRecording (length ls) (t .linked .kept .few)) (t .linked .kept .allowed);
@@ -133,7 +129,7 @@ module _ (s : List ℕ) where
     bytes = stands-join (t .tasked .bytes) (t .linked .bytes);
   }
 
-  pub begun-table : {ds : List ℕ} {ls : List Link} {p : ℕ} → LinksBegun s ds (length ls) ls p → TableTo ltb baseRecording s ds ls p
+  pub begun-table : {ds : List ℕ} {ls : List Link} {p : ℕ} → LinksBegun s ds (length ls) ls p → TableTo baseRecording s ds ls p
   begun-table {ds} {ls} b =
       let few = within-links baseRecording (length ls) (b .few) in
       record {
@@ -158,7 +154,7 @@ module _ (s : List ℕ) where
       go (above h n) = let o = task-over (numberAt (baseRecording .taskCountWidth) s 0) n in given (sym (o .0)) (badTaskCount (omega arith) (o .1))
 
   -- a task record at fault is cut
-  pub task-fault : {ds : List ℕ} {r p : ℕ} → r ≢ 0 → Faulty (tasks baseRecording) (taskLimit baseRecording) anyDefault andDefault s [] 0 ds r p → TableFault s r p
+  pub task-fault : {ds : List ℕ} {r p : ℕ} → r ≢ 0 → Faulty (tasks baseRecording) (taskLimit baseRecording) anyTask andTask s [] 0 ds r p → TableFault s r p
   task-fault {ds} {r} {p} n f = go (leb 4 (length s - p)) refl (f .fault)
     where
       go : (b : Bool) → leb 4 (length s - p) ≡ b → r ≡ refusalOf (cond b (got (numberAt 4 s p) (p + 4)) (stop 1)) (λ d. 0) → TableFault s r p
@@ -177,8 +173,8 @@ module _ (s : List ℕ) where
 
   -- a link record is cut, or breaks a rule
   pub link-fault : {ds : List ℕ} {m : ℕ} {ls : List Link} {r p : ℕ} → r ≢ 0 → TasksTo baseRecording s ds m
-      → Faulty (links baseRecording) (linkLimit baseRecording) (linkFault ltb (length ds)) andLink s noLinks m ls r p → TableFault s r p
-  link-fault {ds} {m} {ls} {r} {p} n t f = go (leb 3 (length s - p)) refl (f .fault)
+      → Faulty (links baseRecording) (linkLimit baseRecording) (linkFault (aheadOf ds) (length ds)) andLink s [] m ls r p → TableFault s r p
+  link-fault {ds} {m} {ls} {r} {p} n t f = go (leb 3 (length s - p)) refl (rw (in-order [] ls) at (f .fault))
     where
       few : f .total ≤ baseRecording .links
       few = links-within baseRecording (f .total) (f .few)
@@ -191,13 +187,13 @@ module _ (s : List ℕ) where
         bytes = stands-join (t .bytes) (stands-join (f .count) (f .played .bytes));
       }
 
-      go : (b : Bool) → leb 3 (length s - p) ≡ b → r ≡ refusalOf (cond b (got (linkAt s p) (p + 3)) (stop 1)) (linkFault ltb (length ds) (listed ls)) → TableFault s r p
+      go : (b : Bool) → leb 3 (length s - p) ≡ b → r ≡ refusalOf (cond b (got (linkAt s p) (p + 3)) (stop 1)) (linkFault (aheadOf ds) (length ds) ls) → TableFault s r p
       go true i z =
           badLink begun (f .more) (omega (arith, leb-true 3 (length s - p) i))
           (subst (λ (k : ℕ). Earns (LinkBreaks ds ls (linkAt s p)) k) (sym z) (link-earned ds ls (linkAt s p))) n
       go false i z = given (sym z) (cutLink begun (f .more) (omega (arith, leb-false 3 (length s - p) i, begun .bytes .within)))
 
-  pub event-count-fault : {ds : List ℕ} {ls : List Link} {r p : ℕ} → TableTo ltb baseRecording s ds ls p → eventCountAt baseRecording s p ≡ stop r → TableFault s r p
+  pub event-count-fault : {ds : List ℕ} {ls : List Link} {r p : ℕ} → TableTo baseRecording s ds ls p → eventCountAt baseRecording s p ≡ stop r → TableFault s r p
   event-count-fault {ds} {ls} {r} {p} t e = go (stops-count 2 (eventLimit baseRecording) s p (t .linked .bytes .within) e)
     where
       go : {r : ℕ} → CountFault 2 (eventLimit baseRecording) s p r → TableFault s r p
@@ -205,8 +201,8 @@ module _ (s : List ℕ) where
       go (above h n) = let o = over-one (baseRecording .events) 10 (numberAt (baseRecording .eventCountWidth) s p) n in given (sym (o .0)) (badEventCount (table-begun t) h (o .1))
 
   -- ---- and back
-  link-faulty : {ds : List ℕ} {L p : ℕ} {ls : List Link} → LinksBegun s ds L ls p → length ls < L → (r : ℕ) → r ≡ refusalOf (links baseRecording .read s p) (linkFault ltb (length ds) (listed ls))
-      → Faulty (links baseRecording) (linkLimit baseRecording) (linkFault ltb (length ds)) andLink s noLinks (0 + length (encodeSection (tasks baseRecording) ds)) ls r p
+  link-faulty : {ds : List ℕ} {L p : ℕ} {ls : List Link} → LinksBegun s ds L ls p → length ls < L → (r : ℕ) → r ≡ refusalOf (links baseRecording .read s p) (linkFault (aheadOf ds) (length ds) ls)
+      → Faulty (links baseRecording) (linkLimit baseRecording) (linkFault (aheadOf ds) (length ds)) andLink s [] (0 + length (encodeSection (tasks baseRecording) ds)) ls r p
   link-faulty {ds} {L} {p} {ls} b more r e =
       let few = within-links baseRecording L (b .few) in
       let from : Stands s (0 + length (encodeSection (tasks baseRecording) ds)) (bytesOf (baseRecording .linkCountWidth) L ++ encodes (links baseRecording) ls) p = stands-left (encodeSection (tasks baseRecording) ds) _ (b .bytes) in
@@ -218,12 +214,12 @@ module _ (s : List ℕ) where
         count = stands-first (bytesOf (baseRecording .linkCountWidth) L) _ from;
         played = record { fits = b .fits .1; allowed = keeps-allowed ds ls (b .keeps); bytes = stands-left (bytesOf (baseRecording .linkCountWidth) L) _ from };
         more = more;
-        fault = e;
+        fault = rw (in-order [] ls) e;
       }
 
   module _ (out : List ℕ) where
     abbrev Found : ℕ → ℕ → Type 0
-    Found r p = RecordingOutcome ltb baseRecording (coreOf ltb base out) s (verdict r p (coreOf ltb base out .single))
+    Found r p = RecordingOutcome baseRecording (coreOf base out) s (verdict r p (coreOf base out .single))
 
     pub fault-found : {r p : ℕ} → TableFault s r p → Found r p
     fault-found (cutTaskCount z) = taskCount 1 (λ y. omega arith) (count-stops 1 (taskLimit baseRecording) s 0 (omega arith) (cut (omega arith))) refl
@@ -236,7 +232,7 @@ module _ (s : List ℕ) where
         there = count-stops 1 (taskLimit baseRecording) s 0 (omega arith) (above (omega arith) (λ z. omega (arith, two)))
     fault-found (cutTask {T} {p} {ds} b more h) = taskRecord ds 1 p (λ y. omega arith) (faulty b more h) refl
       where
-        faulty : TasksBegun s T ds p → length ds < T → length s < p + baseRecording .valueWidth → Faulty (tasks baseRecording) (taskLimit baseRecording) anyDefault andDefault s [] 0 ds 1 p
+        faulty : TasksBegun s T ds p → length ds < T → length s < p + baseRecording .valueWidth → Faulty (tasks baseRecording) (taskLimit baseRecording) anyTask andTask s [] 0 ds 1 p
         faulty b more h =
             let few = within-tasks baseRecording T (b .few .0) (b .few .1) in
             record {
@@ -247,7 +243,7 @@ module _ (s : List ℕ) where
               count = stands-first (bytesOf (baseRecording .taskCountWidth) T) _ (b .bytes);
               played = record { fits = b .fits; allowed = any-allowed [] ds; bytes = stands-left (bytesOf (baseRecording .taskCountWidth) T) _ (b .bytes) };
               more = more;
-              fault = sym (ap (λ (y : Got ℕ). refusalOf y (anyDefault (finally andDefault [] ds))) (sized-ends 4 (numberAt 4 s p) s p (b .bytes .within) h));
+              fault = sym (ap (λ (y : Got ℕ). refusalOf y (anyTask (finally andTask [] ds))) (sized-ends 4 (numberAt 4 s p) s p (b .bytes .within) h));
             }
     fault-found (cutLinkCount {p} {ds} b z) =
         linkCount ds 1 p (λ y. omega arith) (begun-tasks b) (count-stops 1 (linkLimit baseRecording) s p (b .bytes .within) (cut (omega arith))) refl
@@ -260,11 +256,11 @@ module _ (s : List ℕ) where
         there = count-stops 1 (linkLimit baseRecording) s p (b .bytes .within) (above (omega arith) (λ z. omega (arith, three)))
     fault-found (cutLink {L} {p} {ds} {ls} b more h) =
         linkRecord ds (0 + length (encodeSection (tasks baseRecording) ds)) ls 1 p (λ y. omega arith) (links-tasks b)
-        (link-faulty b more 1 (sym (ap (λ (y : Got Link). refusalOf y (linkFault ltb (length ds) (listed ls))) (sized-ends 3 (linkAt s p) s p (b .bytes .within) h)))) refl
+        (link-faulty b more 1 (sym (ap (λ (y : Got Link). refusalOf y (linkFault (aheadOf ds) (length ds) ls)) (sized-ends 3 (linkAt s p) s p (b .bytes .within) h)))) refl
     fault-found (badLink {L} {p} {r} {ds} {ls} b more h g n) =
         linkRecord ds (0 + length (encodeSection (tasks baseRecording) ds)) ls r p n (links-tasks b)
         (link-faulty b more r
-        (earns-one g (link-earned ds ls (linkAt s p)) ∙ sym (ap (λ (y : Got Link). refusalOf y (linkFault ltb (length ds) (listed ls))) (sized-reads 3 (linkAt s p) s p h)))) refl
+        (earns-one g (link-earned ds ls (linkAt s p)) ∙ sym (ap (λ (y : Got Link). refusalOf y (linkFault (aheadOf ds) (length ds) ls)) (sized-reads 3 (linkAt s p) s p h)))) refl
     fault-found (cutEventCount {p} {ds} {ls} b h) =
         eventCount ds ls 1 p (λ y. omega arith) (begun-table b) (count-stops 2 (eventLimit baseRecording) s p (b .bytes .within) (cut h)) refl
     fault-found (badEventCount {p} {ds} {ls} b h o) = eventCount ds ls 10 p (λ y. omega arith) (begun-table b) (there ∙ ap (λ (k : ℕ). stop k) ten) refl

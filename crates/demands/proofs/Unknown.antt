@@ -6,12 +6,12 @@ use mathlib.Core.List.{List}
 use Prim.Native.Nat.{ℕ, _+_, _≤_, _<_}
 use native.Mathlib.Omega.{arith}
 use native.Mathlib.Decide.{decLe}
-use lib.Dec.{ltb}
 use lib.ListN.{length, getD}
 use Rattle.protocol.specs.Event.{Event}
+use Rattle.protocol_state.specs.Records.{aheadOf}
 use Rattle.byte_format.specs.Play.{Verdict}
 use Rattle.recording_format.specs.RecordingKind.{baseRecording}
-use Rattle.recording_format.specs.Link.{Link, linkAt, listed, linkFault}
+use Rattle.recording_format.specs.Link.{Link, linkAt, linkFault}
 use Rattle.recording_format.specs.Recording.{encodeRecording}
 use Rattle.recording_core.specs.Playing.{Playing}
 use Rattle.recording.specs.declared.Answer.{Answer}
@@ -55,7 +55,7 @@ pub unknown-link : {s out list ds : List ℕ} {a : Answer} {ls : List Link} {L p
 unknown-link {s} {out} {list} {ds} {a} {ls} {L} {p} said b more h k =
     let g = link-earned ds ls (linkAt s p) in
     let w = unknown-earns k g in
-    let n : linkFault ltb (length ds) (listed ls) (linkAt s p) ≢ 0 = λ z. omega (arith, w .0) in
+    let n : linkFault (aheadOf ds) (length ds) ls (linkAt s p) ≢ 0 = λ z. omega (arith, w .0) in
     let e = sym (only-answer said (fault-found s out (badLink b more h g n))) in
     let r = ap (λ (x : Verdict Playing). x .refusal) e in
     let same = subst (λ (x : ℕ). Earns (LinkBreaks ds ls (linkAt s p)) x) (sym r) g in

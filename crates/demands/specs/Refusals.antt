@@ -8,12 +8,14 @@ use mathlib.Core.List.{List, _∷_, _++_}
 use Prim.Native.Nat.{ℕ, _≤_, _<_}
 use lib.ListN.{length}
 use Rattle.protocol.specs.Event.{Event, arrival, start, read, finish, has}
-use Rattle.protocol.specs.Table.{Table, behinds}
+use Rattle.protocol.specs.Table.{Table}
 use Rattle.protocol.specs.History as history
 use Rattle.protocol.specs.History.{reads}
-use Rattle.protocol_state.specs.Saved.{base, at}
+use Rattle.protocol_state.specs.Records.{Task, linkOf, aheadOf}
+use Rattle.protocol_state.specs.Saved.{base}
+use Rattle.protocol_state.specs.Rules.{linksBehind}
 use Rattle.recording_format.specs.Link.{Link}
-use Rattle.demands.specs.Station.{ahead, writers, readers, Keeps}
+use Rattle.demands.specs.Station.{Keeps}
 
 -- "tried in rising order": of the numbers that fit, the lowest is given; 0 where none does
 pub data Earns (Fits : ℕ → Type 0) : ℕ → Type 0 where
@@ -21,7 +23,7 @@ pub data Earns (Fits : ℕ → Type 0) : ℕ → Type 0 where
   lowest : {r : ℕ} → Fits r → ((n : ℕ) → n < r → Fits n → ⊥) → Earns Fits r
 
 -- ---- links: l after the links ls, in a table of the tasks ds
-pub data LinkBreaks (ds : List ℕ) (ls : List Link) (l : Link) : ℕ → Type 0 where
+pub data LinkBreaks (ds : List Task) (ls : List Link) (l : Link) : ℕ → Type 0 where
   -- 4: "a link names no task of the table"
   noTask : (length ds ≤ l .writer) ⊎ (length ds ≤ l .reader) → LinkBreaks ds ls l 4
   -- 5: "its writer is its reader"
@@ -29,14 +31,14 @@ pub data LinkBreaks (ds : List ℕ) (ls : List Link) (l : Link) : ℕ → Type 0
   -- 6: "its kind is neither 0 nor 1"
   unknownKind : l .kind ≢ 0 → l .kind ≢ 1 → LinkBreaks ds ls l 6
   -- 7: "a direct link to a reader ahead"
-  directAhead : l .kind ≡ 0 → ahead ds (l .reader) (l .writer) ≡ true → LinkBreaks ds ls l 7
+  directAhead : l .kind ≡ 0 → aheadOf ds (l .reader) (l .writer) ≡ true → LinkBreaks ds ls l 7
   -- 8: "its writer has an earlier link to its reader"
-  twice : (j : ℕ) → j < length ls → at (writers ls) j ≡ l .writer → at (readers ls) j ≡ l .reader → LinkBreaks ds ls l 8
+  twice : (j : ℕ) → j < length ls → linkOf ls j .writer ≡ l .writer → linkOf ls j .reader ≡ l .reader → LinkBreaks ds ls l 8
   -- 9: "it is the writer's ninth link to a reader behind"
-  ninth : ahead ds (l .writer) (l .reader) ≡ true → 8 ≤ behinds (ahead ds) (at (writers ls)) (at (readers ls)) (l .writer) (length ls) → LinkBreaks ds ls l 9
+  ninth : aheadOf ds (l .writer) (l .reader) ≡ true → 8 ≤ linksBehind (aheadOf ds) (linkOf ls) (l .writer) (length ls) → LinkBreaks ds ls l 9
 
 -- ---- a table that is handed over whole: its counts first, then the first link at fault
-pub data TableEarns (ds : List ℕ) (ls : List Link) : ℕ → Type 0 where
+pub data TableEarns (ds : List Task) (ls : List Link) : ℕ → Type 0 where
   -- 2: "T is 0 or above 16"
   tasks : (length ds ≡ 0) ⊎ (base .tasks < length ds) → TableEarns ds ls 2
   -- 3: "L is above 32"

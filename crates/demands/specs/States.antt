@@ -1,33 +1,27 @@
 -- What a state of the code says. Here the demands meet the code's own state: what they say of it they say by these names.
 -- Assumes nothing.
-use mathlib.Core.List.{List}
 use Prim.Native.Nat.{ℕ}
 use lib.Dec.{eqb}
 use Rattle.protocol.specs.Table.{Table}
 use Rattle.protocol.specs.Published.{Boxes}
-use Rattle.protocol_state.specs.Saved.{base, at, busy, table, boxes}
-use Rattle.protocol_state.specs.Sound.{Sound}
+use Rattle.protocol_state.specs.Saved.{base, at, aheadIn, busy, table, boxes}
+use Rattle.protocol_state.specs.Sound.{StandsSound}
 use Rattle.mailbox.specs.States.{saved, Whole}
 use Rattle.mailbox.specs.declared.State.{State}
-use Rattle.demands.specs.Station.{ahead, firstTasks}
 use Rattle.demands.specs.Refusals.{Standing}
-
--- its tasks, by their defaults
-abbrev pub tasksIn : State → List ℕ
-tasksIn q = firstTasks (saved q .tasks) (saved q .defaults)
 
 -- "A state is sound when its table keeps rules 2 to 9 .., `newest` and `previous` lie in 1 to N + 2, each present pointer does so for its writer, no pointer of
 -- an active reader is absent, and every pointer from a writer ahead of an idle reader is absent."; and each phase is one of the three, for there is no other
 abbrev pub IsSound : State → Type 0
-IsSound q = Sound (ahead (tasksIn q)) base (saved q)
+IsSound q = StandsSound base (saved q)
 
 -- its two arrays have their lengths, as in every state that the code holds: an array's length is its type
 abbrev pub IsWhole : State → Type 0
 IsWhole q = Whole q
 
--- the table that it holds
+-- the table that it holds, with the order of its own tasks
 abbrev pub tableIn : State → Table ℕ
-tableIn q = table (ahead (tasksIn q)) (saved q)
+tableIn q = table (aheadIn (saved q)) (saved q)
 
 -- its positions, pointers and mailboxes; where no position is (a pointer that is absent is 0) the task's default stands for a mailbox, and no accepted read
 -- comes there, for the pointer of an active reader is never absent

@@ -3,7 +3,6 @@
 use mathlib.Core.Path.{_≡_}
 use mathlib.Core.List.{List, [], _∷_}
 use Prim.Native.Nat.{ℕ}
-use lib.Dec.{ltb}
 use Rattle.protocol.specs.History.{Counts}
 use Rattle.protocol_state.specs.Saved.{Saved, base}
 use Rattle.recording_format.specs.RecordingKind.{baseRecording}
@@ -13,7 +12,7 @@ use Rattle.recording_core.specs.Playing.{Playing, coreOf}
 
 -- the recording's reply to the bytes s, with the lent list `out`
 abbrev pub hostReply : List ℕ → List ℕ → Verdict Playing
-hostReply s out = recording ltb baseRecording (coreOf ltb base out) s
+hostReply s out = recording baseRecording (coreOf base out) s
 
 -- the four counts in their order
 abbrev pub countsIn : Counts → List ℕ

@@ -1,11 +1,10 @@
 -- The readings of a host's calls, as the replies to them.
 -- Assumes nothing.
 use Prim.Native.Nat.{ℕ}
-use lib.Dec.{ltb}
 use Rattle.protocol_state.specs.Saved.{Saved, base}
-use Rattle.protocol_state.specs.Sound.{isSound}
-use Rattle.protocol_state.specs.Give.{Reply, settled, give}
+use Rattle.protocol_state.specs.Give.{Reply, settled, givenTo}
 use Rattle.protocol_state.specs.Fresh.{Made}
+use Rattle.protocol_state.specs.Sound.{testedSound}
 use Rattle.mailbox_parts.specs.Plain.{plain}
 use Rattle.exports.specs.declared.call.Asked.{Asked}
 use Rattle.exports.specs.declared.call.Asked.the-variants.{Known, Outside, Unknown}
@@ -18,9 +17,9 @@ askedNumber Unknown = 11
 
 -- what the code's reading of a call answers: the reply to its event, or its refusal, after 19
 abbrev pub heard : Saved → Asked → Reply
-heard q (Known e) = give ltb base q (plain e)
-heard q Outside = settled (isSound ltb base q) (askedNumber Outside) q q 0
-heard q Unknown = settled (isSound ltb base q) (askedNumber Unknown) q q 0
+heard q (Known e) = givenTo base q (plain e)
+heard q Outside = settled (testedSound base q) (askedNumber Outside) q q 0
+heard q Unknown = settled (testedSound base q) (askedNumber Unknown) q q 0
 
 -- what a table makes, from its parts
 abbrev pub madeAs : ℕ → Saved → Made

@@ -5,7 +5,6 @@ use mathlib.Core.Path.{_≡_}
 use mathlib.Core.Logic.{_≢_}
 use mathlib.Core.List.{List}
 use Prim.Native.Nat.{ℕ, _-_, _≤_}
-use lib.Dec.{ltb}
 use lib.ListN.{length, drop}
 use contract.Lifetimes.{Lfts}
 use denote.Ref.{RefT, now}
@@ -13,9 +12,10 @@ use denote.Triple.Clauses.{AtExit}
 use borrow.Fn.Kinds.{Dens, resT, endedOf}
 use Rattle.protocol.specs.Event.{Event, arrival, start, read, finish}
 use Rattle.protocol_state.specs.Saved.{Saved, base, at}
-use Rattle.protocol_state.specs.Sound.{Sound}
+use Rattle.protocol_state.specs.Sound.{StandsSound}
 use Rattle.protocol_state.specs.Fresh.{made}
 use Rattle.protocol_state.specs.Give.{reply}
+use Rattle.protocol_state.specs.Records.{firstTasks, firstLinks}
 use Rattle.byte_format.specs.Number.{Bytes}
 use Rattle.recording_format.specs.Words.{Words}
 use Rattle.mailbox_layout.specs.Layout.{stateOf}
@@ -45,7 +45,7 @@ use Rattle.exports.proofs.rest.parnusild_rest.Reads as on-rest
 
 -- `parnusild_fresh`, lent a table: it answers r and leaves the state q
 abbrev pub HostMakes : ℕ → ℕ → List ℕ → List ℕ → List ℕ → List ℕ → ℕ → Saved → Type 0
-HostMakes T L D W R K r q = madeAs r q ≡ made ltb base T L D W R K
+HostMakes T L D W R K r q = madeAs r q ≡ made base (firstTasks T D) (firstLinks L W R K)
 
 -- `parnusild_event`, lent the state q: it answers r and the number v, and leaves the state q′
 abbrev pub HostGives : Saved → ℕ → ℕ → ℕ → ℕ → ℕ → Saved → Type 0
@@ -156,7 +156,7 @@ pub record Hosts : Type 0 where
   -- "Nothing unknown ever becomes a default.": any other kind is 11 of a sound state and 19 of another, the state as it was, and no number
   pub unknown : (q q′ : Saved) (kind which value r v : ℕ) → HostGives q kind which value r v q′ →
       ((e : Event ℕ) → HostSays kind which value e → ⊥) →
-      (Sound ltb base q → reply q′ r v ≡ reply q 11 0) × ((Sound ltb base q → ⊥) → reply q′ r v ≡ reply q 19 0)
+      (StandsSound base q → reply q′ r v ≡ reply q 11 0) × ((StandsSound base q → ⊥) → reply q′ r v ≡ reply q 19 0)
   -- what `parnusild_replay` answers and leaves is what `recording::replay` does
   pub replay : {s out cs list : List ℕ} {r m : ℕ} {q : Saved} → HostReplays s out r m cs q list →
       (p : State) → Holds p q → Replays s out (hostAnswer r m cs p) list

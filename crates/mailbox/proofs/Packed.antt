@@ -3,10 +3,10 @@
 use mathlib.Core.Path.{_≡_, refl, sym, ap, subst, _∙_}
 use mathlib.Core.List.{List, [], _∷_}
 use Prim.Native.Nat.{ℕ}
-use lib.Dec.{ltb}
 use Rattle.protocol.specs.Event.{Event}
+use Rattle.protocol_state.specs.Records.{firstTasks, firstLinks}
 use Rattle.protocol_state.specs.Saved.{Saved, Shape, base}
-use Rattle.protocol_state.specs.Give.{Reply, give}
+use Rattle.protocol_state.specs.Give.{Reply, givenTo}
 use Rattle.protocol_state.specs.Fresh as fresh
 use Rattle.protocol_state.proofs.Freshes.{made-shape}
 use Rattle.protocol_state.proofs.Give.{give-shape}
@@ -75,10 +75,10 @@ packed-is p q w e =
 abbrev pub stepTo : Reply → Step
 stepTo a = record { state = packed (a .state); answer = record { refusal = a .refusal; value = a .value } }
 
-pub given-to : (q : State) (e : Event ℕ) → Whole q → Given q e (stepTo (give ltb base (saved q) e))
+pub given-to : (q : State) (e : Event ℕ) → Whole q → Given q e (stepTo (givenTo base (saved q) e))
 given-to q e w =
-    let a = give ltb base (saved q) e in
-    let S : Shape base (give ltb base (saved q) e .state) = give-shape ltb base (saved q) e (whole-shape q w) in
+    let a = givenTo base (saved q) e in
+    let S : Shape base (givenTo base (saved q) e .state) = give-shape _ base (saved q) e (whole-shape q w) in
     record {
       answer = λ i. record { state = saved-packed (a .state) S i; refusal = a .refusal; value = a .value };
       lent = w;
@@ -86,14 +86,14 @@ given-to q e w =
     }
 
 -- of a packed state
-pub given-packed : (q : Saved) (e : Event ℕ) → Shape base q → Given (packed q) e (stepTo (give ltb base q e))
-given-packed q e S = subst (λ (x : Saved). Given (packed q) e (stepTo (give ltb base x e))) (saved-packed q S) (given-to (packed q) e (packed-whole q S))
+pub given-packed : (q : Saved) (e : Event ℕ) → Shape base q → Given (packed q) e (stepTo (givenTo base q e))
+given-packed q e S = subst (λ (x : Saved). Given (packed q) e (stepTo (givenTo base x e))) (saved-packed q S) (given-to (packed q) e (packed-whole q S))
 
 abbrev pub madeTo : fresh.Made → Made
 madeTo m = record { refusal = m .refusal; state = packed (m .state) }
 
-pub made-to : (T L : ℕ) (D W R K : List ℕ) → MadeFrom T L D W R K (madeTo (fresh.made ltb base T L D W R K))
+pub made-to : (T L : ℕ) (D W R K : List ℕ) → MadeFrom T L D W R K (madeTo (fresh.made base (firstTasks T D) (firstLinks L W R K)))
 made-to T L D W R K =
-    let m = fresh.made ltb base T L D W R K in
-    let S : Shape base (fresh.made ltb base T L D W R K .state) = made-shape ltb base T L D W R K in
+    let m = fresh.made base (firstTasks T D) (firstLinks L W R K) in
+    let S : Shape base (fresh.made base (firstTasks T D) (firstLinks L W R K) .state) = made-shape base (firstTasks T D) (firstLinks L W R K) in
     record { answer = λ i. record { refusal = m .refusal; state = saved-packed (m .state) S i }; whole = packed-whole (m .state) S }

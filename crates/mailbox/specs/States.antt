@@ -1,14 +1,14 @@
 -- The code's state as the protocol's saved state, and what each call answers.
 -- Assumes nothing.
 use mathlib.Core.Path.{_≡_}
-use mathlib.Core.Bool.{true}
+use mathlib.Core.Bool.{Bool, true}
 use mathlib.Core.List.{List}
 use Prim.Native.Nat.{ℕ}
-use lib.Dec.{ltb}
 use Rattle.protocol.specs.Event.{Event}
+use Rattle.protocol_state.specs.Records.{firstTasks, firstLinks}
 use Rattle.protocol_state.specs.Saved.{Saved, base}
-use Rattle.protocol_state.specs.Sound.{isSound}
-use Rattle.protocol_state.specs.Give.{Reply, reply, give}
+use Rattle.protocol_state.specs.Sound.{testedSound}
+use Rattle.protocol_state.specs.Give.{Reply, reply, givenTo}
 use Rattle.protocol_state.specs.Fresh as fresh
 use Rattle.mailbox_layout.specs.Layout.{stateOf, Filled}
 use Rattle.mailbox.specs.declared.State.{State}
@@ -31,17 +31,21 @@ replyOf r = reply (saved (r .state)) (r .answer .refusal) (r .answer .value)
 abbrev pub madeOf : Made → fresh.Made
 madeOf m = record { refusal = m .refusal; state = saved (m .state) }
 
--- the answer to an event: under fixed priorities, with room for 16 tasks and 32 links
+-- the answer to an event, with room for 16 tasks and 32 links
 pub record Given (q : State) (e : Event ℕ) (r : Step) : Type 0 where
-  pub answer : replyOf r ≡ give ltb base (saved q) e
+  pub answer : replyOf r ≡ givenTo base (saved q) e
   pub lent : Whole q
   pub whole : Whole (r .state)
 
 -- the answer to T tasks with the defaults D and L links with the writers W, the readers R and the kinds K
 pub record MadeFrom (T L : ℕ) (D W R K : List ℕ) (m : Made) : Type 0 where
-  pub answer : madeOf m ≡ fresh.made ltb base T L D W R K
+  pub answer : madeOf m ≡ fresh.made base (firstTasks T D) (firstLinks L W R K)
   pub whole : Whole (m .state)
+
+-- whether it passes the test of soundness
+abbrev pub passing : State → Bool
+passing q = testedSound base (saved q)
 
 -- a sound state stays sound
 abbrev pub StaysSound : State → Step → Type 0
-StaysSound q r = isSound ltb base (saved q) ≡ true → isSound ltb base (saved (r .state)) ≡ true
+StaysSound q r = passing q ≡ true → passing (r .state) ≡ true

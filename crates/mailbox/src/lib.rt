@@ -5,13 +5,11 @@
 // the state holds, an answer comes back, and a refusal hands the state back as it was lent.
 ghost use mathlib.Core.Path.{_≡_};
 ghost use mathlib.Core.Bool.{true};
-ghost use lib.Dec.{ltb};
 ghost use Rattle.protocol.specs.Event.{arrival, start, read, finish};
 ghost use Rattle.protocol_state.specs.Saved.{at, base};
 ghost use Rattle.protocol_state.specs.Fresh.{single};
-ghost use Rattle.protocol_state.specs.Sound.{isSound};
 ghost use Rattle.mailbox_parts.specs.Plain.{plain};
-ghost use Rattle.mailbox.specs.States.{saved, Whole, MadeFrom, Given, StaysSound};
+ghost use Rattle.mailbox.specs.States.{saved, Whole, MadeFrom, Given, passing, StaysSound};
 use crate::tables::control_of;
 use crate::tables::values_of;
 use mailbox_base::numbers::EVENTS;
@@ -84,7 +82,7 @@ impl State {
         kind: [u8; LINKS],
     ) -> Made
         ensures answer { λ r. ⌜ MadeFrom tasks links defaults writer reader kind r ⌝ }
-        ensures sound { λ r. ⌜ isSound ltb base (saved (r .state)) ≡ true ⌝ }
+        ensures sound { λ r. ⌜ passing (r .state) ≡ true ⌝ }
     {
         let control = control_of(links, &writer, &reader, &kind);
         let refusal = judge_table(tasks, links, &control);
@@ -172,7 +170,7 @@ impl State {
 
     // Whether the state is sound: 19 is answered exactly when it isn't.
     pub fn sound(self) -> bool
-        ensures { λ r. ⌜ r ≡ isSound ltb base (saved self) ⌝ }
+        ensures { λ r. ⌜ r ≡ passing self ⌝ }
     {
         let control = self.control;
         is_sound(self.tasks, self.links, &control)

@@ -6,25 +6,26 @@ use Prim.Native.Nat.{ℕ, _≤_, _<_}
 use borrow.Author.Tests.{lt-ltb, le-ltb, eq-eqb, ne-eqb}
 use lib.Dec.{eqb, ltb}
 use Rattle.lists.specs.Lists.{every, leading}
-use Rattle.protocol_state.specs.Saved.{Saved, base, at}
+use Rattle.protocol_state.specs.Records.{Link}
+use Rattle.protocol_state.specs.Saved.{Saved, base, linkIn}
 use Rattle.protocol_state.specs.Rules.{fault, judgedTable}
 use Rattle.protocol_state.specs.Sound.{taskOk, pointerOk, isSound}
 
-module _ (T L : ℕ) (W R K : ℕ → ℕ) where
-  pub wrong-tasks : (eqb T 0 || ltb (base .tasks) T) ≡ true → 2 ≡ judgedTable ltb T W R K base L
+module _ (T L : ℕ) (link : ℕ → Link) where
+  pub wrong-tasks : (eqb T 0 || ltb (base .tasks) T) ≡ true → 2 ≡ judgedTable ltb T link base L
   unfolding judgedTable
   wrong-tasks e = rw e
 
-  pub wrong-links : (eqb T 0 || ltb (base .tasks) T) ≡ false → base .links < L → 3 ≡ judgedTable ltb T W R K base L
+  pub wrong-links : (eqb T 0 || ltb (base .tasks) T) ≡ false → base .links < L → 3 ≡ judgedTable ltb T link base L
   unfolding judgedTable
   wrong-links e l = rw (e, lt-ltb (base .links) L l)
 
-  pub link-fault : {r : ℕ} → (eqb T 0 || ltb (base .tasks) T) ≡ false → L ≤ base .links → r ≡ leading (fault ltb T W R K) L → r ≡ judgedTable ltb T W R K base L
+  pub link-fault : {r : ℕ} → (eqb T 0 || ltb (base .tasks) T) ≡ false → L ≤ base .links → r ≡ leading (fault ltb T link) L → r ≡ judgedTable ltb T link base L
   unfolding judgedTable
   link-fault e l h = rw (e, le-ltb (base .links) L l) h
 
 -- whether a state is sound: k is what its table is judged
-module _ (q : Saved) {k : ℕ} (e : k ≡ judgedTable ltb (q .tasks) (at (q .writer)) (at (q .reader)) (at (q .kind)) base (q .links)) where
+module _ (q : Saved) {k : ℕ} (e : k ≡ judgedTable ltb (q .tasks) (linkIn q) base (q .links)) where
   pub unsound : (k ≡ 0 → ⊥) → false ≡ isSound ltb base q
   unfolding isSound
   unsound ne = rw (ne-eqb _ 0 (λ z. ne (e ∙ z)))

@@ -6,7 +6,6 @@ ghost use lib.Dec.{eqb, ltb};
 ghost use Rattle.lists.specs.Lists.{some};
 ghost use Rattle.protocol.specs.Table.{behinds};
 ghost use Rattle.protocol_state.specs.Saved.{at, base};
-ghost use Rattle.protocol_state.specs.Rules.{joins};
 ghost use Rattle.mailbox_layout.specs.Layout.{writerIn, readerIn};
 use lists::few;
 use lists::one_if;
@@ -25,7 +24,7 @@ fn is_pair(w0: u8, r0: u8, w: u8, r: u8) -> bool
 
 // Whether one of the first `n` links goes from `w` to `r`.
 pub fn has_pair(control: &[u8; CONTROL], n: usize, w: u8, r: u8) -> bool
-    ensures { λ res. ⌜ res ≡ some (joins (at (writerIn (now (control .entry)))) (at (readerIn (now (control .entry)))) w r) (min n (base .links)) ⌝ }
+    ensures { λ res. ⌜ res ≡ some (λ j. eqb (at (writerIn (now (control .entry))) j) w && eqb (at (readerIn (now (control .entry))) j) r) (min n (base .links)) ⌝ }
 {
     let end = few(n, LINKS);
     let mut found = false;

@@ -12,8 +12,8 @@ use Rattle.protocol.specs.Event.{Event}
 use Rattle.protocol_state.specs.Saved.{Saved, base}
 use Rattle.protocol_state.specs.Judge.{judgedOn}
 use Rattle.protocol_state.specs.Next.{next, valueOf}
-use Rattle.protocol_state.specs.Sound.{isSound}
-use Rattle.protocol_state.specs.Give.{reply, give}
+use Rattle.protocol_state.specs.Sound.{testedSound}
+use Rattle.protocol_state.specs.Give.{reply, givenTo}
 use Rattle.protocol_state.proofs.Give.{give-unsound, give-refused, give-done}
 use Rattle.protocol_state.proofs.Sound.{sound-room}
 use Rattle.mailbox_layout.specs.Layout.{stateOf, viewOf}
@@ -22,25 +22,25 @@ use Rattle.mailbox_layout.specs.Layout.{stateOf, viewOf}
 within : (T L : ℕ) (c v : List ℕ) → (T ≤ base .tasks) × (L ≤ base .links) → viewOf T L c v ≡ stateOf T L c v
 within T L c v room = rw (min-eq-left (room .0), min-eq-left (room .1))
 
-module _ (T L : ℕ) (c v : List ℕ) (e : Event ℕ) {b : Bool} (test : b ≡ isSound ltb base (stateOf T L c v)) where
-  pub given-unsound : not b ≡ true → reply (stateOf T L c v) 19 0 ≡ give ltb base (stateOf T L c v) e
+module _ (T L : ℕ) (c v : List ℕ) (e : Event ℕ) {b : Bool} (test : b ≡ testedSound base (stateOf T L c v)) where
+  pub given-unsound : not b ≡ true → reply (stateOf T L c v) 19 0 ≡ givenTo base (stateOf T L c v) e
   given-unsound h = sym (give-unsound ltb base (stateOf T L c v) e (sym test ∙ not-true b h))
 
   -- a sound state, which judges the event k
   module _ {k : ℕ} (h : not b ≡ false) (judged : k ≡ judgedOn ltb (viewOf T L c v) e) where
-    sound : isSound ltb base (stateOf T L c v) ≡ true
+    sound : testedSound base (stateOf T L c v) ≡ true
     sound = passed test h
 
     here : viewOf T L c v ≡ stateOf T L c v
     here = within T L c v (sound-room ltb base (stateOf T L c v) sound)
 
-    pub given-refused : (k ≡ 0 → ⊥) → reply (stateOf T L c v) k 0 ≡ give ltb base (stateOf T L c v) e
+    pub given-refused : (k ≡ 0 → ⊥) → reply (stateOf T L c v) k 0 ≡ givenTo base (stateOf T L c v) e
     given-refused z =
         let j : k ≡ judgedOn ltb (stateOf T L c v) e = judged ∙ ap (λ (q : Saved). judgedOn ltb q e) here in
         rw j (sym (give-refused ltb base (stateOf T L c v) e sound (λ i. z (j ∙ i))))
 
     pub given-done : (c′ v′ : List ℕ) {x : ℕ} → k ≡ 0 → x ≡ valueOf (viewOf T L c v) e → viewOf T L c′ v′ ≡ next ltb (viewOf T L c v) e →
-        reply (stateOf T L c′ v′) 0 x ≡ give ltb base (stateOf T L c v) e
+        reply (stateOf T L c′ v′) 0 x ≡ givenTo base (stateOf T L c v) e
     given-done c′ v′ {x} z value done =
         let j : k ≡ judgedOn ltb (stateOf T L c v) e = judged ∙ ap (λ (q : Saved). judgedOn ltb q e) here in
         let x-is : x ≡ valueOf (stateOf T L c v) e = value ∙ ap (λ (q : Saved). valueOf q e) here in

@@ -4,7 +4,8 @@ use mathlib.Core.Path.{_≡_}
 use mathlib.Core.List.{List, [], _∷_, _++_}
 use Prim.Native.Nat.{ℕ, _+_, _*_, min}
 use lib.ListN.{length, replicate}
-use Rattle.protocol_state.specs.Saved.{Saved, base, positions}
+use Rattle.protocol_state.specs.Records.{Link}
+use Rattle.protocol_state.specs.Saved.{Saved, base, positions, at}
 use Rattle.protocol_state.specs.Next.{withParts}
 use Rattle.regions.specs.Regions.{regions, region}
 
@@ -58,6 +59,10 @@ readerIn c = region (cut c) 5
 
 abbrev pub kindIn : List ℕ → List ℕ
 kindIn c = region (cut c) 6
+
+-- its link l
+abbrev pub linkHeld : List ℕ → ℕ → Link
+linkHeld c l = record { writer = at (writerIn c) l; reader = at (readerIn c) l; kind = at (kindIn c) l }
 
 -- and of the values
 abbrev pub defaultsIn : List ℕ → List ℕ

@@ -16,10 +16,10 @@ use Rattle.protocol.proofs.ZeroRun.{ideals-read, theres-same}
 
 module _ {Val : Type 0} (policy : Table Val → Policy Val) (A : Answerer Val) (D : FollowsProtocol A policy) (T : Table Val) (L : Lawful T) where
   -- the boxes after every possible history are those of a run of the published protocol
-  pub answers-run : (h : List (Event Val)) → AllPossible T (policy T) h → Run T (policy T) (Lowest T) (boxesAfter A T h) h
+  pub answers-run : (h : List (Event Val)) → AllPossible T (policy T) h → Run T (Lowest T) (boxesAfter A T h) h
   unfolding AllPossible boxesAfter
   answers-run [] P = published.fresh (D .fresh T L)
-  answers-run (e ∷ h) P = published.next e (answers-run h (P .1)) (P .0) (D .step T L h (P .1) e (P .0))
+  answers-run (e ∷ h) P = published.next e (answers-run h (P .1)) (D .step T L h (P .1) e (P .0))
 
   module _ (F : Fair T (policy T)) where
     -- every number read is the one due
@@ -29,18 +29,18 @@ module _ {Val : Type 0} (policy : Table Val → Policy Val) (A : Answerer Val) (
     answers-dues (arrival m ∷ h) P = answers-dues h (P .1)
     answers-dues (start t ∷ h) P = answers-dues h (P .1)
     answers-dues (read l ∷ h) P =
-        rw (D .number T L h (P .1) l (P .0), zero-time T (policy T) L F (lowest-only T) (answers-run h (P .1)) (P .0) .0, answers-dues h (P .1))
+        rw (D .number T L h (P .1) l (P .0), zero-time T (policy T) L F (lowest-only T) (answers-run h (P .1)) (P .1) (P .0) .0, answers-dues h (P .1))
     answers-dues (finish t v ∷ h) P = answers-dues h (P .1)
 
     -- so they are the closed form's
     pub answers-ideals : (h : List (Event Val)) → AllPossible T (policy T) h → numbersRead A T h ≡ ideals T h
     answers-ideals h P = theres-same _ _ (answers-dues h P ∙ sym (ideals-there T (policy T) L F h P))
 
--- demand 3, for every policy that keeps Turn and every type of values
-pub protocol-reads-zero-time : {Val : Type 0} (policy : Table Val → Policy Val) → ((T : Table Val) → Fair T (policy T)) → (A : Answerer Val) → FollowsProtocol A policy → ReadsZeroTime A policy
-protocol-reads-zero-time policy F A D T L order O h P = ap theres (answers-ideals policy A D T L (F T) h P) ∙ ideals-read T (policy T) L (F T) order O h P
+-- demand 3, for every table whose policy keeps Turn and every type of values
+pub protocol-reads-zero-time : {Val : Type 0} (policy : Table Val → Policy Val) (A : Answerer Val) → FollowsProtocol A policy → (T : Table Val) → Fair T (policy T) → ReadsZeroTime A policy T
+protocol-reads-zero-time policy A D T F L order O h P = ap theres (answers-ideals policy A D T L F h P) ∙ ideals-read T (policy T) L F order O h P
 
 -- and whatever meets demand 3 gives the closed form's numbers and no others
-pub only-ideals : {Val : Type 0} (policy : Table Val → Policy Val) → ((T : Table Val) → Fair T (policy T)) → (A : Answerer Val) → ReadsZeroTime A policy
-    → (T : Table Val) → Lawful T → (order : List ℕ) → Order T order → (h : List (Event Val)) → AllPossible T (policy T) h → numbersRead A T h ≡ ideals T h
-only-ideals policy F A D T L order O h P = theres-same _ _ (D T L order O h P ∙ sym (ideals-read T (policy T) L (F T) order O h P))
+pub only-ideals : {Val : Type 0} (policy : Table Val → Policy Val) (A : Answerer Val) (T : Table Val) → Fair T (policy T) → ReadsZeroTime A policy T
+    → Lawful T → (order : List ℕ) → Order T order → (h : List (Event Val)) → AllPossible T (policy T) h → numbersRead A T h ≡ ideals T h
+only-ideals policy A T F D L order O h P = theres-same _ _ (D L order O h P ∙ sym (ideals-read T (policy T) L F order O h P))

@@ -78,12 +78,12 @@ module _ {Val : Type 0} where
     again-possible = all-judged (pair d late) (read 0 ∷ again x y) refl
 
   -- an answer function that meets demand 3 reads what the closed form says, on the pair
-  told : (A : Answerer Val) → ReadsZeroTime A urgent → (d : Val) (late : Bool) (h : List (Event Val)) → AllPossible (pair d late) (urgent (pair d late)) h
+  told : (A : Answerer Val) → ((T : Table Val) → ReadsZeroTime A urgent T) → (d : Val) (late : Bool) (h : List (Event Val)) → AllPossible (pair d late) (urgent (pair d late)) h
       → numbersRead A (pair d late) h ≡ ideals (pair d late) h
   unfolding pair
-  told A D d late h P = only-ideals urgent urgent-fair A D (pair d late) (pair-lawful d late) (upward 0 2) (upward-order (pair d late) (λ u t. refl)) h P
+  told A D d late h P = only-ideals urgent A (pair d late) (urgent-fair (pair d late)) (D (pair d late)) (pair-lawful d late) (upward 0 2) (upward-order (pair d late) (λ u t. refl)) h P
 
-  module _ (A : Answerer Val) (D : ReadsZeroTime A urgent) (d x y : Val) where
+  module _ (A : Answerer Val) (D : (T : Table Val) → ReadsZeroTime A urgent T) (d x y : Val) where
     -- by a direct link it reads the output x, for every x
     reads-output : A .reply (pair d false) (start 1 ∷ finish 0 x ∷ start 0 ∷ arrival 3 ∷ []) (read 0) .value ≡ x
     unfolding pair both numbersRead dues values arrivals starts finishes upTo output has
@@ -126,7 +126,7 @@ module _ {Val : Type 0} where
         D .step (pair d false) (pair-lawful d false) [] tt (arrival 1) p .chosen 0 refl .free .apart (ap (λ (s : Boxes Val). s .newest 0) (R (pair d false) [] (arrival 1)))
 
   -- ---- what demand 3 excludes, for any kind of value that has two
-  module _ (a b : Val) (n : a ≢ b) (A : Answerer Val) (D : ReadsZeroTime A urgent) where
+  module _ (a b : Val) (n : a ≢ b) (A : Answerer Val) (D : (T : Table Val) → ReadsZeroTime A urgent T) where
     -- one that reads a constant
     pub no-constant : (v : Val) → ((T : Table Val) (h : List (Event Val)) (l : ℕ) → A .reply T h (read l) .value ≡ v) → ⊥
     no-constant v R = n (sym (reads-output A D a a a) ∙ R _ _ 0 ∙ sym (R _ _ 0) ∙ reads-output A D a b b)

@@ -14,11 +14,11 @@ use Rattle.protocol.specs.Given.{Given, there}
 use Rattle.protocol.specs.Event.{Event, arrival, start, read, finish, has}
 use Rattle.protocol.specs.Table.{Table, behind, Lawful}
 use Rattle.protocol.specs.History.{arrivals, starts, finishes, running, upTo, output, stamp}
-use Rattle.protocol.specs.Schedule.{Policy, Turn, Fair, Possible}
+use Rattle.protocol.specs.Schedule.{Policy, Turn, Fair, Possible, AllPossible}
 use Rattle.protocol.specs.ZeroTime.{runOf, had, wanted}
-use Rattle.protocol.specs.Published.{Boxes, Fresh, Free, Choice, Arrived, Finished, Step, Run, fresh, next}
+use Rattle.protocol.specs.Published.{Boxes, Fresh, Free, Arrived, Finished, Step, Run, fresh, next}
 use Rattle.protocol.proofs.Counts.{arrivals-in, arrivals-out, upTo-in, upTo-out, finishes-same, finishes-other, output-new, output-old, output-other, arrivals-upTo, stamp-clock, stamp-in}
-use Rattle.protocol.proofs.Schedule.{counted, run-possible}
+use Rattle.protocol.proofs.Schedule.{counted}
 use Rattle.protocol.proofs.Effects.{previous-in, previous-out, pointer-direct, pointer-delayed, pointer-out, cell-new, cell-same, cell-other, pointer-other}
 
 -- a delayed link gives the run before the last
@@ -43,13 +43,14 @@ module _ {Val : Type 0} where
   abbrev pub Bounded : List (Event Val) → Type 0
   Bounded h = (t : ℕ) → (finishes h t ≤ arrivals h t) × (arrivals h t ≤ suc (finishes h t))
 
-  -- so it is in every run
-  pub bounded : {T : Table Val} {may : Policy Val} {choice : Choice Val} {s : Boxes Val} {h : List (Event Val)} → Run T may choice s h → Bounded h
-  bounded {T} {may} {h = h} r t = omega (arith, counted T may h (run-possible T may r) t)
+  module _ (T : Table Val) (may : Policy Val) (h : List (Event Val)) (P : AllPossible T may h) where
+    -- so it is after every possible history
+    pub bounded : Bounded h
+    bounded t = omega (arith, counted T may h P t)
 
-  -- a running task has not finished its last run
-  pub unfinished : {T : Table Val} {may : Policy Val} {choice : Choice Val} {s : Boxes Val} {h : List (Event Val)} → Run T may choice s h → (t : ℕ) → running h t ≡ true → arrivals h t ≡ suc (finishes h t)
-  unfinished {T} {may} {h = h} r t q = omega (arith, ltb-true (finishes h t) (starts h t) q, counted T may h (run-possible T may r) t)
+    -- a running task has not finished its last run
+    pub unfinished : (t : ℕ) → running h t ≡ true → arrivals h t ≡ suc (finishes h t)
+    unfinished t q = omega (arith, ltb-true (finishes h t) (starts h t) q, counted T may h P t)
 
 module _ {Val : Type 0} (T : Table Val) where
   -- what is stored of task t's run number k: its output, and for number 0, before the first run, the default
@@ -321,11 +322,12 @@ module _ {Val : Type 0} (T : Table Val) where
     inv-finish L turn i = record { tasks = λ u. task-finish u (i .tasks u); links = λ l k. link-finish l (L .reader l k) turn (i .links l k) }
 
   module _ (may : Policy Val) (L : Lawful T) (fair : Fair T may) where
-    -- it holds after every run
-    pub invariant : {s : Boxes Val} {h : List (Event Val)} → Run T may (Free T) s h → Inv h s
-    unfolding Step Possible arrivals finishes upTo output
-    invariant (fresh f) = inv-fresh f
-    invariant (next {h = h} (arrival m) r p A) = inv-arrive A (λ t e. omega (arith, ltb-false (finishes h t) (arrivals h t) (p .2 t e), bounded r t)) (bounded (next (arrival m) r p A)) L (invariant r)
-    invariant (next (start t) r p e) = rw e (inv-quiet (λ t. refl) (λ t. refl) (λ t. refl) (λ w k. refl) (invariant r))
-    invariant (next (read l) r p e) = rw e (inv-quiet (λ t. refl) (λ t. refl) (λ t. refl) (λ w k. refl) (invariant r))
-    invariant (next {h = h} (finish t v) r p F) = inv-finish F (unfinished r t (p .1)) L (fair h t (p .2)) (invariant r)
+    -- it holds after every run over a possible history
+    pub invariant : {s : Boxes Val} {h : List (Event Val)} → Run T (Free T) s h → AllPossible T may h → Inv h s
+    unfolding Step AllPossible Possible arrivals finishes upTo output
+    invariant (fresh f) P = inv-fresh f
+    invariant (next {h = h} (arrival m) r A) P =
+        inv-arrive A (λ t e. omega (arith, ltb-false (finishes h t) (arrivals h t) (P .0 .2 t e), bounded T may h (P .1) t)) (bounded T may (arrival m ∷ h) P) L (invariant r (P .1))
+    invariant (next (start t) r e) P = rw e (inv-quiet (λ t. refl) (λ t. refl) (λ t. refl) (λ w k. refl) (invariant r (P .1)))
+    invariant (next (read l) r e) P = rw e (inv-quiet (λ t. refl) (λ t. refl) (λ t. refl) (λ w k. refl) (invariant r (P .1)))
+    invariant (next {h = h} (finish t v) r F) P = inv-finish F (unfinished T may h (P .1) t (P .0 .1)) L (fair h t (P .0 .2)) (invariant r (P .1))

@@ -80,11 +80,11 @@ module _ {Val : Type 0} (T : Table Val) where
   fresh-fresh : Fresh T (freshBoxes T)
   fresh-fresh = record { newest = λ t. refl; previous = λ t. refl; pointer = λ l. refl; cell = λ t p. refl }
 
-  -- so every possible history leads to one of its runs
-  pub lowest-run : (may : Policy Val) (h : List (Event Val)) → AllPossible T may h → Run T may (Lowest T) (boxesOf T h) h
-  unfolding AllPossible boxesOf
-  lowest-run may [] A = published.fresh fresh-fresh
-  lowest-run may (e ∷ h) A = published.next e (lowest-run may h (A .1)) (A .0) (next-step e (boxesOf T h))
+  -- so every history leads to one of its runs
+  pub lowest-run : (h : List (Event Val)) → Run T (Lowest T) (boxesOf T h) h
+  unfolding boxesOf
+  lowest-run [] = published.fresh fresh-fresh
+  lowest-run (e ∷ h) = published.next e (lowest-run h) (next-step e (boxesOf T h))
 
 -- the two ways of an answer
 module _ {Val : Type 0} (policy : Table Val → Policy Val) (zero : Val) (T : Table Val) (h : List (Event Val)) (e : Event Val) where

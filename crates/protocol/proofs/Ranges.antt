@@ -11,7 +11,7 @@ use Rattle.lists.proofs.Bools.{cond-small}
 use Rattle.protocol.specs.Event.{Event, arrival, start, read, finish, has}
 use Rattle.protocol.specs.Table.{Table, N, behind}
 use Rattle.protocol.specs.History.{arrivals, finishes, active}
-use Rattle.protocol.specs.Schedule.{Policy, Possible}
+use Rattle.protocol.specs.Schedule.{Policy, Possible, AllPossible}
 use Rattle.protocol.specs.Published.{Boxes, Fresh, Free, Arrived, leaves, Finished, Step, Run, fresh, next}
 use Rattle.protocol.specs.Ranges.{Position, Ranged}
 use Rattle.protocol.proofs.Counts.{arrivals-in, arrivals-out, finishes-same, finishes-other}
@@ -105,11 +105,11 @@ module _ {Val : Type 0} (T : Table Val) where
       link l k (no n) = rw (finishes-other h t (T .reader l) v (λ x. n (sym x)), pointer-other T F l n) (links-of R l k)
 
   module _ (may : Policy Val) where
-    -- in range after every run
-    pub ranged : {s : Boxes Val} {h : List (Event Val)} → Run T may (Free T) s h → Ranged T h s
-    unfolding Step Possible arrivals finishes
-    ranged (fresh f) = ranged-fresh f
-    ranged (next (arrival m) r p A) = ranged-arrive A (bounded r) (ranged r)
-    ranged (next (start t) r p e) = rw e (ranged-quiet (λ u. refl) (ranged r))
-    ranged (next (read l) r p e) = rw e (ranged-quiet (λ u. refl) (ranged r))
-    ranged (next (finish t v) r p F) = ranged-finish F (unfinished r t (p .1)) (ranged r)
+    -- in range after every run over a possible history
+    pub ranged : {s : Boxes Val} {h : List (Event Val)} → Run T (Free T) s h → AllPossible T may h → Ranged T h s
+    unfolding Step AllPossible Possible arrivals finishes
+    ranged (fresh f) P = ranged-fresh f
+    ranged (next {h = h} (arrival m) r A) P = ranged-arrive A (bounded T may h (P .1)) (ranged r (P .1))
+    ranged (next (start t) r e) P = rw e (ranged-quiet (λ u. refl) (ranged r (P .1)))
+    ranged (next (read l) r e) P = rw e (ranged-quiet (λ u. refl) (ranged r (P .1)))
+    ranged (next {h = h} (finish t v) r F) P = ranged-finish F (unfinished T may h (P .1) t (P .0 .1)) (ranged r (P .1))

@@ -19,7 +19,7 @@ use Rattle.protocol.specs.ZeroTime.{runOf, early, had, wanted, due, dues
 use Rattle.protocol.specs.Instant.{theres}
 use Rattle.protocol.specs.Published.{Boxes, Choice, Lowest, OnlyFree, number, Step, Run, fresh, next, numbers}
 use Rattle.protocol.proofs.Counts.{there-there, arrivals-upTo, stamp-seen, output-there}
-use Rattle.protocol.proofs.Schedule.{counted, run-possible}
+use Rattle.protocol.proofs.Schedule.{counted}
 use Rattle.protocol.proofs.Invariant.{unfinished, invariant}
 
 -- the values of outputs that are there
@@ -32,19 +32,19 @@ values-theres (v ∷ vs) = ap (λ us. v ∷ us) (values-theres vs)
 pub lowest-only : {Val : Type 0} (T : Table Val) → OnlyFree T (Lowest T)
 lowest-only T s t p c = c .free
 
-module _ {Val : Type 0} (T : Table Val) (may : Policy Val) where
+module _ {Val : Type 0} (T : Table Val) where
   -- a run with one choice of positions is a run with any choice that allows more
   pub weaken : {choice choice′ : Choice Val} → ((s : Boxes Val) (t p : ℕ) → choice s t p → choice′ s t p)
-      → {s : Boxes Val} {h : List (Event Val)} → Run T may choice s h → Run T may choice′ s h
+      → {s : Boxes Val} {h : List (Event Val)} → Run T choice s h → Run T choice′ s h
   unfolding Step
   weaken w (fresh f) = fresh f
-  weaken w (next {s = s} {s′ = s′} (arrival m) r p A) =
-      next (arrival m) (weaken w r) p (record { previous = A .previous; chosen = λ t e. w s t (s′ .newest t) (A .chosen t e); kept = A .kept; pointer = A .pointer; cell = A .cell })
-  weaken w (next (start t) r p q) = next (start t) (weaken w r) p q
-  weaken w (next (read l) r p q) = next (read l) (weaken w r) p q
-  weaken w (next (finish t v) r p q) = next (finish t v) (weaken w r) p q
+  weaken w (next {s = s} {s′ = s′} (arrival m) r A) =
+      next (arrival m) (weaken w r) (record { previous = A .previous; chosen = λ t e. w s t (s′ .newest t) (A .chosen t e); kept = A .kept; pointer = A .pointer; cell = A .cell })
+  weaken w (next (start t) r q) = next (start t) (weaken w r) q
+  weaken w (next (read l) r q) = next (read l) (weaken w r) q
+  weaken w (next (finish t v) r q) = next (finish t v) (weaken w r) q
 
-  module _ (L : Lawful T) (F : Fair T may) where
+  module _ (may : Policy Val) (L : Lawful T) (F : Fair T may) where
     -- what a link is to read is finished when its reader may run: were it not, the writer would be ahead, active, and arrived no later
     pub finished-then : (h : List (Event Val)) (l : ℕ) → AllPossible T may h → l < T .links → may h (T .reader l) ≡ true → wanted T h l ≤ finishes h (T .writer l)
     finished-then h l P q turn =
@@ -72,25 +72,25 @@ module _ {Val : Type 0} (T : Table Val) (may : Policy Val) where
 
     module _ {choice : Choice Val} (free : OnlyFree T choice) where
       -- at each read: the number is the one due, and the run that made it is finished
-      pub zero-time : {s : Boxes Val} {h : List (Event Val)} {l : ℕ} → Run T may choice s h → Possible T may h (read l)
+      pub zero-time : {s : Boxes Val} {h : List (Event Val)} {l : ℕ} → Run T choice s h → AllPossible T may h → Possible T may h (read l)
           → (there (number T s l) ≡ due T h l) × (wanted T h l ≤ finishes h (T .writer l))
       unfolding Possible
-      zero-time {s} {h} {l} r p =
-          let d = finished-then h l (run-possible T may r) (p .0) (p .2) in
-          (invariant T may L F (weaken free r) .links l (p .0) (omega (arith, unfinished r (T .reader l) (p .1))) .have d, d)
+      zero-time {s} {h} {l} r P p =
+          let d = finished-then h l P (p .0) (p .2) in
+          (invariant T may L F (weaken free r) P .links l (p .0) (omega (arith, unfinished T may h P (T .reader l) (p .1))) .have d, d)
 
       -- all the numbers read are those due: none is missing
-      pub numbers-due : {s : Boxes Val} {h : List (Event Val)} (r : Run T may choice s h) → theres (numbers T r) ≡ dues T h
-      unfolding numbers dues theres
-      numbers-due (fresh f) = refl
-      numbers-due (next (arrival m) r p q) = numbers-due r
-      numbers-due (next (start t) r p q) = numbers-due r
-      numbers-due (next (read l) r p q) = rw (zero-time r p .0, numbers-due r)
-      numbers-due (next (finish t v) r p q) = numbers-due r
+      pub numbers-due : {s : Boxes Val} {h : List (Event Val)} (r : Run T choice s h) → AllPossible T may h → theres (numbers T r) ≡ dues T h
+      unfolding numbers dues theres AllPossible
+      numbers-due (fresh f) P = refl
+      numbers-due (next (arrival m) r q) P = numbers-due r (P .1)
+      numbers-due (next (start t) r q) P = numbers-due r (P .1)
+      numbers-due (next (read l) r q) P = rw (zero-time r (P .1) (P .0) .0, numbers-due r (P .1))
+      numbers-due (next (finish t v) r q) P = numbers-due r (P .1)
 
       -- so they are the ideal ones
-      pub numbers-ideal : {s : Boxes Val} {h : List (Event Val)} (r : Run T may choice s h) → numbers T r ≡ ideals T h
-      numbers-ideal r = sym (values-theres (numbers T r)) ∙ ap values (numbers-due r)
+      pub numbers-ideal : {s : Boxes Val} {h : List (Event Val)} (r : Run T choice s h) → AllPossible T may h → numbers T r ≡ ideals T h
+      numbers-ideal r P = sym (values-theres (numbers T r)) ∙ ap values (numbers-due r P)
 
 -- one more that is there
 there-more : {Val : Type 0} (g : Given Val) (gs : List (Given Val)) → g ≢ missing → theres (values gs) ≡ gs → theres (values (g ∷ gs)) ≡ g ∷ gs

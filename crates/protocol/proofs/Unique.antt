@@ -74,9 +74,9 @@ module _ {Val : Type 0} (T : Table Val) where
       step-same (finish t v) A B = finished-same A B
 
   -- two runs over one history end in the same boxes
-  pub runs-same : {may : Policy Val} {s r : Boxes Val} {h : List (Event Val)} → Run T may (Lowest T) s h → Run T may (Lowest T) r h → Same s r
+  pub runs-same : {s r : Boxes Val} {h : List (Event Val)} → Run T (Lowest T) s h → Run T (Lowest T) r h → Same s r
   runs-same (fresh f) (fresh g) = fresh-same f g
-  runs-same (next e a p x) (next _ b q y) = step-same (runs-same a b) e x y
+  runs-same (next e a x) (next _ b y) = step-same (runs-same a b) e x y
 
 module _ {Val : Type 0} (policy : Table Val → Policy Val) (A B : Answerer Val) (T : Table Val) (L : Lawful T) where
   -- the same refusal to every event

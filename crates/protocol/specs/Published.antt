@@ -8,7 +8,6 @@ use Prim.Native.Nat.{ℕ, _+_, _≤_, _<_}
 use lib.Dec.{eqb, ltb}
 use Rattle.protocol.specs.Event.{Event, arrival, start, read, finish, has}
 use Rattle.protocol.specs.Table.{Table, N, behind}
-use Rattle.protocol.specs.Schedule.{Policy, Possible}
 
 -- of each task the newest and the previous position, of each link the pointer (0: absent), at each position of each task a value
 pub record Boxes (Val : Type 0) : Type 0 where
@@ -87,15 +86,15 @@ module _ {Val : Type 0} (T : Table Val) where
   Step choice (read l) s s′ = s′ ≡ s
   Step choice (finish t v) s s′ = Finished t v s s′
 
-  -- the boxes that a history can lead to, from fresh ones, each event possible in its turn
-  pub data Run (may : Policy Val) (choice : Choice Val) : Boxes Val → List (Event Val) → Type 0 where
-    fresh : {s : Boxes Val} → Fresh s → Run may choice s []
-    next : {s s′ : Boxes Val} {h : List (Event Val)} (e : Event Val) → Run may choice s h → Possible T may h e → Step choice e s s′ → Run may choice s′ (e ∷ h)
+  -- the boxes that a history leads to, from fresh ones. Whether its events could happen is another question, and no policy stands here (`AllPossible`)
+  pub data Run (choice : Choice Val) : Boxes Val → List (Event Val) → Type 0 where
+    fresh : {s : Boxes Val} → Fresh s → Run choice s []
+    next : {s s′ : Boxes Val} {h : List (Event Val)} (e : Event Val) → Run choice s h → Step choice e s s′ → Run choice s′ (e ∷ h)
 
   -- the numbers that a run reads, the last one first
-  unfoldable pub numbers : {may : Policy Val} {choice : Choice Val} {s : Boxes Val} {h : List (Event Val)} → Run may choice s h → List Val
+  unfoldable pub numbers : {choice : Choice Val} {s : Boxes Val} {h : List (Event Val)} → Run choice s h → List Val
   numbers (fresh f) = []
-  numbers (next (arrival m) r p q) = numbers r
-  numbers (next (start t) r p q) = numbers r
-  numbers (next {s = s} (read l) r p q) = number s l ∷ numbers r
-  numbers (next (finish t v) r p q) = numbers r
+  numbers (next (arrival m) r q) = numbers r
+  numbers (next (start t) r q) = numbers r
+  numbers (next {s = s} (read l) r q) = number s l ∷ numbers r
+  numbers (next (finish t v) r q) = numbers r

@@ -22,7 +22,7 @@ use Rattle.protocol_state.specs.Give.{Reply, Progress, give}
 use Rattle.protocol_state.specs.Reached.{Reached}
 use Rattle.protocol_state.specs.Alike.{Alike}
 use Rattle.protocol_state.proofs.Give.{give-refusal, give-done, refused-same}
-use Rattle.protocol_state.proofs.History.{reached-sound, reached-refusal, reached-possible, reached-step, reached-number}
+use Rattle.protocol_state.proofs.History.{reached-sound, reached-refusal, reached-step, reached-number}
 use Rattle.protocol_state.proofs.Numbers.{table-lawful}
 
 module _ {ahead : ℕ → ℕ → Bool} (ranks : Ranks ahead) {size : Size} {q₀ : Saved} {o : Progress} (r : Reached ahead size q₀ o)
@@ -37,7 +37,7 @@ module _ {ahead : ℕ → ℕ → Bool} (ranks : Ranks ahead) {size : Size} {q�
   L = table-lawful ranks r
 
   P : AllPossible T (urgent T) h
-  P = reached-possible r
+  P = r .possible
 
   -- before the event the boxes are the same
   same-before : Same (boxes (o .state)) (boxesAfter B T h)

@@ -10,6 +10,7 @@ use Rattle.protocol.specs.Event.{Event, arrival, start, read, finish, has}
 use Rattle.protocol.specs.History.{arrivals, starts, finishes, reads, upTo, output, counts}
 use Rattle.protocol.specs.ZeroTime.{dues, ideals}
 use Rattle.protocol.specs.Instant.{ask, readLinks, runWhole, work, come, carried, upward, sets, zeroRun, find, looked, theres}
+use Rattle.protocol_state.specs.Records.{Link}
 use Rattle.protocol_state.specs.Saved.{Saved, base, at, table}
 use Rattle.protocol_state.specs.Rules.{fault, judgedTable}
 use Rattle.protocol_state.specs.Decision.{decided}
@@ -21,7 +22,10 @@ use Rattle.protocol_state.specs.Give.{Progress, settled, begin, afterEve
 
 -- four tasks with defaults 0, 100, 0, 0; links 1 to 0 delayed, 1 to 2 direct, 1 to 3 direct
 abbrev station : Saved
-station = freshOf base 4 3 (0 ∷ 100 ∷ 0 ∷ 0 ∷ []) (1 ∷ 1 ∷ 1 ∷ []) (0 ∷ 2 ∷ 3 ∷ []) (1 ∷ 0 ∷ 0 ∷ [])
+station = freshOf base (0 ∷ 100 ∷ 0 ∷ 0 ∷ []) (link 1 0 1 ∷ link 1 2 0 ∷ link 1 3 0 ∷ [])
+  where
+    link : ℕ → ℕ → ℕ → Link
+    link w r k = record { writer = w; reader = r; kind = k }
 
 -- the 35 events, up to just after the first arrival, the second, the third arrival of task 1, and the rest
 abbrev first-part : List (Event ℕ)

@@ -8,13 +8,15 @@ use mathlib.Core.List.{List, [], _∷_}
 use Prim.Native.Nat.{ℕ}
 use borrow.Author.Tests.{ne-eqb}
 use lib.Dec.{eqb}
+use lib.ListN.{length}
 use Rattle.protocol.specs.Event.{Event, arrival, start, read, finish}
 use Rattle.protocol.specs.Table.{Table}
 use Rattle.protocol.specs.Schedule.{urgent, Possible, AllPossible, judged}
 use Rattle.protocol.specs.Published.{Lowest, Step, number, numbers}
 use Rattle.protocol.specs.Published as published
-use Rattle.protocol.proofs.Schedule.{judged-possible, run-possible}
-use Rattle.protocol_state.specs.Saved.{Size, Saved, at, table, boxes}
+use Rattle.protocol.proofs.Schedule.{judged-possible}
+use Rattle.protocol_state.specs.Records.{Task, Link, linkOf}
+use Rattle.protocol_state.specs.Saved.{Size, Saved, table, boxes}
 use Rattle.protocol_state.specs.Rules.{judgedTable}
 use Rattle.protocol_state.specs.Judge.{judgedOn}
 use Rattle.protocol_state.specs.Next.{next, valueOf}
@@ -43,10 +45,6 @@ module _ {ahead : ℕ → ℕ → Bool} {size : Size} {q₀ : Saved} {o : Progre
   pub reached-refusal : (e : Event ℕ) → give ahead size (o .state) e .refusal ≡ judged (table ahead q₀) (urgent (table ahead q₀)) (o .history) e
   reached-refusal e = give-refusal ahead size (o .state) e reached-sound ∙ judged-history e
 
-  -- the accepted events could happen, each in its turn
-  pub reached-possible : AllPossible (table ahead q₀) (urgent (table ahead q₀)) (o .history)
-  reached-possible = run-possible (table ahead q₀) (urgent (table ahead q₀)) (r .run)
-
   -- an allowed event is a step of the published protocol
   pub reached-step : (e : Event ℕ) → judgedOn ahead (o .state) e ≡ 0 → Step (table ahead q₀) (Lowest (table ahead q₀)) e (boxes (o .state)) (boxes (next ahead (o .state) e))
   reached-step e ok = subst (λ (T : Table ℕ). Step T (Lowest T) e (boxes (o .state)) (boxes (next ahead (o .state) e))) (r .same) (step (o .state) (r .shape) (r .sound) e ok)
@@ -56,14 +54,14 @@ module _ {ahead : ℕ → ℕ → Bool} {size : Size} {q₀ : Saved} {o : Progre
   reached-number l ok = number-read (o .state) (r .shape) (r .sound) l ok ∙ ap (λ (T : Table ℕ). number T (boxes (o .state)) l) (r .same)
 
   -- the numbers of a run that is one event longer
-  noted : (e : Event ℕ) → judgedOn ahead (o .state) e ≡ 0 → (p : Possible (table ahead q₀) (urgent (table ahead q₀)) (o .history) e)
+  noted : (e : Event ℕ) → judgedOn ahead (o .state) e ≡ 0 →
       (t : Step (table ahead q₀) (Lowest (table ahead q₀)) e (boxes (o .state)) (boxes (next ahead (o .state) e)))
-      → note e (valueOf (o .state) e) (o .numbers) ≡ numbers (table ahead q₀) (published.next e (r .run) p t)
+      → note e (valueOf (o .state) e) (o .numbers) ≡ numbers (table ahead q₀) (published.next e (r .run) t)
   unfolding numbers
-  noted (arrival m) ok p t = r .read
-  noted (start u) ok p t = r .read
-  noted (read l) ok p t = rw (reached-number l ok, r .read)
-  noted (finish u v) ok p t = r .read
+  noted (arrival m) ok t = r .read
+  noted (start u) ok t = r .read
+  noted (read l) ok t = rw (reached-number l ok, r .read)
+  noted (finish u v) ok t = r .read
 
 -- an event that is done: its state, and it joins the history
 pub after-done : (ahead : ℕ → ℕ → Bool) (size : Size) (o : Progress) (e : Event ℕ) (q : Saved) (v : ℕ) → give ahead size (o .state) e ≡ reply q 0 v
@@ -79,6 +77,7 @@ after-refused ahead size o e n =
 
 -- one event more
 pub reached-after : {ahead : ℕ → ℕ → Bool} {size : Size} {q₀ : Saved} {o : Progress} → Reached ahead size q₀ o → (e : Event ℕ) → Reached ahead size q₀ (afterEvent ahead size o e)
+unfolding AllPossible
 reached-after {ahead} {size} {q₀} {o} r e = go (give-ways ahead size (o .state) e) where
   go : Ways (isSound ahead size (o .state)) (judgedOn ahead (o .state) e) (o .state) (next ahead (o .state) e) (valueOf (o .state) e) (give ahead size (o .state) e)
       → Reached ahead size q₀ (afterEvent ahead size o e)
@@ -93,8 +92,9 @@ reached-after {ahead} {size} {q₀} {o} r e = go (give-ways ahead size (o .state
         sound = next-sound (r .shape) (r .sound) e (w .1);
         same = table-same ahead (o .state) e ∙ r .same;
         agrees = agrees-next (r .shape) (r .sound) (o .history) (r .agrees) e (w .1);
-        run = published.next e (r .run) p t;
-        read = noted r e (w .1) p t;
+        possible = (p, r .possible);
+        run = published.next e (r .run) t;
+        read = noted r e (w .1) t;
       })
 
 -- any number of events more
@@ -104,19 +104,20 @@ reached-replay [] r = r
 reached-replay (e ∷ es) r = reached-replay es (reached-after r e)
 
 -- the fresh state of a table that earns no refusal, before any event
-pub reached-fresh : (ahead : ℕ → ℕ → Bool) (size : Size) (T L : ℕ) (D W R K : List ℕ) → judgedTable ahead T (at W) (at R) (at K) size L ≡ 0
-    → Reached ahead size (freshOf size T L D W R K) (begin (freshOf size T L D W R K))
-unfolding numbers
-reached-fresh ahead size T L D W R K ok = record {
-  shape = freshes.fresh-shape size T L D W R K;
-  sound = freshes.fresh-sound size T L D W R K ahead ok;
+pub reached-fresh : (ahead : ℕ → ℕ → Bool) (size : Size) (ts : List Task) (ls : List Link) → judgedTable ahead (length ts) (linkOf ls) size (length ls) ≡ 0
+    → Reached ahead size (freshOf size ts ls) (begin (freshOf size ts ls))
+unfolding numbers AllPossible
+reached-fresh ahead size ts ls ok = record {
+  shape = freshes.fresh-shape size ts ls;
+  sound = freshes.fresh-sound size ts ls ahead ok;
   same = refl;
-  agrees = freshes.fresh-agrees size T L D W R K;
-  run = published.fresh (freshes.fresh-boxes size T L D W R K ahead);
+  agrees = freshes.fresh-agrees size ts ls;
+  possible = tt;
+  run = published.fresh (freshes.fresh-boxes size ts ls ahead);
   read = refl;
 }
 
 -- and whatever events are given to it
-pub reached : (ahead : ℕ → ℕ → Bool) (size : Size) (T L : ℕ) (D W R K : List ℕ) → judgedTable ahead T (at W) (at R) (at K) size L ≡ 0 → (es : List (Event ℕ))
-    → Reached ahead size (freshOf size T L D W R K) (replay ahead size (begin (freshOf size T L D W R K)) es)
-reached ahead size T L D W R K ok es = reached-replay es (reached-fresh ahead size T L D W R K ok)
+pub reached : (ahead : ℕ → ℕ → Bool) (size : Size) (ts : List Task) (ls : List Link) → judgedTable ahead (length ts) (linkOf ls) size (length ls) ≡ 0 → (es : List (Event ℕ))
+    → Reached ahead size (freshOf size ts ls) (replay ahead size (begin (freshOf size ts ls)) es)
+reached ahead size ts ls ok es = reached-replay es (reached-fresh ahead size ts ls ok)

@@ -16,7 +16,7 @@ use Rattle.protocol.specs.Table.{N}
 use Rattle.protocol.specs.Ranges.{Position}
 use Rattle.protocol.specs.Published.{leaves}
 use Rattle.protocol.proofs.Schedule.{has-below}
-use Rattle.protocol_state.specs.Saved.{Size, Saved, Shape, at, delayedKind, table}
+use Rattle.protocol_state.specs.Saved.{Size, Saved, Shape, at, delayedKind, linkIn, table}
 use Rattle.protocol_state.specs.Rules.{Obeys}
 use Rattle.protocol_state.specs.Decision.{decided}
 use Rattle.protocol_state.specs.Judge.{judgedArrival, judgedTask, judgedOn}
@@ -37,7 +37,7 @@ table-same ahead q (finish t v) = refl
 
 module _ {ahead : ℕ → ℕ → Bool} {size : Size} (q : Saved) (G : Sound ahead size q) where
   -- each link of a sound state obeys the rules
-  pub obeys : (l : ℕ) → l < q .links → Obeys ahead (q .tasks) (at (q .writer)) (at (q .reader)) (at (q .kind)) l
+  pub obeys : (l : ℕ) → l < q .links → Obeys ahead (q .tasks) (linkIn q) l
   obeys = G .rules .each
 
   -- there is room for its counts
@@ -46,8 +46,8 @@ module _ {ahead : ℕ → ℕ → Bool} {size : Size} (q : Saved) (G : Sound ahe
 
   -- and no task has more than 8 links to readers behind
   pub few : (t : ℕ) → N (table ahead q) t ≤ 8
-  few = rules.few ahead (q .tasks) (at (q .writer)) (at (q .reader)) (at (q .kind)) size (q .links)
-      (rules.keeps-judged ahead (q .tasks) (at (q .writer)) (at (q .reader)) (at (q .kind)) size (q .links) (G .rules))
+  few = rules.few ahead (q .tasks) (linkIn q) size (q .links)
+      (rules.keeps-judged ahead (q .tasks) (linkIn q) size (q .links) (G .rules))
 
   module _ (S : Shape size q) where
     -- ---- an arrival

@@ -2,6 +2,7 @@
 -- the decision table, places of lists, the table rules, soundness
 pub mod Decision
 pub mod Places
+pub mod Records
 pub mod Rules
 pub mod Sound
 -- what each accepted event does: sound stays sound, and it is a step of the published protocol

@@ -9,7 +9,7 @@ use Rattle.lists.specs.Lists.{every}
 use Rattle.lists.proofs.Bools.{and-left, and-right, and-both}
 use Rattle.lists.proofs.Lists.{every-at, every-of}
 use Rattle.protocol.specs.Table.{N}
-use Rattle.protocol_state.specs.Saved.{Size, Saved, at, table}
+use Rattle.protocol_state.specs.Saved.{Size, Saved, at, linkIn, table}
 use Rattle.protocol_state.specs.Rules.{judgedTable}
 use Rattle.protocol_state.specs.Sound.{within, taskOk, pointerOk, isSound, Sound}
 use Rattle.protocol_state.proofs.Rules.{judged-keeps, keeps-judged}
@@ -38,12 +38,12 @@ module _ (ahead : ℕ → ℕ → Bool) (size : Size) (q : Saved) where
   aPointer = pointerOk ahead q
 
   abbrev judgement : ℕ
-  judgement = judgedTable ahead (q .tasks) (at (q .writer)) (at (q .reader)) (at (q .kind)) size (q .links)
+  judgement = judgedTable ahead (q .tasks) (linkIn q) size (q .links)
 
   -- where the test passes, there is room for the counts
   pub sound-room : isSound ahead size q ≡ true → (q .tasks ≤ size .tasks) × (q .links ≤ size .links)
   unfolding isSound
-  sound-room s = rules.room ahead (q .tasks) (at (q .writer)) (at (q .reader)) (at (q .kind)) size (q .links) (eqb-true _ 0 (and-left (eqb judgement 0) _ s))
+  sound-room s = rules.room ahead (q .tasks) (linkIn q) size (q .links) (eqb-true _ 0 (and-left (eqb judgement 0) _ s))
 
   -- where the test passes, the sentence holds
   pub sound-says : isSound ahead size q ≡ true → Sound ahead size q
@@ -53,7 +53,7 @@ module _ (ahead : ℕ → ℕ → Bool) (size : Size) (q : Saved) where
       let tasks : (t : ℕ) → t < q .tasks → aTask t ≡ true = λ t l. every-at aTask (q .tasks) t (and-left (every aTask (q .tasks)) _ rest) l in
       let pointers : (l : ℕ) → l < q .links → aPointer l ≡ true = λ l h. every-at aPointer (q .links) l (and-right (every aTask (q .tasks)) _ rest) h in
       record {
-        rules = judged-keeps ahead (q .tasks) (at (q .writer)) (at (q .reader)) (at (q .kind)) size (q .links) (eqb-true judgement 0 (and-left (eqb judgement 0) _ e));
+        rules = judged-keeps ahead (q .tasks) (linkIn q) size (q .links) (eqb-true judgement 0 (and-left (eqb judgement 0) _ e));
         phase = λ t l. ltb-true (at (q .phase) t) 3 (and-left (ltb (at (q .phase) t) 3) _ (tasks t l));
         newest = λ t l. between (N (table ahead q) t + 2) (at (q .newest) t)
             (and-left (within (N (table ahead q) t) (at (q .newest) t)) _ (and-right (ltb (at (q .phase) t) 3) _ (tasks t l)));
@@ -68,7 +68,7 @@ module _ (ahead : ℕ → ℕ → Bool) (size : Size) (q : Saved) where
   pub says-sound : Sound ahead size q → isSound ahead size q ≡ true
   unfolding isSound
   says-sound G =
-      and-both (eq-eqb judgement 0 (keeps-judged ahead (q .tasks) (at (q .writer)) (at (q .reader)) (at (q .kind)) size (q .links) (G .rules)))
+      and-both (eq-eqb judgement 0 (keeps-judged ahead (q .tasks) (linkIn q) size (q .links) (G .rules)))
       (and-both
       (every-of aTask (q .tasks) (λ t l. and-both (lt-ltb _ 3 (G .phase t l)) (and-both (is-between _ _ (G .newest t l)) (is-between _ _ (G .previous t l)))))
       (every-of aPointer (q .links) (λ l h. and-both (le-leb _ _ (G .pointer l h))

@@ -1,11 +1,12 @@
--- The fresh state of a table: T tasks with the defaults D, L links with writers W, readers R and kinds K.
+-- The fresh state of a table: of the tasks ts and the links ls.
 -- Assumes nothing.
-use mathlib.Core.Bool.{Bool, cond}
-use mathlib.Core.List.{List}
+use mathlib.Core.Bool.{cond}
+use mathlib.Core.List.{List, [], _∷_, map}
 use Prim.Native.Nat.{ℕ, _*_, _/_}
 use lib.Dec.{eqb}
-use lib.ListN.{replicate}
+use lib.ListN.{length, replicate}
 use Rattle.lists.specs.Lists.{upto}
+use Rattle.protocol_state.specs.Records.{Task, defaultOf, Link, linkOf, writers, readers, kinds, aheadOf}
 use Rattle.protocol_state.specs.Saved.{Size, Saved, positions, at}
 use Rattle.protocol_state.specs.Rules.{judgedTable}
 
@@ -18,33 +19,37 @@ abbrev pub filled : ℕ → List ℕ → List ℕ
 filled size D = upto (λ i x. at D (i / positions)) (size * positions) (replicate (size * positions) 0)
 
 -- newest and previous at 1, every position holding the default, every pointer absent, every task idle
-unfoldable pub freshOf : Size → ℕ → ℕ → List ℕ → List ℕ → List ℕ → List ℕ → Saved
-freshOf size T L D W R K = record {
-  tasks = T;
-  links = L;
-  defaults = copied (size .tasks) T D;
+unfoldable pub freshOf : Size → List Task → List Link → Saved
+freshOf size ts ls = record {
+  tasks = length ts;
+  links = length ls;
+  defaults = copied (size .tasks) (length ts) (map defaultOf ts);
   phase = replicate (size .tasks) 0;
   newest = replicate (size .tasks) 1;
   previous = replicate (size .tasks) 1;
-  cells = filled (size .tasks) (copied (size .tasks) T D);
-  writer = copied (size .links) L W;
-  reader = copied (size .links) L R;
-  kind = copied (size .links) L K;
+  cells = filled (size .tasks) (copied (size .tasks) (length ts) (map defaultOf ts));
+  writer = copied (size .links) (length ls) (writers ls);
+  reader = copied (size .links) (length ls) (readers ls);
+  kind = copied (size .links) (length ls) (kinds ls);
   pointer = replicate (size .links) 0;
 }
 
 -- a single task with default 0 and no links
 abbrev pub single : Size → Saved
-single size = freshOf size 1 0 (replicate 1 0) (replicate 0 0) (replicate 0 0) (replicate 0 0)
+single size = freshOf size (0 ∷ []) []
 
 -- what a table makes: its fresh state, or the refusal that it earns and the single task's
 pub record Made : Type 0 where
   pub refusal : ℕ
   pub state : Saved
 
--- which of the two: rules 2 to 9
-unfoldable pub made : (ℕ → ℕ → Bool) → Size → ℕ → ℕ → List ℕ → List ℕ → List ℕ → List ℕ → Made
-made ahead size T L D W R K =
-    cond (eqb (judgedTable ahead T (at W) (at R) (at K) size L) 0)
-    (record { refusal = 0; state = freshOf size T L D W R K })
-    (record { refusal = judgedTable ahead T (at W) (at R) (at K) size L; state = single size })
+-- the refusal of a table, by the order that its tasks give: rules 2 to 9
+abbrev pub judgedLists : Size → List Task → List Link → ℕ
+judgedLists size ts ls = judgedTable (aheadOf ts) (length ts) (linkOf ls) size (length ls)
+
+-- which of the two
+unfoldable pub made : Size → List Task → List Link → Made
+made size ts ls =
+    cond (eqb (judgedLists size ts ls) 0)
+    (record { refusal = 0; state = freshOf size ts ls })
+    (record { refusal = judgedLists size ts ls; state = single size })

@@ -6,7 +6,7 @@ use mathlib.Core.List.{List, [], _∷_}
 use Prim.Native.Nat.{ℕ}
 use lib.Dec.{eqb}
 use Rattle.protocol.specs.Event.{Event, arrival, start, read, finish}
-use Rattle.protocol_state.specs.Saved.{Size, Saved}
+use Rattle.protocol_state.specs.Saved.{Size, Saved, aheadIn}
 use Rattle.protocol_state.specs.Judge.{judgedOn}
 use Rattle.protocol_state.specs.Next.{next, valueOf}
 use Rattle.protocol_state.specs.Sound.{isSound}
@@ -68,3 +68,7 @@ module _ (ahead : ℕ → ℕ → Bool) (size : Size) where
   unfoldable pub AllAccepted : Progress → List (Event ℕ) → Type 0
   AllAccepted o [] = Unit {0}
   AllAccepted o (e ∷ es) = (give (o .state) e .refusal ≡ 0) × AllAccepted (afterEvent o e) es
+
+-- an event given to a state, by the order of the state's own tasks
+abbrev pub givenTo : Size → Saved → Event ℕ → Reply
+givenTo size q e = give (aheadIn q) size q e

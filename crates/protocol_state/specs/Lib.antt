@@ -1,4 +1,5 @@
 -- The protocol on a saved state, with the lowest free position: what the code is held to.
+pub mod Records
 pub mod Saved
 pub mod Rules
 pub mod Decision

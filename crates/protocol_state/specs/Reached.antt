@@ -6,7 +6,7 @@ use mathlib.Core.List.{List}
 use Prim.Native.Nat.{ℕ, suc}
 use Rattle.protocol.specs.Event.{Event}
 use Rattle.protocol.specs.History.{arrivals, starts, finishes}
-use Rattle.protocol.specs.Schedule.{urgent}
+use Rattle.protocol.specs.Schedule.{urgent, AllPossible}
 use Rattle.protocol.specs.Published.{Lowest, Run, numbers}
 use Rattle.protocol_state.specs.Saved.{Size, Saved, Shape, at, table, boxes}
 use Rattle.protocol_state.specs.Sound.{Sound}
@@ -22,12 +22,13 @@ pub data InPhase : ℕ → ℕ → ℕ → ℕ → Type 0 where
 abbrev pub Agrees : List (Event ℕ) → Saved → Type 0
 Agrees h q = (t : ℕ) → InPhase (at (q .phase) t) (arrivals h t) (starts h t) (finishes h t)
 
--- what holds of an outcome that the state q₀ came to: a sound state of the same table, whose phases are the history's, whose boxes are those of a run of
--- the published protocol over the accepted events, and whose numbers are those that this run reads
+-- what holds of an outcome that the state q₀ came to: a sound state of the same table, whose phases are the history's; the accepted events could happen; the
+-- boxes are those of a run of the published protocol over them, and the numbers are those that this run reads
 pub record Reached (ahead : ℕ → ℕ → Bool) (size : Size) (q₀ : Saved) (o : Progress) : Type 0 where
   pub shape : Shape size (o .state)
   pub sound : Sound ahead size (o .state)
   pub same : table ahead (o .state) ≡ table ahead q₀
   pub agrees : Agrees (o .history) (o .state)
-  pub run : Run (table ahead q₀) (urgent (table ahead q₀)) (Lowest (table ahead q₀)) (boxes (o .state)) (o .history)
+  pub possible : AllPossible (table ahead q₀) (urgent (table ahead q₀)) (o .history)
+  pub run : Run (table ahead q₀) (Lowest (table ahead q₀)) (boxes (o .state)) (o .history)
   pub read : o .numbers ≡ numbers (table ahead q₀) run

@@ -1,4 +1,4 @@
--- Links a station may have: refusals 2 to 9. T counts the tasks, L the links; W, R and K are the links' writers, readers and kinds.
+-- Links a station may have: refusals 2 to 9. T counts the tasks, L the links; `link l` is link l.
 -- Assumes nothing.
 use mathlib.Core.Path.{_≡_}
 use mathlib.Core.Logic.{_≢_}
@@ -7,6 +7,7 @@ use Prim.Native.Nat.{ℕ, _≤_, _<_}
 use lib.Dec.{eqb, ltb, leb}
 use Rattle.lists.specs.Lists.{some, leading}
 use Rattle.protocol.specs.Table.{behinds}
+use Rattle.protocol_state.specs.Records.{Link}
 use Rattle.protocol_state.specs.Saved.{Size}
 
 -- what `ahead` is: a strict order. Nobody is ahead of himself, of two tasks one is ahead of the other, and who is ahead of one that is ahead is ahead
@@ -15,39 +16,43 @@ pub record Ranks (ahead : ℕ → ℕ → Bool) : Type 0 where
   pub either : (u t : ℕ) → u ≢ t → ahead u t ≡ false → ahead t u ≡ true
   pub onward : (u t s : ℕ) → ahead u t ≡ true → ahead t s ≡ true → ahead u s ≡ true
 
--- link j goes from w to r
-abbrev pub joins : (ℕ → ℕ) → (ℕ → ℕ) → ℕ → ℕ → ℕ → Bool
-joins W R w r j = eqb (W j) w && eqb (R j) r
+-- two links with the same writer and the same reader
+abbrev pub alike : Link → Link → Bool
+alike x y = eqb (y .writer) (x .writer) && eqb (y .reader) (x .reader)
 
 module _ (ahead : ℕ → ℕ → Bool) where
-  -- a link from w to r of kind k; twice: its writer has an earlier link to its reader; n: its writer's earlier links to readers behind
-  abbrev pub faultOf : ℕ → ℕ → ℕ → ℕ → Bool → ℕ → ℕ
-  faultOf T w r k twice n =
-      cond (leb T w || leb T r) 4
-      (cond (eqb w r) 5
-      (cond (ltb 1 k) 6
-      (cond (eqb k 0 && ahead r w) 7
+  -- the link x of a table of T tasks; twice: its writer has an earlier link to its reader; n: its writer's earlier links to readers behind
+  abbrev pub faultOf : ℕ → Link → Bool → ℕ → ℕ
+  faultOf T x twice n =
+      cond (leb T (x .writer) || leb T (x .reader)) 4
+      (cond (eqb (x .writer) (x .reader)) 5
+      (cond (ltb 1 (x .kind)) 6
+      (cond (eqb (x .kind) 0 && ahead (x .reader) (x .writer)) 7
       (cond twice 8
-      (cond (ahead w r && leb 8 n) 9 0)))))
+      (cond (ahead (x .writer) (x .reader) && leb 8 n) 9 0)))))
 
-  -- the same after the first n links of writers W and readers R
-  abbrev pub faultAfter : ℕ → (ℕ → ℕ) → (ℕ → ℕ) → ℕ → ℕ → ℕ → ℕ → ℕ
-  faultAfter T W R n w r k = faultOf T w r k (some (joins W R w r) n) (behinds ahead W R w n)
+  -- how many of the first n links go from task t to readers behind
+  abbrev pub linksBehind : (ℕ → Link) → ℕ → ℕ → ℕ
+  linksBehind link t n = behinds ahead (λ l. link l .writer) (λ l. link l .reader) t n
 
-  module _ (T : ℕ) (W R K : ℕ → ℕ) where
+  -- the fault of the link x after the first n links
+  abbrev pub faultAfter : ℕ → (ℕ → Link) → ℕ → Link → ℕ
+  faultAfter T link n x = faultOf T x (some (λ j. alike x (link j)) n) (linksBehind link (x .writer) n)
+
+  module _ (T : ℕ) (link : ℕ → Link) where
     -- the refusal that link l earns, in rising order; 0 is none
     unfoldable pub fault : ℕ → ℕ
-    fault l = faultAfter T W R l (W l) (R l) (K l)
+    fault l = faultAfter T link l (link l)
 
     -- link l obeys the rules 4 to 9
     pub record Obeys (l : ℕ) : Type 0 where
-      pub writer : W l < T
-      pub reader : R l < T
-      pub apart : W l ≢ R l
-      pub kind : K l ≤ 1
-      pub direct : K l ≡ 0 → ahead (R l) (W l) ≡ false
-      pub single : (j : ℕ) → j < l → W j ≡ W l → R j ≢ R l
-      pub few : ahead (W l) (R l) ≡ true → behinds ahead W R (W l) l < 8
+      pub writer : link l .writer < T
+      pub reader : link l .reader < T
+      pub apart : link l .writer ≢ link l .reader
+      pub kind : link l .kind ≤ 1
+      pub direct : link l .kind ≡ 0 → ahead (link l .reader) (link l .writer) ≡ false
+      pub single : (j : ℕ) → j < l → link j .writer ≡ link l .writer → link j .reader ≢ link l .reader
+      pub few : ahead (link l .writer) (link l .reader) ≡ true → linksBehind link (link l .writer) l < 8
 
     -- the refusal that a whole table earns: its counts (2, 3), then the first link at fault
     unfoldable pub judgedTable : Size → ℕ → ℕ

@@ -8,6 +8,7 @@ use lib.Dec.{eqb, leb}
 use lib.ListN.{getD, length}
 use Rattle.protocol.specs.Table.{Table}
 use Rattle.protocol.specs.Published.{Boxes}
+use Rattle.protocol_state.specs.Records.{Task, Link, firstTasks, aheadOf}
 
 -- how many tasks and links there is room for
 pub record Size : Type 0 where
@@ -59,6 +60,17 @@ pub record Shape (size : Size) (q : Saved) : Type 0 where
 -- the kind of a delayed link
 abbrev pub delayedKind : ℕ → Bool
 delayedKind k = eqb k 1
+
+-- its tasks, and who is ahead of whom by them
+abbrev pub tasksIn : Saved → List Task
+tasksIn q = firstTasks (q .tasks) (q .defaults)
+
+abbrev pub aheadIn : Saved → ℕ → ℕ → Bool
+aheadIn q = aheadOf (tasksIn q)
+
+-- its link l
+abbrev pub linkIn : Saved → ℕ → Link
+linkIn q l = record { writer = at (q .writer) l; reader = at (q .reader) l; kind = at (q .kind) l }
 
 -- its table, under the order `ahead`
 abbrev pub table : (ℕ → ℕ → Bool) → Saved → Table ℕ

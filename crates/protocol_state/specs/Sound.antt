@@ -7,7 +7,7 @@ use lib.Dec.{eqb, ltb, leb}
 use Rattle.lists.specs.Lists.{every}
 use Rattle.protocol.specs.Table.{N}
 use Rattle.protocol.specs.Ranges.{Position}
-use Rattle.protocol_state.specs.Saved.{Size, Saved, at, table, oneTo}
+use Rattle.protocol_state.specs.Saved.{Size, Saved, at, linkIn, aheadIn, table, oneTo}
 use Rattle.protocol_state.specs.Rules.{judgedTable, KeepsRules}
 
 -- y is one of N + 2 positions
@@ -35,17 +35,24 @@ module _ (ahead : ℕ → ℕ → Bool) where
   -- the test: the table keeps rules 2 to 9, each task and each pointer is as it must be
   unfoldable pub isSound : Size → Saved → Bool
   isSound size q =
-      eqb (judgedTable ahead (q .tasks) (at (q .writer)) (at (q .reader)) (at (q .kind)) size (q .links)) 0
+      eqb (judgedTable ahead (q .tasks) (linkIn q) size (q .links)) 0
       && (every (taskOk q) (q .tasks) && every (pointerOk q) (q .links))
 
   -- document 01's sentence: the table keeps rules 2 to 9, newest and previous lie in 1 to N + 2, each present pointer does so for its writer,
   -- no pointer of an active reader is absent, and every pointer from a writer ahead of an idle reader is absent. `phase` says besides that a saved
   -- number is one of the three phases: the document knows no other
   pub record Sound (size : Size) (q : Saved) : Type 0 where
-    pub rules : KeepsRules ahead (q .tasks) (at (q .writer)) (at (q .reader)) (at (q .kind)) size (q .links)
+    pub rules : KeepsRules ahead (q .tasks) (linkIn q) size (q .links)
     pub phase : (t : ℕ) → t < q .tasks → at (q .phase) t < 3
     pub newest : (t : ℕ) → t < q .tasks → Position (table ahead q) t (at (q .newest) t)
     pub previous : (t : ℕ) → t < q .tasks → Position (table ahead q) t (at (q .previous) t)
     pub pointer : (l : ℕ) → l < q .links → at (q .pointer) l ≤ N (table ahead q) (at (q .writer) l) + 2
     pub present : (l : ℕ) → l < q .links → (at (q .phase) (at (q .reader) l) ≡ 0 → ⊥) → 1 ≤ at (q .pointer) l
     pub absent : (l : ℕ) → l < q .links → ahead (at (q .writer) l) (at (q .reader) l) ≡ true → at (q .phase) (at (q .reader) l) ≡ 0 → at (q .pointer) l ≡ 0
+
+-- the test and the sentence, by the order of the state's own tasks
+abbrev pub testedSound : Size → Saved → Bool
+testedSound size q = isSound (aheadIn q) size q
+
+abbrev pub StandsSound : Size → Saved → Type 0
+StandsSound size q = Sound (aheadIn q) size q

@@ -12,7 +12,7 @@ use Rattle.protocol_state.proofs.Totals.{reached-totals}
 use Rattle.recording_core.specs.Playing.{Playing}
 use Rattle.recording_core.specs.Right.{Right}
 
-module _ {ahead : ℕ → ℕ → Bool} {size : Size} {q₀ : Saved} {out : List ℕ} {h : List (Event ℕ)} {q : Playing} (R : Right ahead size q₀ out h q) where
+module _ {size : Size} {q₀ : Saved} {out : List ℕ} {h : List (Event ℕ)} {q : Playing} (R : Right size q₀ out h q) where
   -- arrivals counted task by task are finishes and tasks still active
   pub answer-totals : q .counts .arrivals ≡ q .counts .finishes + count (busy (q .state)) (q₀ .tasks)
   answer-totals =

@@ -2,59 +2,57 @@
 -- every event possible in its turn by history alone, and no more reads than the list has room.
 -- Assumes nothing.
 use mathlib.Core.Path.{_≡_, refl, _∙_}
-use mathlib.Core.Bool.{Bool}
 use mathlib.Core.List.{List, []}
 use Prim.Native.Nat.{ℕ, _≤_, _<_}
 use native.Mathlib.Omega.{arith}
 use lib.ListN.{length, take}
 use Rattle.protocol.specs.Event.{Event}
-use Rattle.protocol_state.specs.Saved.{Size, at}
-use Rattle.protocol_state.specs.Rules.{Ranks, judgedTable}
+use Rattle.protocol_state.specs.Records.{Task, linkOf, aheadOf}
+use Rattle.protocol_state.specs.Saved.{Size}
+use Rattle.protocol_state.specs.Fresh.{freshOf, judgedLists}
 use Rattle.protocol_state.proofs.Rules.{obeys, no-fault}
-use Rattle.protocol_state.proofs.History.{reached-possible}
 use Rattle.byte_format.specs.Number.{Bytes}
 use Rattle.byte_format.specs.Format.{got}
 use Rattle.byte_format.specs.Play.{Verdict, verdict, Allowed, Cut}
-use Rattle.recording_format.specs.Link.{Link, listed}
+use Rattle.recording_format.specs.Link.{Link}
 use Rattle.byte_format.specs.Section.{Faulty}
 use Rattle.recording_format.specs.Event.{eventAt, events}
 use Rattle.recording_format.specs.RecordingKind.{RecordingKind, InRoom, CountsFit, eventLimit}
 use Rattle.recording_format.specs.Recording.{encodeRecording, recording, throughE, stateAfter, Recorded}
 use Rattle.recording_format.specs.Outcome.{TableTo}
 use Rattle.recording_format.proofs.Sizes.{tasks-within, within-tasks, links-within, within-links, events-within, within-events, tasks-fit, links-fit, events-fit}
-use Rattle.recording_format.proofs.LinkRules.{length-listed, allowed-no-fault, no-fault-allowed, allowed-judged, recorded-judged}
+use Rattle.recording_format.proofs.LinkRules.{allowed-no-fault, no-fault-allowed, allowed-judged, recorded-judged}
 use Rattle.recording_format.proofs.Recordings.{accepted-recorded, recorded-accepted}
 use Rattle.recording_format.proofs.Cuts.{recorded-cut}
 use Rattle.recording_format.proofs.WholeRecords.{cut-as-whole}
 use Rattle.recording_format.proofs.Onward.{any-allowed}
 use Rattle.recording_core.specs.Playing.{Playing, coreOf, judgedIn, steppedIn}
-use Rattle.recording_core.specs.Promise.{freshTable, refusedBy, tableOf, CoreGenuine}
+use Rattle.recording_core.specs.Promise.{refusedBy, tableOf, CoreGenuine}
 use Rattle.protocol.specs.History.{past}
 use Rattle.recording_core.specs.Right.{Right}
 use Rattle.recording_core.proofs.Right.{refused-by, right-fresh, right-finally, happens-allowed}
 
 -- a table that earns no refusal
-abbrev Fine : (ℕ → ℕ → Bool) → Size → List ℕ → List Link → Type 0
-Fine ahead size ds ls = judgedTable ahead (length ds) (at (listed ls .writer)) (at (listed ls .reader)) (at (listed ls .kind)) size (length (listed ls .writer)) ≡ 0
+abbrev Fine : Size → List Task → List Link → Type 0
+Fine size ds ls = judgedLists size ds ls ≡ 0
 
-module _ {ahead : ℕ → ℕ → Bool} (ranks : Ranks ahead) (kind : RecordingKind) (size : Size) (held : InRoom kind size) (out : List ℕ) where
+module _ (kind : RecordingKind) (size : Size) (held : InRoom kind size) (out : List ℕ) where
   -- a table whose links earn no refusal begins right
-  begins : (ds : List ℕ) (ls : List Link) → Fine ahead size ds ls
-      → Right ahead size (freshTable size ds ls) out [] (coreOf ahead size out .start ds (listed ls))
-  begins ds ls ok = right-fresh ahead size (length ds) (length (listed ls .writer)) ds (listed ls .writer) (listed ls .reader) (listed ls .kind) out ok
+  begins : (ds : List ℕ) (ls : List Link) → Fine size ds ls
+      → Right size (freshOf size ds ls) out [] (coreOf size out .start ds ls)
+  begins ds ls ok = right-fresh size ds ls out ok
 
   -- and events that are accepted leave it right
-  goes-on : (ds : List ℕ) (ls : List Link) (es : List (Event ℕ)) → Fine ahead size ds ls
-      → Allowed (judgedIn ahead) (steppedIn ahead) (coreOf ahead size out .start ds (listed ls)) es
-      → Right ahead size (freshTable size ds ls) out (past [] es) (stateAfter (coreOf ahead size out) ds ls es)
-  goes-on ds ls es ok a = right-finally ranks es (begins ds ls ok) a
+  goes-on : (ds : List ℕ) (ls : List Link) (es : List (Event ℕ)) → Fine size ds ls
+      → Allowed judgedIn steppedIn (coreOf size out .start ds ls) es
+      → Right size (freshOf size ds ls) out (past [] es) (stateAfter (coreOf size out) ds ls es)
+  goes-on ds ls es ok a = right-finally es (begins ds ls ok) a
 
   module _ {s ds : List ℕ} {ls : List Link} {es : List (Event ℕ)} where
     -- what the reader accepts as a recording is one by the document's words
-    pub recorded-genuine : Recorded ahead kind (coreOf ahead size out) s ds ls es → CoreGenuine ahead kind size s out ds ls es
+    pub recorded-genuine : Recorded kind (coreOf size out) s ds ls es → CoreGenuine kind size s out ds ls es
     recorded-genuine r =
-        let n = length-listed ls in
-        let ok : Fine ahead size ds ls = recorded-judged ahead kind size held (coreOf ahead size out) s ds ls es r in
+        let ok : Fine size ds ls = recorded-judged kind size held (coreOf size out) s ds ls es r in
         let R = goes-on ds ls es ok (r .played .allowed) in
         record {
           bytes = r .bytes;
@@ -62,63 +60,62 @@ module _ {ahead : ℕ → ℕ → Bool} (ranks : Ranks ahead) (kind : RecordingK
           few-tasks = tasks-within kind (length ds) (r .tasked .few);
           few-links = links-within kind (length ls) (r .linked .few);
           few-events = events-within kind (length es) (r .played .few);
-          rules = λ l k. obeys ahead (length ds) (at (listed ls .writer)) (at (listed ls .reader)) (at (listed ls .kind)) l (allowed-no-fault ahead (length ds) ls (r .linked .allowed) l (rw n k));
-          happens = reached-possible (R .reached);
+          rules = λ l k. obeys (aheadOf ds) (length ds) (linkOf ls) l (allowed-no-fault (aheadOf ds) (length ds) ls (r .linked .allowed) l k);
+          happens = R .reached .possible;
           room = omega (arith, R .room);
         }
 
   -- demand 2: accepted only if genuine
-  pub accepted-genuine : (s : List ℕ) → Bytes s → recording ahead kind (coreOf ahead size out) s .refusal ≡ 0
-      → (ds : List ℕ) × ((ls : List Link) × ((es : List (Event ℕ)) × CoreGenuine ahead kind size s out ds ls es))
+  pub accepted-genuine : (s : List ℕ) → Bytes s → recording kind (coreOf size out) s .refusal ≡ 0
+      → (ds : List ℕ) × ((ls : List Link) × ((es : List (Event ℕ)) × CoreGenuine kind size s out ds ls es))
   accepted-genuine s b z =
-      let r = accepted-recorded ahead kind (coreOf ahead size out) s b z in
+      let r = accepted-recorded kind (coreOf size out) s b z in
       (r .0, (r .1 .0, (r .1 .1 .0, recorded-genuine (r .1 .1 .1 .0))))
 
   -- and the other way round, where each limit fits the bytes of its count
-  module _ (counts : CountsFit kind) {s ds : List ℕ} {ls : List Link} {es : List (Event ℕ)} (g : CoreGenuine ahead kind size s out ds ls es) where
-    pub genuine-recorded : Recorded ahead kind (coreOf ahead size out) s ds ls es
+  module _ (counts : CountsFit kind) {s ds : List ℕ} {ls : List Link} {es : List (Event ℕ)} (g : CoreGenuine kind size s out ds ls es) where
+    pub genuine-recorded : Recorded kind (coreOf size out) s ds ls es
     genuine-recorded =
-        let n = length-listed ls in
         let t = within-tasks kind (length ds) (g .few-tasks .0) (g .few-tasks .1) in
         let k = within-links kind (length ls) (g .few-links) in
         let v = within-events kind (length es) (g .few-events) in
-        let a = no-fault-allowed ahead (length ds) ls (λ l h. no-fault ahead (length ds) (at (listed ls .writer)) (at (listed ls .reader)) (at (listed ls .kind)) l (g .rules l (rw n at h))) in
-        let ok : Fine ahead size ds ls = allowed-judged ahead (length ds) kind size held ls t k a in
+        let a = no-fault-allowed (aheadOf ds) (length ds) ls (λ l h. no-fault (aheadOf ds) (length ds) (linkOf ls) l (g .rules l h)) in
+        let ok : Fine size ds ls = allowed-judged (aheadOf ds) (length ds) kind size held ls t k a in
         record {
           bytes = g .bytes;
           tasked = record { counted = tasks-fit kind (length ds) counts t; few = t; fits = g .fits .0; allowed = any-allowed [] ds };
           linked = record { counted = links-fit kind (length ls) counts k; few = k; fits = g .fits .1 .0; allowed = a };
-          played = record { counted = events-fit kind (length es) counts v; few = v; fits = g .fits .1 .1; allowed = happens-allowed ranks es (begins ds ls ok) (g .happens) (g .room) };
+          played = record { counted = events-fit kind (length es) counts v; few = v; fits = g .fits .1 .1; allowed = happens-allowed es (begins ds ls ok) (g .happens) (g .room) };
         }
 
     -- demand 2: always accepted if genuine; the place is the length, and the state, the counts and the list are those of its events
-    pub genuine-accepted : (q : Playing) × (recording ahead kind (coreOf ahead size out) s ≡ verdict 0 (length s) q) × Right ahead size (freshTable size ds ls) out (past [] es) q
+    pub genuine-accepted : (q : Playing) × (recording kind (coreOf size out) s ≡ verdict 0 (length s) q) × Right size (freshOf size ds ls) out (past [] es) q
     genuine-accepted =
-        let ok : Fine ahead size ds ls = recorded-judged ahead kind size held (coreOf ahead size out) s ds ls es genuine-recorded in (
-          stateAfter (coreOf ahead size out) ds ls es,
-          recorded-accepted ahead kind (coreOf ahead size out) s ds ls es genuine-recorded refl,
+        let ok : Fine size ds ls = recorded-judged kind size held (coreOf size out) s ds ls es genuine-recorded in (
+          stateAfter (coreOf size out) ds ls es,
+          recorded-accepted kind (coreOf size out) s ds ls es genuine-recorded refl,
           goes-on ds ls es ok (genuine-recorded .played .allowed),
         )
 
     -- the power cut: of an accepted recording only the first m bytes are kept, at least through E. The answer has 1 at the first record that isn't whole,
     -- and the state after the whole records
     pub power-cut : (m : ℕ) → throughE kind ds ls ≤ m → m < length s
-        → Cut (events kind) (steppedIn ahead) (coreOf ahead size out .start ds (listed ls)) es (throughE kind ds ls) m (recording ahead kind (coreOf ahead size out) (take m s))
-    power-cut m h l = recorded-cut ahead kind (coreOf ahead size out) s ds ls es genuine-recorded m h l
+        → Cut (events kind) steppedIn (coreOf size out .start ds ls) es (throughE kind ds ls) m (recording kind (coreOf size out) (take m s))
+    power-cut m h l = recorded-cut kind (coreOf size out) s ds ls es genuine-recorded m h l
 
     -- "The answer is that of its whole records (state, counts, list)": the recording of those records alone is accepted, at the place and with the state
     -- of the answer x to the cut
     pub cut-whole :
-        (m : ℕ) {x : Verdict Playing} (c : Cut (events kind) (steppedIn ahead) (coreOf ahead size out .start ds (listed ls)) es (throughE kind ds ls) m x) →
-        recording ahead kind (coreOf ahead size out) (encodeRecording kind ds ls (c .whole)) ≡ verdict 0 (x .place) (x .state)
-    cut-whole m c = cut-as-whole ahead kind (coreOf ahead size out) s ds ls es genuine-recorded m c
+        (m : ℕ) {x : Verdict Playing} (c : Cut (events kind) steppedIn (coreOf size out .start ds ls) es (throughE kind ds ls) m x) →
+        recording kind (coreOf size out) (encodeRecording kind ds ls (c .whole)) ≡ verdict 0 (x .place) (x .state)
+    cut-whole m c = cut-as-whole kind (coreOf size out) s ds ls es genuine-recorded m c
 
-  table-ok : {s ds : List ℕ} {ls : List Link} {m : ℕ} → TableTo ahead kind s ds ls m → Fine ahead size ds ls
-  table-ok {ds = ds} {ls = ls} t = allowed-judged ahead (length ds) kind size held ls (t .tasked .kept .few) (t .linked .kept .few) (t .linked .kept .allowed)
+  table-ok : {s ds : List ℕ} {ls : List Link} {m : ℕ} → TableTo kind s ds ls m → Fine size ds ls
+  table-ok {ds = ds} {ls = ls} t = allowed-judged (aheadOf ds) (length ds) kind size held ls (t .tasked .kept .few) (t .linked .kept .few) (t .linked .kept .allowed)
 
   -- an event record that is refused, its bytes being there: by the table and the accepted events alone
   pub event-refused :
-      {s ds : List ℕ} {ls : List Link} {m r p : ℕ} {es : List (Event ℕ)} → TableTo ahead kind s ds ls m
-      → Faulty (events kind) (eventLimit kind) (judgedIn ahead) (steppedIn ahead) s (coreOf ahead size out .start ds (listed ls)) m es r p
-      → {e : Event ℕ} {n : ℕ} → eventAt kind s p ≡ got e n → r ≡ refusedBy (tableOf ahead size ds ls) out (past [] es) e
+      {s ds : List ℕ} {ls : List Link} {m r p : ℕ} {es : List (Event ℕ)} → TableTo kind s ds ls m
+      → Faulty (events kind) (eventLimit kind) judgedIn steppedIn s (coreOf size out .start ds ls) m es r p
+      → {e : Event ℕ} {n : ℕ} → eventAt kind s p ≡ got e n → r ≡ refusedBy (tableOf size ds ls) out (past [] es) e
   event-refused {ds = ds} {ls = ls} {es = es} t f {e} u = f .fault ∙ rw u (refused-by (goes-on ds ls es (table-ok t) (f .played .allowed)) e)

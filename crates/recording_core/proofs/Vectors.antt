@@ -4,7 +4,6 @@
 use mathlib.Core.Path.{_≡_, refl}
 use mathlib.Core.List.{List, [], _∷_, _++_, map}
 use Prim.Native.Nat.{ℕ, _-_, _*_}
-use lib.Dec.{ltb}
 use lib.ListN.{length, replicate}
 use Rattle.lists.specs.Lists.{upto, every, some, count, first, leading}
 use Rattle.protocol.specs.Event.{Event, arrival, start, read, finish, has}
@@ -30,7 +29,7 @@ filledUp n x xs = xs ++ replicate (n - length xs) x
 
 -- the answer to these bytes, with room for eight numbers, each 7 at first
 abbrev answer : List ℕ → Verdict Playing
-answer s = recording ltb baseRecording (coreOf ltb base (replicate 8 7)) s
+answer s = recording baseRecording (coreOf base (replicate 8 7)) s
 
 -- refusal r, 0 for none, at p, with this state and these counts: arrivals, starts, reads and finishes; and with these numbers read
 abbrev replied : ℕ → ℕ → Saved → ℕ → ℕ → ℕ → ℕ → List ℕ → Verdict Playing

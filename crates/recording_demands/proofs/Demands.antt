@@ -3,14 +3,12 @@
 use mathlib.Core.Path.{_≡_, ap, sym, subst, _∙_}
 use mathlib.Core.List.{List, []}
 use Prim.Native.Nat.{ℕ, _≤_, _<_}
-use lib.Dec.{ltb}
 use lib.ListN.{length, take, drop}
 use lib.Seq.{drop-length}
 use Rattle.protocol.specs.Event.{Event}
 use Rattle.protocol_state.specs.Saved.{base}
-use Rattle.protocol_state.proofs.Rules.{ltb-ranks}
 use Rattle.byte_format.specs.Play.{Verdict, verdict, Cut}
-use Rattle.recording_format.specs.Link.{Link, listed}
+use Rattle.recording_format.specs.Link.{Link}
 use Rattle.recording_format.specs.Event.{events}
 use Rattle.recording_format.specs.RecordingKind.{baseRecording}
 use Rattle.recording_format.specs.Recording.{encodeRecording, throughE, recording}
@@ -19,8 +17,9 @@ use Rattle.recording_format.proofs.Base.{base-room, base-counts}
 use Rattle.recording_format.proofs.Outcomes.{recording-outcome}
 use Rattle.recording_format.proofs.Decided.{outcome-is}
 use Rattle.recording_core.specs.Playing.{Playing, coreOf, steppedIn}
-use Rattle.recording_core.specs.Promise.{freshTable, CoreGenuine}
+use Rattle.recording_core.specs.Promise.{CoreGenuine}
 use Rattle.protocol.specs.History.{past}
+use Rattle.protocol_state.specs.Fresh.{freshOf}
 use Rattle.recording_core.specs.Right.{Right}
 use Rattle.recording_core.proofs.Promises.{accepted-genuine, genuine-accepted, power-cut, cut-whole}
 use Rattle.recording.specs.Answers.{replied}
@@ -29,21 +28,21 @@ use Rattle.recording_demands.specs.Ensured.{Replays}
 
 module _ {s out list : List ℕ} {a : Answer} (said : Replays s out a list) where
   -- where the first fault lies, or that there is none
-  pub answered : RecordingOutcome ltb baseRecording (coreOf ltb base out) s (replied a list)
+  pub answered : RecordingOutcome baseRecording (coreOf base out) s (replied a list)
   answered =
-      subst (λ (x : Verdict Playing). RecordingOutcome ltb baseRecording (coreOf ltb base out) s x) (sym (said .answer)) (recording-outcome ltb baseRecording (coreOf ltb base out) s (said .bytes))
+      subst (λ (x : Verdict Playing). RecordingOutcome baseRecording (coreOf base out) s x) (sym (said .answer)) (recording-outcome baseRecording (coreOf base out) s (said .bytes))
 
   -- and no other answer has the first fault of these bytes
-  pub only-answer : {x : Verdict Playing} → RecordingOutcome ltb baseRecording (coreOf ltb base out) s x → x ≡ replied a list
-  only-answer o = outcome-is ltb baseRecording (coreOf ltb base out) s o ∙ sym (said .answer)
+  pub only-answer : {x : Verdict Playing} → RecordingOutcome baseRecording (coreOf base out) s x → x ≡ replied a list
+  only-answer o = outcome-is baseRecording (coreOf base out) s o ∙ sym (said .answer)
 
   -- accepted only if there are a table, links and events whose encoding the bytes are, and so on
-  pub accepted-only : a .refusal ≡ 0 → (ds : List ℕ) × ((ls : List Link) × ((es : List (Event ℕ)) × CoreGenuine ltb baseRecording base s out ds ls es))
-  accepted-only z = accepted-genuine ltb-ranks baseRecording base base-room out s (said .bytes) (sym (ap (λ (x : Verdict Playing). x .refusal) (said .answer)) ∙ z)
+  pub accepted-only : a .refusal ≡ 0 → (ds : List ℕ) × ((ls : List Link) × ((es : List (Event ℕ)) × CoreGenuine baseRecording base s out ds ls es))
+  accepted-only z = accepted-genuine baseRecording base base-room out s (said .bytes) (sym (ap (λ (x : Verdict Playing). x .refusal) (said .answer)) ∙ z)
 
-  module _ {ds : List ℕ} {ls : List Link} {es : List (Event ℕ)} (g : CoreGenuine ltb baseRecording base s out ds ls es) where
-    genuine : (q : Playing) × (recording ltb baseRecording (coreOf ltb base out) s ≡ verdict 0 (length s) q) × Right ltb base (freshTable base ds ls) out (past [] es) q
-    genuine = genuine-accepted ltb-ranks baseRecording base base-room out base-counts g
+  module _ {ds : List ℕ} {ls : List Link} {es : List (Event ℕ)} (g : CoreGenuine baseRecording base s out ds ls es) where
+    genuine : (q : Playing) × (recording baseRecording (coreOf base out) s ≡ verdict 0 (length s) q) × Right base (freshOf base ds ls) out (past [] es) q
+    genuine = genuine-accepted baseRecording base base-room out base-counts g
 
     answer-is : replied a list ≡ verdict 0 (length s) (genuine .0)
     answer-is = said .answer ∙ genuine .1
@@ -57,14 +56,14 @@ module _ {s out list : List ℕ} {a : Answer} (said : Replays s out a list) wher
     accepted-rest = ap (λ (n : ℕ). drop n s) (accepted-all .1) ∙ drop-length s
 
 -- the power cut: of a recording that is accepted only the first m bytes are kept, at least through E
-module _ {s out list ds : List ℕ} {ls : List Link} {es : List (Event ℕ)} {a : Answer} (g : CoreGenuine ltb baseRecording base s out ds ls es) (m : ℕ) (said : Replays (take m s) out a list) where
+module _ {s out list ds : List ℕ} {ls : List Link} {es : List (Event ℕ)} {a : Answer} (g : CoreGenuine baseRecording base s out ds ls es) (m : ℕ) (said : Replays (take m s) out a list) where
   module _ (through : throughE baseRecording ds ls ≤ m) (lost : m < length s) where
     -- 1 at the first record that isn't whole, and the state, the counts and the list after the whole records
-    pub after-cut : Cut (events baseRecording) (steppedIn ltb) (coreOf ltb base out .start ds (listed ls)) es (throughE baseRecording ds ls) m (replied a list)
+    pub after-cut : Cut (events baseRecording) steppedIn (coreOf base out .start ds ls) es (throughE baseRecording ds ls) m (replied a list)
     after-cut =
-        subst (λ (x : Verdict Playing). Cut (events baseRecording) (steppedIn ltb) (coreOf ltb base out .start ds (listed ls)) es (throughE baseRecording ds ls) m x) (sym (said .answer))
-        (power-cut ltb-ranks baseRecording base base-room out base-counts g m through lost)
+        subst (λ (x : Verdict Playing). Cut (events baseRecording) steppedIn (coreOf base out .start ds ls) es (throughE baseRecording ds ls) m x) (sym (said .answer))
+        (power-cut baseRecording base base-room out base-counts g m through lost)
 
     -- "The answer is that of its whole records (state, counts, list)": of a replay of those records alone, with 1 in place of 0
     pub as-whole : {b : Answer} {after : List ℕ} → Replays (encodeRecording baseRecording ds ls (after-cut .whole)) out b after → replied b after ≡ verdict 0 (a .place) (replied a list .state)
-    as-whole whole = whole .answer ∙ cut-whole ltb-ranks baseRecording base base-room out base-counts g m after-cut
+    as-whole whole = whole .answer ∙ cut-whole baseRecording base base-room out base-counts g m after-cut

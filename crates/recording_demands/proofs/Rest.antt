@@ -3,7 +3,6 @@
 use mathlib.Core.Path.{_≡_, sym, ap, _∙_}
 use mathlib.Core.List.{List}
 use Prim.Native.Nat.{ℕ}
-use lib.Dec.{ltb}
 use lib.ListN.{drop, take-append-drop}
 use contract.Lifetimes.{Lfts}
 use denote.Ref.{now}
@@ -24,7 +23,7 @@ use Rattle.recording_demands.proofs.Demands.{answered, accepted-only, a
 pub unread : {s out list rest : List ℕ} {a : Answer} → Replays s out a list → rest ≡ drop (a .place) s → Unread s (a .refusal) (a .place) rest
 unread {s} {out} {list} {rest} {a} said e = record {
   part = e;
-  within = place-within ltb baseRecording (coreOf ltb base out) s (answered said);
+  within = place-within baseRecording (coreOf base out) s (answered said);
   whole = rw e (sym (take-append-drop (a .place) s));
   none = λ z. let g = accepted-only said z in e ∙ accepted-rest said (g .1 .1 .1);
 }

@@ -3,7 +3,6 @@
 use mathlib.Core.Path.{_≡_}
 use mathlib.Core.List.{List}
 use Prim.Native.Nat.{ℕ}
-use lib.Dec.{ltb}
 use Rattle.protocol_state.specs.Saved.{base}
 use Rattle.byte_format.specs.Number.{Bytes}
 use Rattle.mailbox.specs.States.{Whole}
@@ -15,6 +14,6 @@ use Rattle.recording.specs.declared.Answer.{Answer}
 
 -- the three clauses of `recording::replay`, for the bytes s and the lent list out: it answers a and leaves list
 pub record Replays (s out : List ℕ) (a : Answer) (list : List ℕ) : Type 0 where
-  pub answer : replied a list ≡ recording ltb baseRecording (coreOf ltb base out) s
+  pub answer : replied a list ≡ recording baseRecording (coreOf base out) s
   pub whole : Whole (a .state)
   pub bytes : Bytes s

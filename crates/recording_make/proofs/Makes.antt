@@ -4,7 +4,6 @@ use mathlib.Core.Path.{_≡_, ap, _∙_}
 use mathlib.Core.List.{List}
 use Prim.Native.Nat.{ℕ}
 use borrow.Author.Tests.{eq-eqb, ne-eqb}
-use lib.Dec.{ltb}
 use lib.ListN.{length, take, drop}
 use lib.Seq.{take-append-seam}
 use Rattle.protocol_state.specs.Saved.{base}
@@ -51,11 +50,11 @@ module _ (text : List ℕ) (r : Read) (e : r ≡ readOf text) where
   module _ (z : r .fault ≡ 0) {ds ls es : List ℕ} (d : ds ≡ defaultsOf text) (l : ls ≡ linksOf text) (v : es ≡ eventsOf text) where
     pub made-written :
         (room : ℕ) {x : Made} →
-        x ≡ makeReply text (writing ltb baseRecording (stateCore ltb base) ds (linksSaid ls) (eventsSaid es) room) → x ≡ madeOf text room
+        x ≡ makeReply text (writing baseRecording (stateCore base) ds (linksSaid ls) (eventsSaid es) room) → x ≡ madeOf text room
     unfolding madeOf
     made-written room h = h ∙ rw (← e, eq-eqb (r .fault) 0 z, d, l, v)
 
     pub buffer-written :
-        (old : List ℕ) {out : List ℕ} → out ≡ bufferAfter ltb baseRecording (stateCore ltb base) ds (linksSaid ls) (eventsSaid es) old → out ≡ bufferOf text old
+        (old : List ℕ) {out : List ℕ} → out ≡ bufferAfter baseRecording (stateCore base) ds (linksSaid ls) (eventsSaid es) old → out ≡ bufferOf text old
     unfolding bufferOf
     buffer-written old h = h ∙ rw (← e, eq-eqb (r .fault) 0 z, d, l, v)

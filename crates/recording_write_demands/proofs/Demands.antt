@@ -12,8 +12,7 @@ use lib.ListN.{length, take, drop, replicate, length-replicate}
 use lib.Seq.{take-at, drop-at}
 use Rattle.protocol.specs.Event.{Event}
 use Rattle.protocol.specs.History.{reads, past}
-use Rattle.protocol_state.specs.Saved.{Saved, base}
-use Rattle.protocol_state.proofs.Rules.{ltb-ranks}
+use Rattle.protocol_state.specs.Saved.{Saved, base, aheadIn}
 use Rattle.protocol_state.proofs.Give.{judged-small}
 use Rattle.byte_format.specs.Play.{Verdict, verdict}
 use Rattle.byte_format.specs.Handed.{Handed, handed}
@@ -41,7 +40,7 @@ use Rattle.recording_write_demands.specs.Ensured.{Writes, RecordingOf}
 
 -- what is judged: the tasks, and the links and events that the numbers say
 abbrev weighs : List ℕ → List ℕ → List ℕ → Verdict Saved
-weighs ds lw ew = recordingWeighed ltb baseRecording (stateCore ltb base) ds (linksSaid lw) (eventsSaid ew)
+weighs ds lw ew = recordingWeighed baseRecording (stateCore base) ds (linksSaid lw) (eventsSaid ew)
 
 -- their bytes
 abbrev bytes : List ℕ → List ℕ → List ℕ → List ℕ
@@ -50,16 +49,16 @@ bytes ds lw ew = encodeRecording baseRecording ds (linksSaid lw .whole) (eventsS
 -- no refusal of them is 18
 not-eighteen : (ds lw ew : List ℕ) → weighs ds lw ew .refusal ≢ 18
 not-eighteen ds lw ew =
-    not-room ltb baseRecording (stateCore ltb base) ds (linksSaid lw) (eventsSaid ew) (λ q e z. omega (arith, judged-small ltb q e)) (λ q z. omega arith)
+    not-room baseRecording (stateCore base) ds (linksSaid lw) (eventsSaid ew) (λ q e z. omega (arith, judged-small (aheadIn q) q e)) (λ q z. omega arith)
     (λ z. omega (arith, links-ending lw)) (λ z. omega (arith, events-ending ew))
 
 -- a recording that is handed over as what it says is refused nothing
 genuine-weighs :
-    {s out ds : List ℕ} {ls : List Link} {es : List (Event ℕ)} → core.CoreGenuine ltb baseRecording base s out ds ls es →
-    recordingWeighed ltb baseRecording (stateCore ltb base) ds (handed ls 0) (handed es 0) ≡ verdict 0 (length s) (stateAfter (stateCore ltb base) ds ls es)
+    {s out ds : List ℕ} {ls : List Link} {es : List (Event ℕ)} → core.CoreGenuine baseRecording base s out ds ls es →
+    recordingWeighed baseRecording (stateCore base) ds (handed ls 0) (handed es 0) ≡ verdict 0 (length s) (stateAfter (stateCore base) ds ls es)
 genuine-weighs {s} {out} {ds} {ls} {es} g =
-    recorded-whole ltb baseRecording (stateCore ltb base) ds s ls es
-    (recorded-by-state ltb baseRecording base out (genuine-recorded ltb-ranks baseRecording base base-room out base-counts g)) refl
+    recorded-whole baseRecording (stateCore base) ds s ls es
+    (recorded-by-state baseRecording base out (genuine-recorded baseRecording base base-room out base-counts g)) refl
 
 -- as many reads in either order
 pub room-past : (es : List (Event ℕ)) {n : ℕ} → reads es ≤ n → reads (past [] es) ≤ n
@@ -71,7 +70,7 @@ roomOf : List ℕ → List ℕ
 roomOf ew = replicate (reads (past [] (eventsSaid ew .whole))) 0
 
 -- for it a recording that the numbers say is one
-recording-genuine : {ds lw ew s : List ℕ} → RecordingOf ds lw ew s → core.CoreGenuine ltb baseRecording base s (roomOf ew) ds (linksSaid lw .whole) (eventsSaid ew .whole)
+recording-genuine : {ds lw ew s : List ℕ} → RecordingOf ds lw ew s → core.CoreGenuine baseRecording base s (roomOf ew) ds (linksSaid lw .whole) (eventsSaid ew .whole)
 unfolding roomOf reads
 recording-genuine {ew = ew} r =
     let n = reads (past [] (eventsSaid ew .whole)) in
@@ -81,9 +80,9 @@ recording-genuine {ew = ew} r =
 recording-weighs : {ds lw ew s : List ℕ} → RecordingOf ds lw ew s → (weighs ds lw ew .refusal ≡ 0) × (weighs ds lw ew .place ≡ length s)
 recording-weighs {ds} {lw} {ew} {s} r =
     let g = genuine-weighs (recording-genuine r) in
-    let e : weighs ds lw ew ≡ recordingWeighed ltb baseRecording (stateCore ltb base) ds (handed (linksSaid lw .whole) 0) (handed (eventsSaid ew .whole) 0) =
-    ap (λ (k : ℕ). recordingWeighed ltb baseRecording (stateCore ltb base) ds (handed (linksSaid lw .whole) k) (eventsSaid ew)) (r .links-whole)
-    ∙ ap (λ (k : ℕ). recordingWeighed ltb baseRecording (stateCore ltb base) ds (handed (linksSaid lw .whole) 0) (handed (eventsSaid ew .whole) k)) (r .events-whole) in
+    let e : weighs ds lw ew ≡ recordingWeighed baseRecording (stateCore base) ds (handed (linksSaid lw .whole) 0) (handed (eventsSaid ew .whole) 0) =
+    ap (λ (k : ℕ). recordingWeighed baseRecording (stateCore base) ds (handed (linksSaid lw .whole) k) (eventsSaid ew)) (r .links-whole)
+    ∙ ap (λ (k : ℕ). recordingWeighed baseRecording (stateCore base) ds (handed (linksSaid lw .whole) 0) (handed (eventsSaid ew .whole) k)) (r .events-whole) in
     (ap (λ (x : Verdict Saved). x .refusal) (e ∙ g), ap (λ (x : Verdict Saved). x .place) (e ∙ g))
 
 -- the room for the bytes asks nothing of the state
@@ -97,26 +96,26 @@ held-alone room x = go (eqb (x .refusal) 0) (ltb room (x .place)) refl refl
 
 module _ {ds lw ew old new : List ℕ} {a : Written} (said : Writes ds lw ew old a new) where
   -- the refusal of the answer
-  refusal-is : a .refusal ≡ writing ltb baseRecording (stateCore ltb base) ds (linksSaid lw) (eventsSaid ew) (length old) .refusal
+  refusal-is : a .refusal ≡ writing baseRecording (stateCore base) ds (linksSaid lw) (eventsSaid ew) (length old) .refusal
   refusal-is = ap (λ (w : Written). w .refusal) (said .answer)
 
   -- and the place
-  place-is : a .place ≡ writing ltb baseRecording (stateCore ltb base) ds (linksSaid lw) (eventsSaid ew) (length old) .place
+  place-is : a .place ≡ writing baseRecording (stateCore base) ds (linksSaid lw) (eventsSaid ew) (length old) .place
   place-is = ap (λ (w : Written). w .place) (said .answer)
 
   -- which of the three it is
-  way : Way ltb baseRecording (stateCore ltb base) ds (linksSaid lw) (eventsSaid ew) (length old)
-  way = which-way ltb baseRecording (stateCore ltb base) ds (linksSaid lw) (eventsSaid ew) (length old)
+  way : Way baseRecording (stateCore base) ds (linksSaid lw) (eventsSaid ew) (length old)
+  way = which-way baseRecording (stateCore base) ds (linksSaid lw) (eventsSaid ew) (length old)
 
   -- an answer that is this reply
-  is : {x : Verdict Saved} → writing ltb baseRecording (stateCore ltb base) ds (linksSaid lw) (eventsSaid ew) (length old) ≡ x → (a .refusal ≡ x .refusal) × (a .place ≡ x .place)
+  is : {x : Verdict Saved} → writing baseRecording (stateCore base) ds (linksSaid lw) (eventsSaid ew) (length old) ≡ x → (a .refusal ≡ x .refusal) × (a .place ≡ x .place)
   is e = (refusal-is ∙ ap (λ (y : Verdict Saved). y .refusal) e, place-is ∙ ap (λ (y : Verdict Saved). y .place) e)
 
   -- no refusal: nothing is at fault, and there is room
   accepted : a .refusal ≡ 0 → (weighs ds lw ew .refusal ≡ 0) × (a .place ≡ weighs ds lw ew .place) × (weighs ds lw ew .place ≤ length old)
   accepted z = go way
     where
-      go : Way ltb baseRecording (stateCore ltb base) ds (linksSaid lw) (eventsSaid ew) (length old) → (weighs ds lw ew .refusal ≡ 0) × (a .place ≡ weighs ds lw ew .place) × (weighs ds lw ew .place ≤ length old)
+      go : Way baseRecording (stateCore base) ds (linksSaid lw) (eventsSaid ew) (length old) → (weighs ds lw ew .refusal ≡ 0) × (a .place ≡ weighs ds lw ew .place) × (weighs ds lw ew .place ≤ length old)
       go (refused n e) = absurd (n (sym (is e .0) ∙ z))
       go (short w l e) = absurd (omega (arith, is e .0))
       go (fits w l e) = (w, is e .1, l)
@@ -125,7 +124,7 @@ module _ {ds lw ew old new : List ℕ} {a : Written} (said : Writes ds lw ew old
   eighteen : a .refusal ≡ 18 → (weighs ds lw ew .refusal ≡ 0) × (a .place ≡ weighs ds lw ew .place) × (length old < weighs ds lw ew .place)
   eighteen z = go way
     where
-      go : Way ltb baseRecording (stateCore ltb base) ds (linksSaid lw) (eventsSaid ew) (length old) → (weighs ds lw ew .refusal ≡ 0) × (a .place ≡ weighs ds lw ew .place) × (length old < weighs ds lw ew .place)
+      go : Way baseRecording (stateCore base) ds (linksSaid lw) (eventsSaid ew) (length old) → (weighs ds lw ew .refusal ≡ 0) × (a .place ≡ weighs ds lw ew .place) × (length old < weighs ds lw ew .place)
       go (refused n e) = absurd (not-eighteen ds lw ew (sym (is e .0) ∙ z))
       go (short w l e) = (w, is e .1, l)
       go (fits w l e) = absurd (omega (arith, is e .0))
@@ -134,7 +133,7 @@ module _ {ds lw ew old new : List ℕ} {a : Written} (said : Writes ds lw ew old
   roomy : weighs ds lw ew .refusal ≡ 0 → weighs ds lw ew .place ≤ length old → (a .refusal ≡ 0) × (a .place ≡ weighs ds lw ew .place)
   roomy z h = go way
     where
-      go : Way ltb baseRecording (stateCore ltb base) ds (linksSaid lw) (eventsSaid ew) (length old) → (a .refusal ≡ 0) × (a .place ≡ weighs ds lw ew .place)
+      go : Way baseRecording (stateCore base) ds (linksSaid lw) (eventsSaid ew) (length old) → (a .refusal ≡ 0) × (a .place ≡ weighs ds lw ew .place)
       go (refused n e) = absurd (n z)
       go (short w l e) = absurd (omega arith)
       go (fits w l e) = (is e .0 ∙ w, is e .1)
@@ -143,7 +142,7 @@ module _ {ds lw ew old new : List ℕ} {a : Written} (said : Writes ds lw ew old
   roomless : weighs ds lw ew .refusal ≡ 0 → length old < weighs ds lw ew .place → (a .refusal ≡ 18) × (a .place ≡ weighs ds lw ew .place)
   roomless z h = go way
     where
-      go : Way ltb baseRecording (stateCore ltb base) ds (linksSaid lw) (eventsSaid ew) (length old) → (a .refusal ≡ 18) × (a .place ≡ weighs ds lw ew .place)
+      go : Way baseRecording (stateCore base) ds (linksSaid lw) (eventsSaid ew) (length old) → (a .refusal ≡ 18) × (a .place ≡ weighs ds lw ew .place)
       go (refused n e) = absurd (n z)
       go (short w l e) = is e
       go (fits w l e) = absurd (omega arith)
@@ -152,22 +151,22 @@ module _ {ds lw ew old new : List ℕ} {a : Written} (said : Writes ds lw ew old
     -- what is refused nothing is a recording
     fine : RecordingOf ds lw ew (bytes ds lw ew)
     fine =
-        let f = whole-fine ltb baseRecording (stateCore ltb base) ds (linksSaid lw) (eventsSaid ew) z in
-        let r = written-recorded ltb baseRecording base-numbers base base-counts ds (linksSaid lw) (eventsSaid ew) (said .numbers .0) (values-said ew (said .numbers .1)) z in
-        record { links-whole = f .0; events-whole = f .1 .0; genuine = λ out l. core-genuine (recorded-genuine ltb-ranks baseRecording base base-room out (recorded-with-room ltb baseRecording base out (room-past (eventsSaid ew .whole) l) r)) }
+        let f = whole-fine baseRecording (stateCore base) ds (linksSaid lw) (eventsSaid ew) z in
+        let r = written-recorded baseRecording base-numbers base base-counts ds (linksSaid lw) (eventsSaid ew) (said .numbers .0) (values-said ew (said .numbers .1)) z in
+        record { links-whole = f .0; events-whole = f .1 .0; genuine = λ out l. core-genuine (recorded-genuine baseRecording base base-room out (recorded-with-room baseRecording base out (room-past (eventsSaid ew .whole) l) r)) }
 
     -- and its place the length
     long : weighs ds lw ew .place ≡ length (bytes ds lw ew)
-    long = ap (λ (x : Verdict Saved). x .place) (whole-reply ltb baseRecording (stateCore ltb base) ds (linksSaid lw) (eventsSaid ew) z)
+    long = ap (λ (x : Verdict Saved). x .place) (whole-reply baseRecording (stateCore base) ds (linksSaid lw) (eventsSaid ew) z)
 
   -- "On a refusal the buffer is untouched"
   pub refused-untouched : a .refusal ≢ 0 → new ≡ old
-  refused-untouched n = said .buffer ∙ buffer-refused ltb baseRecording (stateCore ltb base) ds (linksSaid lw) (eventsSaid ew) old (λ z. n (refusal-is ∙ z))
+  refused-untouched n = said .buffer ∙ buffer-refused baseRecording (stateCore base) ds (linksSaid lw) (eventsSaid ew) old (λ z. n (refusal-is ∙ z))
 
   module _ (z : a .refusal ≡ 0) where
     -- the buffer: the recording, and what stood after its place
     parts : new ≡ bytes ds lw ew ++ drop (a .place) old
-    parts = said .buffer ∙ buffer-written ltb baseRecording (stateCore ltb base) ds (linksSaid lw) (eventsSaid ew) old (sym refusal-is ∙ z) ∙ rw place-is
+    parts = said .buffer ∙ buffer-written baseRecording (stateCore base) ds (linksSaid lw) (eventsSaid ew) old (sym refusal-is ∙ z) ∙ rw place-is
 
     -- the place is the length of the recording
     ends : length (bytes ds lw ew) ≡ a .place
@@ -213,30 +212,30 @@ module _ {ds lw ew old new : List ℕ} {a : Written} (said : Writes ds lw ew old
   module _ (out : List ℕ) (b : InBytes baseRecording ds (linksSaid lw) (eventsSaid ew)) (room : reads (past [] (eventsSaid ew .whole)) ≤ length out) where
     -- where each number fits its bytes: the answer is the reader's to the bytes as written, with room for its numbers; only that a recording may find no
     -- room in the buffer
-    pub as-the-reader : a ≡ writtenOf (heldToRoom (length old) (recording ltb baseRecording (coreOf ltb base out) (bytesAsWritten baseRecording ds lw ew)))
+    pub as-the-reader : a ≡ writtenOf (heldToRoom (length old) (recording baseRecording (coreOf base out) (bytesAsWritten baseRecording ds lw ew)))
     unfolding writing
     as-the-reader =
         said .answer
-        ∙ ap (λ (x : Verdict Saved). writtenOf (heldToRoom (length old) x)) (whole-with-room ltb baseRecording base out ds (linksSaid lw) (eventsSaid ew) room)
-        ∙ held-alone (length old) (recordingWeighed ltb baseRecording (coreOf ltb base out) ds (linksSaid lw) (eventsSaid ew))
-        ∙ ap (λ (x : Verdict Playing). writtenOf (heldToRoom (length old) x)) (sym (numbers-as-read ltb baseRecording base-bytes (coreOf ltb base out) ds lw ew b))
+        ∙ ap (λ (x : Verdict Saved). writtenOf (heldToRoom (length old) x)) (whole-with-room baseRecording base out ds (linksSaid lw) (eventsSaid ew) room)
+        ∙ held-alone (length old) (recordingWeighed baseRecording (coreOf base out) ds (linksSaid lw) (eventsSaid ew))
+        ∙ ap (λ (x : Verdict Playing). writtenOf (heldToRoom (length old) x)) (sym (numbers-as-read baseRecording base-bytes (coreOf base out) ds lw ew b))
 
     -- so a fault has the reader's number and place
     pub same-fault :
-        let x = recording ltb baseRecording (coreOf ltb base out) (bytesAsWritten baseRecording ds lw ew) in x .refusal ≢ 0 → (a .refusal ≡ x .refusal) × (a .place ≡ x .place)
+        let x = recording baseRecording (coreOf base out) (bytesAsWritten baseRecording ds lw ew) in x .refusal ≢ 0 → (a .refusal ≡ x .refusal) × (a .place ≡ x .place)
     same-fault n =
-        let x = recording ltb baseRecording (coreOf ltb base out) (bytesAsWritten baseRecording ds lw ew) in
+        let x = recording baseRecording (coreOf base out) (bytesAsWritten baseRecording ds lw ew) in
         let e : a ≡ writtenOf x = rw (ne-eqb (x .refusal) 0 n) at as-the-reader in
         (ap (λ (w : Written). w .refusal) e, ap (λ (w : Written). w .place) e)
 
 -- what the reader accepts, handed over as its tasks and the numbers of its links and events, is a recording that these say
 pub genuine-recording : {s out ds : List ℕ} {ls : List Link} {es : List (Event ℕ)} → Genuine s out ds ls es → RecordingOf ds (linkWords ls) (eventWords es) s
 genuine-recording {s} {out} {ds} {ls} {es} g =
-    let r = recorded-by-state ltb baseRecording base out (genuine-recorded ltb-ranks baseRecording base base-room out base-counts (genuine-core g)) in
+    let r = recorded-by-state baseRecording base out (genuine-recorded baseRecording base base-room out base-counts (genuine-core g)) in
     record {
       links-whole = ap (λ (h : Handed Link). h .ending) (links-said ls);
       events-whole = ap (λ (h : Handed (Event ℕ)). h .ending) (events-said es);
-      genuine = rw (links-said ls, events-said es) (λ (o : List ℕ) (l : reads es ≤ length o). core-genuine (recorded-genuine ltb-ranks baseRecording base base-room o (recorded-with-room ltb baseRecording base o (room-past es l) r)));
+      genuine = rw (links-said ls, events-said es) (λ (o : List ℕ) (l : reads es ≤ length o). core-genuine (recorded-genuine baseRecording base base-room o (recorded-with-room baseRecording base o (room-past es l) r)));
     }
 
 -- so it is written again, byte for byte

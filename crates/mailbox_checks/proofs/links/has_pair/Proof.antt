@@ -1,20 +1,21 @@
 -- `mailbox_checks::links::has_pair` meets its contract: after l turns `found` says whether one of the first l links goes from `w` to `r`.
 -- Assumes nothing.
 use mathlib.Core.Path.{_≡_}
+use mathlib.Core.Bool.{_&&_}
 use Prim.Native.Nat.{_≤_, _-_}
 use native.Mathlib.Omega.{arith}
 use Rattle.mailbox_layout.specs.Layout.{writerIn, readerIn}
+use lib.Dec.{eqb}
 use borrow.Author.Needs.{needs}
 use Rattle.lists.specs.Lists.{some}
 use Rattle.lists.proofs.Lists.{some-none, some-more, some-end}
-use Rattle.protocol_state.specs.Rules.{joins}
 use Rattle.protocol_state.specs.Saved.{at}
 use Rattle.mailbox_checks.proofs.links.has_pair.Statement.{statement}
 use Rattle.mailbox_checks.proofs.links.has_pair.Tie as tie
 
 abbrev Inv-loop : tie.InvT-loop
 Inv-loop control n w r end found₀ l₀ found l =
-    (l ≤ end) × (found ≡ some (joins (at (writerIn control)) (at (readerIn control)) w r) l)
+    (l ≤ end) × (found ≡ some (λ j. eqb (at (writerIn control) j) w && eqb (at (readerIn control) j) r) l)
 
 abbrev μ-loop : tie.MeasureT-loop
 μ-loop control n w r end found₀ l₀ found l = end - l
@@ -44,7 +45,7 @@ loop-again : tie.Need-loop-again Inv-loop μ-loop
 loop-again c =
     let a = c .before .before .before .before .before .before .args in (
       omega arith,
-      some-more (joins (at (writerIn (a .control .now))) (at (readerIn (a .control .now))) (a .w) (a .r)) _
+      some-more (λ j. eqb (at (writerIn (a .control .now)) j) (a .w) && eqb (at (readerIn (a .control .now)) j) (a .r)) _
           (rw (c .before .before .control-at .ensures, c .before .control-at2 .ensures) at (c .is-pair .ensures)) (c .before .before .before .before .loop .inv .1),
     )
 

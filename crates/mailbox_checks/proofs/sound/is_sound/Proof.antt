@@ -17,10 +17,10 @@ returns c v =
     unsound (stateOf (a .tasks) (a .links) (a .control .now) v) (c .before .judge-table .ensures) (c .if1 .taken)
 
 tasks-ok-requires : tie.Need-tasks-ok-requires
-tasks-ok-requires c κs = room _ _ _ _ _ _ _ (sym (c .before .judge-table .ensures) ∙ c .if1 .left) .1
+tasks-ok-requires c κs = room _ _ _ _ _ (sym (c .before .judge-table .ensures) ∙ c .if1 .left) .1
 
 pointers-ok-requires : tie.Need-pointers-ok-requires
-pointers-ok-requires c κs = room _ _ _ _ _ _ _ (sym (c .before .before .judge-table .ensures) ∙ c .before .if1 .left) .1
+pointers-ok-requires c κs = room _ _ _ _ _ (sym (c .before .before .judge-table .ensures) ∙ c .before .if1 .left) .1
 
 returns-2 : tie.Need-returns-2
 returns-2 c v =

@@ -3,19 +3,18 @@
 use mathlib.Core.Path.{_≡_, refl}
 use Prim.Native.Nat.{_≤_, _-_}
 use native.Mathlib.Omega.{arith}
-use Rattle.mailbox_layout.specs.Layout.{writerIn, readerIn, kindIn}
+use Rattle.mailbox_layout.specs.Layout.{linkHeld}
 use borrow.Author.Needs.{needs}
 use Rattle.lists.specs.Lists.{leading}
 use Rattle.lists.proofs.Lists.{leading-none, leading-more, leading-end}
 use Rattle.protocol_state.specs.Rules.{fault}
 use lib.Dec.{ltb}
-use Rattle.protocol_state.specs.Saved.{at}
 use Rattle.mailbox_checks.proofs.table.first_fault.Statement.{statement}
 use Rattle.mailbox_checks.proofs.table.first_fault.Tie as tie
 
 abbrev Inv-loop : tie.InvT-loop
 Inv-loop tasks links control found₀ l₀ found l =
-    (l ≤ links) × (found ≡ leading (fault ltb tasks (at (writerIn control)) (at (readerIn control)) (at (kindIn control))) l)
+    (l ≤ links) × (found ≡ leading (fault ltb tasks (linkHeld control)) l)
 
 abbrev μ-loop : tie.MeasureT-loop
 μ-loop tasks links control found₀ l₀ found l = links - l
@@ -36,7 +35,7 @@ loop-again : tie.Need-loop-again Inv-loop μ-loop
 loop-again c =
     let a = c .before .before .before .args in (
       omega arith,
-      leading-more (fault ltb (a .tasks) (at (writerIn (a .control .now))) (at (readerIn (a .control .now))) (at (kindIn (a .control .now)))) _ refl
+      leading-more (fault ltb (a .tasks) (linkHeld (a .control .now))) _ refl
           (c .before .before .loop .inv .1) (c .fault-or .ensures),
     )
 

@@ -1,0 +1,147 @@
+-- Lists of records, place by place: a table handed over in arrays, and one field of all links.
+-- Assumes nothing.
+use mathlib.Core.Path.{_≡_, refl, sym, ap, _∙_}
+use mathlib.Core.List.{List, [], _∷_, _++_, map}
+use Prim.Native.Nat.{ℕ, zero, suc, _+_, _≤_, _<_}
+use native.Mathlib.Numerals.{add-one}
+use native.Mathlib.Omega.{arith}
+use native.Mathlib.Decide.{decLe}
+use lib.Seq.{getD-set-same, getD-set-other}
+use lib.ListN.{length, length-map, getD, set, replicate, length-replicate, List·getD-map, List·getD-eq-default}
+use Rattle.lists.specs.Lists.{upto}
+use Rattle.lists.proofs.Lists.{upto-at, upto-past, length-upto}
+use Rattle.protocol.specs.Instant.{upward}
+use Rattle.protocol_state.specs.Records.{Task, defaultOf, Link, noLink, linkOf, firstTasks, firstLinks}
+use Rattle.protocol_state.specs.Saved.{at}
+use Rattle.protocol_state.specs.Fresh.{copied}
+use Rattle.protocol_state.proofs.Places.{zeros}
+
+-- the numbers of a list that was made from the numbers k, k + 1, ..
+module _ {A : Type 0} (f : ℕ → A) where
+  pub length-numbered : (k n : ℕ) → length (map f (upward k n)) ≡ n
+  unfolding upward
+  length-numbered k zero = refl
+  length-numbered k (suc n) = ap suc (length-numbered (suc k) n)
+
+  pub numbered-at : (d : A) (k n i : ℕ) → i < n → getD (map f (upward k n)) i d ≡ f (k + i)
+  unfolding upward
+  numbered-at d k zero i h = absurd (omega arith)
+  numbered-at d k (suc n) zero h = ap f (omega arith)
+  numbered-at d k (suc n) (suc i) h = numbered-at d (suc k) n i (omega arith) ∙ ap f (omega arith)
+
+  -- one more
+  pub numbered-more : (k n : ℕ) → map f (upward k (suc n)) ≡ map f (upward k n) ++ (f (k + n) ∷ [])
+  unfolding upward
+  numbered-more k zero = ap (λ (i : ℕ). f i ∷ []) (omega arith)
+  numbered-more k (suc n) = ap (λ (xs : List A). f k ∷ xs) (numbered-more (suc k) n ∙ ap (λ (i : ℕ). map f (upward (suc k) n) ++ (f i ∷ [])) (omega arith))
+
+-- two such lists that agree number by number
+pub numbered-same : {A : Type 0} (f g : ℕ → A) (k n : ℕ) → ((i : ℕ) → i < n → f (k + i) ≡ g (k + i)) → map f (upward k n) ≡ map g (upward k n)
+unfolding upward
+numbered-same f g k zero e = refl
+numbered-same {A} f g k (suc n) e =
+    let z : k + 0 ≡ k = omega arith in
+    let first : f k ≡ g k = ap f (sym z) ∙ e 0 (omega arith) ∙ ap g z in
+    let more : (i : ℕ) → i < n → f (suc k + i) ≡ g (suc k + i) = λ i h.
+    (let y : suc k + i ≡ k + suc i = omega arith in ap f y ∙ e (suc i) (omega arith) ∙ ap g (sym y)) in
+    ap (λ (x : A). x ∷ map f (upward (suc k) n)) first ∙ ap (λ (xs : List A). g k ∷ xs) (numbered-same f g (suc k) n more)
+
+-- a task is its default
+pub own-defaults : (ts : List Task) → map defaultOf ts ≡ ts
+own-defaults [] = refl
+own-defaults (t ∷ ts) = ap (λ (us : List Task). t ∷ us) (own-defaults ts)
+
+-- the first tasks of an array
+pub first-tasks-length : (T : ℕ) (D : List ℕ) → length (firstTasks T D) ≡ T
+first-tasks-length T D = length-numbered (λ t. getD D t 0) 0 T
+
+pub first-task : (T : ℕ) (D : List ℕ) (t : ℕ) → t < T → at (firstTasks T D) t ≡ at D t
+first-task T D t h = numbered-at (λ t. getD D t 0) 0 0 T t h ∙ ap (at D) (omega arith)
+
+-- link l of three arrays
+abbrev arrayLink : List ℕ → List ℕ → List ℕ → ℕ → Link
+arrayLink W R K l = record { writer = getD W l 0; reader = getD R l 0; kind = getD K l 0 }
+
+-- and the first links of three
+module _ (L : ℕ) (W R K : List ℕ) where
+  pub first-links-length : length (firstLinks L W R K) ≡ L
+  first-links-length = length-numbered (λ (l : ℕ). record { writer = getD W l 0; reader = getD R l 0; kind = getD K l 0 }) 0 L
+
+  pub first-link : (l : ℕ) → l < L → linkOf (firstLinks L W R K) l ≡ record { writer = at W l; reader = at R l; kind = at K l }
+  first-link l h =
+      numbered-at (λ (l : ℕ). record { writer = getD W l 0; reader = getD R l 0; kind = getD K l 0 }) noLink 0 L l h
+      ∙ ap (λ (l : ℕ). record { writer = getD W l 0; reader = getD R l 0; kind = getD K l 0 }) (omega arith)
+
+  -- one link more is put behind them
+  pub first-links-more : (w r k : ℕ) → L < length W → L < length R → L < length K →
+      firstLinks (L + 1) (set W L w) (set R L r) (set K L k) ≡ firstLinks L W R K ++ (record { writer = w; reader = r; kind = k } ∷ [])
+  first-links-more w r k a b c =
+      ap (λ (n : ℕ). firstLinks n (set W L w) (set R L r) (set K L k)) (add-one L)
+      ∙ numbered-more (arrayLink (set W L w) (set R L r) (set K L k)) 0 L
+      ∙ ap (λ (ls : List Link). ls ++ (arrayLink (set W L w) (set R L r) (set K L k) (0 + L) ∷ []))
+      (numbered-same (arrayLink (set W L w) (set R L r) (set K L k)) (arrayLink W R K) 0 L (λ l h. others l h))
+      ∙ ap (λ (x : Link). firstLinks L W R K ++ (x ∷ [])) last
+    where
+      others : (l : ℕ) → l < L → arrayLink (set W L w) (set R L r) (set K L k) (0 + l) ≡ arrayLink W R K (0 + l)
+      others l h = λ i. record {
+        writer = getD-set-other W L (0 + l) w 0 (λ e. omega arith) i;
+        reader = getD-set-other R L (0 + l) r 0 (λ e. omega arith) i;
+        kind = getD-set-other K L (0 + l) k 0 (λ e. omega arith) i;
+      }
+
+      z : 0 + L ≡ L
+      z = omega arith
+
+      last : arrayLink (set W L w) (set R L r) (set K L k) (0 + L) ≡ record { writer = w; reader = r; kind = k }
+      last = rw z (λ i. record { writer = getD-set-same W L w 0 a i; reader = getD-set-same R L r 0 b i; kind = getD-set-same K L k 0 c i })
+
+-- lists changed alike below n are the same
+pub upto-same : {A : Type 0} (f g : ℕ → A → A) (n : ℕ) (xs : List A) → ((i : ℕ) (x : A) → i < n → f i x ≡ g i x) → upto f n xs ≡ upto g n xs
+unfolding upto
+upto-same f g n [] e = refl
+upto-same f g zero (x ∷ xs) e = refl
+upto-same {A} f g (suc n) (x ∷ xs) e =
+    ap (λ (y : A). y ∷ upto (λ i. f (suc i)) n xs) (e 0 x (omega arith))
+    ∙ ap (λ (ys : List A). g 0 x ∷ ys) (upto-same (λ i. f (suc i)) (λ i. g (suc i)) n xs (λ i y h. e (suc i) y (omega arith)))
+
+-- so copies of lists that begin alike are the same
+pub copied-same : (size n : ℕ) (xs ys : List ℕ) → ((i : ℕ) → i < n → at xs i ≡ at ys i) → copied size n xs ≡ copied size n ys
+copied-same size n xs ys e = upto-same (λ i x. at xs i) (λ i x. at ys i) n (replicate size 0) (λ i x h. e i h)
+
+-- a copied list has what it was copied from
+pub copied-at : (size n : ℕ) (xs : List ℕ) → n ≤ size → (i : ℕ) → i < n → at (copied size n xs) i ≡ at xs i
+copied-at size n xs l i h = upto-at (λ i x. at xs i) n (replicate size 0) i 0 h (omega (arith, length-replicate {A = ℕ} size 0))
+
+-- and its own length
+pub copied-length : (size n : ℕ) (xs : List ℕ) → length (copied size n xs) ≡ size
+copied-length size n xs = length-upto (λ i x. at xs i) n (replicate size 0) ∙ length-replicate {A = ℕ} size 0
+
+-- a whole list that was copied is itself, and 0 past its end
+pub copied-whole : (size : ℕ) (xs : List ℕ) → length xs ≤ size → (i : ℕ) → at (copied size (length xs) xs) i ≡ at xs i
+copied-whole size xs l i = go (decLe (length xs) i)
+  where
+    go : Dec (length xs ≤ i) → at (copied size (length xs) xs) i ≡ at xs i
+    go (yes h) = upto-past (λ j x. at xs j) (length xs) (replicate size 0) i 0 h ∙ zeros size i ∙ sym (List·getD-eq-default xs 0 h)
+    go (no h) = copied-at size (length xs) xs l i (omega arith)
+
+-- one field of all links, copied to its room; f noLink computes to 0
+pub column-whole : (size : ℕ) (f : Link → ℕ) → f noLink ≡ 0 → (ls : List Link) → length ls ≤ size → (l : ℕ) → at (copied size (length ls) (map f ls)) l ≡ f (linkOf ls l)
+column-whole size f z ls h l =
+    ap (λ (n : ℕ). at (copied size n (map f ls)) l) (sym (length-map ls f))
+    ∙ copied-whole size (map f ls) (omega (arith, length-map ls f)) l
+    ∙ ap (λ (d : ℕ). getD (map f ls) l d) (sym z)
+    ∙ List·getD-map f ls l noLink
+
+-- the first tasks of an array, copied to their room, are copied from the array
+pub first-defaults : (size T : ℕ) (D : List ℕ) → copied size (length (firstTasks T D)) (map defaultOf (firstTasks T D)) ≡ copied size T D
+first-defaults size T D =
+    ap (λ (n : ℕ). copied size n (map defaultOf (firstTasks T D))) (first-tasks-length T D)
+    ∙ copied-same size T (map defaultOf (firstTasks T D)) D (λ t h. List·getD-map defaultOf (firstTasks T D) t 0 ∙ first-task T D t h)
+
+-- and so is one field of the first links of three
+pub first-column : (size L : ℕ) (W R K xs : List ℕ) (f : Link → ℕ) → f noLink ≡ 0 → ((l : ℕ) → f (record { writer = at W l; reader = at R l; kind = at K l }) ≡ at xs l)
+    → copied size (length (firstLinks L W R K)) (map f (firstLinks L W R K)) ≡ copied size L xs
+first-column size L W R K xs f z law =
+    ap (λ (n : ℕ). copied size n (map f (firstLinks L W R K))) (first-links-length L W R K)
+    ∙ copied-same size L (map f (firstLinks L W R K)) xs
+    (λ l h. ap (λ (d : ℕ). getD (map f (firstLinks L W R K)) l d) (sym z) ∙ List·getD-map f (firstLinks L W R K) l noLink ∙ ap f (first-link L W R K l h) ∙ law l)

@@ -1,0 +1,55 @@
+-- The tasks and the links of a table as lists of records, and the order of the tasks, which comes from them.
+-- Assumes nothing.
+use mathlib.Core.Bool.{Bool}
+use mathlib.Core.List.{List, map}
+use Prim.Native.Nat.{ℕ}
+use lib.Dec.{ltb}
+use lib.ListN.{getD}
+use Rattle.protocol.specs.Instant.{upward}
+
+-- a task is its default
+abbrev pub Task : Type 0
+Task = ℕ
+
+abbrev pub defaultOf : Task → ℕ
+defaultOf d = d
+
+-- a link: "writer, reader, kind (0 direct, 1 delayed)"
+pub record Link : Type 0 where
+  pub writer : ℕ
+  pub reader : ℕ
+  pub kind : ℕ
+
+-- what stands past the last link; no rule speaks of it
+abbrev pub noLink : Link
+noLink = record { writer = 0; reader = 0; kind = 0 }
+
+-- link l of these
+abbrev pub linkOf : List Link → ℕ → Link
+linkOf ls l = getD ls l noLink
+
+-- one field of all links
+abbrev pub writers : List Link → List ℕ
+writers ls = map (λ (l : Link). l .writer) ls
+
+abbrev pub readers : List Link → List ℕ
+readers ls = map (λ (l : Link). l .reader) ls
+
+abbrev pub kinds : List Link → List ℕ
+kinds ls = map (λ (l : Link). l .kind) ls
+
+-- a table handed over in arrays: the first T of the defaults D
+abbrev pub firstTasks : ℕ → List ℕ → List Task
+firstTasks T D = map (λ (t : ℕ). getD D t 0) (upward 0 T)
+
+-- and the first L of the writers W, the readers R and the kinds K
+abbrev pub firstLinks : ℕ → List ℕ → List ℕ → List ℕ → List Link
+firstLinks L W R K = map (λ (l : ℕ). record { writer = getD W l 0; reader = getD R l 0; kind = getD K l 0 }) (upward 0 L)
+
+-- "the earlier one is more urgent": task u is ahead of task t
+abbrev pub earlier : ℕ → ℕ → Bool
+earlier u t = ltb u t
+
+-- who is ahead of whom, by the tasks of a table
+abbrev pub aheadOf : List Task → ℕ → ℕ → Bool
+aheadOf ts = earlier
