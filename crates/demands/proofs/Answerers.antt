@@ -3,15 +3,14 @@
 use mathlib.Core.Path.{sym, subst}
 use mathlib.Core.List.{List, []}
 use Prim.Native.Nat.{ℕ}
-use lib.Dec.{ltb}
 use Rattle.protocol.specs.Event.{Event}
 use Rattle.protocol.specs.Table.{Table}
 use Rattle.protocol.specs.Schedule.{urgent}
 use Rattle.protocol.specs.Answering.{Answerer, RefusesRightly, FollowsProtocol}
-use Rattle.protocol_state.specs.Saved.{table}
+use Rattle.protocol_state.specs.Saved.{tasksIn, aheadIn, table}
 use Rattle.protocol_state.specs.Give.{Reply, reply}
 use Rattle.protocol_state.specs.Alike.{Alike}
-use Rattle.protocol_state.proofs.Rules.{ltb-ranks}
+use Rattle.protocol_state.proofs.Rules.{ranked}
 use Rattle.protocol_state.proofs.Demanded as state
 use Rattle.protocol.specs.History.{past}
 use Rattle.mailbox.specs.States.{saved}
@@ -29,4 +28,4 @@ pub as-answerer : {T : Table ℕ} {es : List (Event ℕ)} {ns : List ℕ} {q : S
 as-answerer {es = es} {q = q} c B D1 D2 e r call =
     let C = comes c in
     subst (λ (t : Table ℕ). AnsweredBy B t (past [] es) e r) (C .same)
-    (subst (λ (x : Reply). Alike x (B .reply (table ltb (C .begin)) (past [] es) e)) (sym (call .answer)) (state.as-demanded ltb-ranks (C .reached) B D1 D2 e))
+    (subst (λ (x : Reply). Alike x (B .reply (table (aheadIn (C .begin)) (C .begin)) (past [] es) e)) (sym (call .answer)) (state.as-demanded (ranked (tasksIn (C .begin))) (C .reached) B D1 D2 e))

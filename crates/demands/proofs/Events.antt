@@ -7,7 +7,7 @@ use mathlib.Core.List.{List, [], _∷_}
 use Prim.Native.Nat.{ℕ, _^_, _≤_, _<_}
 use native.Mathlib.Omega.{arith}
 use borrow.Author.Tests.{eqb-true, ne-eqb, leb-true, leb-false, le-leb, lt-leb}
-use lib.Dec.{eqb, ltb, leb, lit<}
+use lib.Dec.{eqb, leb, lit<}
 use lib.ListN.{length}
 use Rattle.lists.specs.Lists.{some}
 use Rattle.lists.proofs.Bools.{and-left, and-right, and-both}
@@ -22,6 +22,7 @@ use Rattle.protocol_state.specs.Decision.{decided, rule}
 use Rattle.protocol_state.specs.Sound.{Sound}
 use Rattle.protocol_state.proofs.Decision.{decided-rule}
 use Rattle.protocol_state.proofs.Places.{every-none-fails}
+use Rattle.protocol_state.specs.Records.{earlier}
 use Rattle.recording_core.specs.Playing.{full, noRoom, thenRoom}
 use Rattle.recording_core.specs.Promise.{refusedBy}
 use Rattle.demands.specs.Refusals.{Earns, none, lowest, Standing, byHistory, EventBreaks, RecordBreaks, nobody, aStranger, startsNoTask, readsNoLink, finishesNoTask, arrivesAgain, startsNotWaiting, readsNotRunning, finishesNotRunning, startsOutOfTurn, readsOutOfTurn, finishesOutOfTurn}
@@ -195,9 +196,9 @@ turns : (b : Bool) (x y : ℕ) → cond (not b) x y ≡ cond b y x
 turns true x y = refl
 turns false x y = refl
 
-module _ (q : Saved) (S : Sound ltb base q) where
+module _ (q : Saved) (S : Sound earlier base q) where
   abbrev T : Table ℕ
-  T = table ltb q
+  T = table earlier q
 
   may-arrive : (m t : ℕ) → t < q .tasks → mayArrive m (at (q .phase)) t ≡ not (has m t && busy q t)
   may-arrive m t l = rw (decided-rule 0 (at (q .phase) t) (omega arith) (S .phase t l)) (go (has m t) (eqb (at (q .phase) t) 0))
@@ -209,24 +210,24 @@ module _ (q : Saved) (S : Sound ltb base q) where
 
   -- an event by task t of the table
   task-refusal : (k t b n : ℕ) → k < 4 → t < q .tasks → (d : ℕ) → allows d ≡ true → allows n ≡ false → rule k (at (q .phase) t) ≡ cond (eqb (at (q .phase) t) b) d n
-      → cond (allows (decided k (at (q .phase) t))) (cond (preempted ltb t (q .tasks) (at (q .phase))) 16 0) (decided k (at (q .phase) t))
+      → cond (allows (decided k (at (q .phase) t))) (cond (preempted earlier t (q .tasks) (at (q .phase))) 16 0) (decided k (at (q .phase) t))
       ≡ cond (not (eqb (at (q .phase) t) b)) n (cond (heldBack T (phasesOf q) t) 16 0)
   task-refusal k t b n hk l d i j e =
       chosen (decided k (at (q .phase) t)) (eqb (at (q .phase) t) b) d n (cond (heldBack T (phasesOf q) t) 16 0) i j (decided-rule k (at (q .phase) t) hk (S .phase t l) ∙ e)
       ∙ turn-held (eqb (at (q .phase) t) b) (heldBack T (phasesOf q) t) n
 
   judged-task : (k t b n : ℕ) → k < 4 → (d : ℕ) → allows d ≡ true → allows n ≡ false → rule k (at (q .phase) t) ≡ cond (eqb (at (q .phase) t) b) d n
-      → judgedTask ltb k t (q .tasks) (at (q .phase)) ≡ cond (leb (q .tasks) t) 12 (cond (not (eqb (at (q .phase) t) b)) n (cond (heldBack T (phasesOf q) t) 16 0))
+      → judgedTask earlier k t (q .tasks) (at (q .phase)) ≡ cond (leb (q .tasks) t) 12 (cond (not (eqb (at (q .phase) t) b)) n (cond (heldBack T (phasesOf q) t) 16 0))
   unfolding judgedTask
   judged-task k t b n hk d i j e = go (leb (q .tasks) t) refl
     where
       go : (c : Bool) → leb (q .tasks) t ≡ c
-          → cond c 12 (cond (allows (decided k (at (q .phase) t))) (cond (preempted ltb t (q .tasks) (at (q .phase))) 16 0) (decided k (at (q .phase) t)))
+          → cond c 12 (cond (allows (decided k (at (q .phase) t))) (cond (preempted earlier t (q .tasks) (at (q .phase))) 16 0) (decided k (at (q .phase) t)))
           ≡ cond c 12 (cond (not (eqb (at (q .phase) t) b)) n (cond (heldBack T (phasesOf q) t) 16 0))
       go true u = refl
       go false u = task-refusal k t b n hk (omega (arith, leb-false (q .tasks) t u)) d i j e
 
-  phases-chain : (e : Event ℕ) → judgedOn ltb q e ≡ chain (tests T (phasesOf q) e)
+  phases-chain : (e : Event ℕ) → judgedOn earlier q e ≡ chain (tests T (phasesOf q) e)
   unfolding judgedArrival judgedRead
   phases-chain (arrival m) =
       ap (λ (b : Bool). cond (eqb m 0 || leb (2 ^ (q .tasks)) m) 12 (cond b 0 13)) (every-none-fails (mayArrive m (at (q .phase))) (λ t. has m t && busy q t) (q .tasks) (may-arrive m))
@@ -234,7 +235,7 @@ module _ (q : Saved) (S : Sound ltb base q) where
   phases-chain (start t) = judged-task 1 t 1 14 (omega arith) 2 refl refl refl
   phases-chain (read l) = go (leb (q .links) l) refl
     where
-      go : (c : Bool) → leb (q .links) l ≡ c → cond c 12 (judgedTask ltb 2 (at (q .reader) l) (q .tasks) (at (q .phase)))
+      go : (c : Bool) → leb (q .links) l ≡ c → cond c 12 (judgedTask earlier 2 (at (q .reader) l) (q .tasks) (at (q .phase)))
           ≡ cond c 12 (cond (not (eqb (at (q .phase) (at (q .reader) l)) 2)) 15 (cond (heldBack T (phasesOf q) (at (q .reader) l)) 16 0))
       go true u = refl
       go false u =
@@ -243,5 +244,5 @@ module _ (q : Saved) (S : Sound ltb base q) where
           (S .rules .each l (omega (arith, leb-false (q .links) l u)) .reader)) refl
   phases-chain (finish t v) = judged-task 3 t 2 15 (omega arith) 0 refl refl refl
 
-  pub phases-earned : (e : Event ℕ) → Earns (EventBreaks T (phasesOf q) e) (judgedOn ltb q e)
+  pub phases-earned : (e : Event ℕ) → Earns (EventBreaks T (phasesOf q) e) (judgedOn earlier q e)
   phases-earned e = subst (λ (n : ℕ). Earns (EventBreaks T (phasesOf q) e) n) (sym (phases-chain e)) (chain-earned T (phasesOf q) e)

@@ -11,7 +11,6 @@ use Rattle.protocol.specs.Given.{values}
 use Rattle.protocol.specs.History.{arrivals, starts, finishes, upTo, output, past}
 use Rattle.protocol.specs.Schedule.{urgent, Possible}
 use Rattle.protocol.specs.ZeroTime.{dues}
-use Rattle.protocol.specs.Instant.{upward}
 use Rattle.protocol_state.specs.Rules.{fault, judgedTable}
 use Rattle.protocol_state.specs.Saved.{base}
 use Rattle.protocol_state.specs.Give.{givenTo}

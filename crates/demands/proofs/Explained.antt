@@ -10,7 +10,7 @@ use Rattle.protocol.specs.Event.{Event}
 use Rattle.protocol.specs.Table.{Table}
 use Rattle.protocol.specs.History.{counts, past}
 use Rattle.protocol.specs.Instant.{upward}
-use Rattle.protocol_state.specs.Saved.{base, at}
+use Rattle.protocol_state.specs.Saved.{base}
 use Rattle.protocol_state.specs.Fresh as fresh
 use Rattle.protocol_state.proofs.Rules.{no-refusal}
 use Rattle.protocol_state.specs.Records.{aheadOf, linkOf, firstTasks, firstLinks}

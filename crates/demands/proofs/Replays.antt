@@ -1,6 +1,6 @@
 -- A replay is a sequence of calls in which the events before its place were accepted.
 -- Assumes nothing.
-use mathlib.Core.Path.{_≡_, refl, sym, ap, subst, _∙_}
+use mathlib.Core.Path.{_≡_, sym, ap, subst, _∙_}
 use mathlib.Core.List.{List, [], _∷_, _++_, append-assoc, append-nil}
 use Prim.Native.Nat.{ℕ, _≤_}
 use native.Mathlib.Omega.{arith}
@@ -113,7 +113,7 @@ pub record Went (out ds : List ℕ) (ls : List Link) (es : List (Event ℕ)) (q 
 pub keeps-of : (ds : List Task) (ls : List Link) → judgedLists base ds ls ≡ 0 → Keeps ds ls
 keeps-of ds ls ok =
     let n = rules.counts (aheadOf ds) (length ds) (linkOf ls) base (length ls) ok in
-    record { tasks = (n .0, n .1); links = n .2; rules = rules.obeyed (aheadOf ds) (length ds) (linkOf ls) base (length ls) ok }
+    record { tasks = (n .0, omega (arith, n .1)); links = n .2; rules = rules.obeyed (aheadOf ds) (length ds) (linkOf ls) base (length ls) ok }
 
 pub went : (out : List ℕ) (ds : List Task) (ls : List Link) (es : List (Event ℕ)) → judgedLists base ds ls ≡ 0
     → Allowed judgedIn steppedIn (coreOf base out .start ds ls) es → Went out ds ls es (stateAfter (coreOf base out) ds ls es)

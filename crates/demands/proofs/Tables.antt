@@ -1,11 +1,11 @@
 -- The table that a fresh saved state holds is the station that was handed over, whole.
 -- Assumes nothing.
-use mathlib.Core.Path.{_≡_, refl, sym, ap, fun-ext, _∙_}
+use mathlib.Core.Path.{_≡_, refl, ap, fun-ext, _∙_}
 use mathlib.Core.List.{List, map}
-use Prim.Native.Nat.{ℕ, _≤_, _<_}
+use Prim.Native.Nat.{ℕ, _≤_}
 use native.Mathlib.Omega.{arith}
 use lib.Dec.{eqb}
-use lib.ListN.{length, getD, List·getD-map}
+use lib.ListN.{length, List·getD-map}
 use lib.Seq.{ext-getD}
 use Rattle.protocol_state.specs.Records.{Task, defaultOf, Link, noLink, linkOf, writers, readers, kinds, firstTasks, firstLinks, aheadOf}
 use Rattle.protocol_state.specs.Saved.{base, at, table}

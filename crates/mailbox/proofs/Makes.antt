@@ -7,10 +7,10 @@ use Prim.Native.Nat.{ℕ, _≤_, min}
 use native.Mathlib.Nat.{min-eq-left}
 use native.Mathlib.Omega.{arith}
 use borrow.Author.Tests.{eq-eqb, ne-eqb}
-use lib.Dec.{eqb, ltb}
+use lib.Dec.{eqb}
 use Rattle.protocol.specs.Event.{Event}
-use Rattle.protocol_state.specs.Records.{firstTasks, firstLinks}
-use Rattle.protocol_state.specs.Saved.{Saved, Shape, base, at}
+use Rattle.protocol_state.specs.Records.{firstTasks, firstLinks, earlier}
+use Rattle.protocol_state.specs.Saved.{base, at}
 use Rattle.protocol_state.specs.Rules.{judgedTable}
 use Rattle.protocol_state.specs.Fresh.{copied, filled, freshOf, single, judgedLists, made}
 use Rattle.protocol_state.specs.Sound.{testedSound}
@@ -23,7 +23,7 @@ use Rattle.mailbox_layout.specs.Layout.{cut, cutValues, linkHeld, stateOf, fiel
 use Rattle.mailbox_layout.specs.Fresh.{freshControl}
 use Rattle.mailbox_layout.proofs.Whole.{filled-shape}
 use Rattle.regions.specs.Regions.{region}
-use Rattle.mailbox.specs.States.{saved, Whole, madeOf, Given, passing, StaysSound}
+use Rattle.mailbox.specs.States.{saved, madeOf, Given, passing, StaysSound}
 use Rattle.mailbox.specs.declared.State.{State}
 use Rattle.mailbox.specs.declared.Step.{Step}
 use Rattle.mailbox.specs.declared.Made.{Made}
@@ -37,13 +37,13 @@ copiedTasks n xs = copied (base .tasks) (min n (base .tasks)) xs
 
 -- the control c holds the first links of the columns W, R and K; k is what it is judged
 module _ (T L : ℕ) (D W R K c : List ℕ) (held : cut c ≡ freshControl (copiedLinks L W) (copiedLinks L R) (copiedLinks L K))
-    {k : ℕ} (judged : k ≡ judgedTable ltb T (linkHeld c) base L) where
+    {k : ℕ} (judged : k ≡ judgedTable earlier T (linkHeld c) base L) where
   -- so the table is
   table-judged : k ≡ judgedLists base (firstTasks T D) (firstLinks L W R K)
   table-judged =
       judged
-      ∙ ap (λ (b : List (List ℕ)). judgedTable ltb T (λ l. record { writer = at (region b 4) l; reader = at (region b 5) l; kind = at (region b 6) l }) base L) held
-      ∙ judged-arrays ltb base T L D W R K
+      ∙ ap (λ (b : List (List ℕ)). judgedTable earlier T (λ l. record { writer = at (region b 4) l; reader = at (region b 5) l; kind = at (region b 6) l }) base L) held
+      ∙ judged-arrays earlier base T L D W R K
 
   pub made-refused : (q : State) → (k ≡ 0 → ⊥) → saved q ≡ single base → madeOf (record { refusal = k; state = q }) ≡ made base (firstTasks T D) (firstLinks L W R K)
   unfolding made
@@ -79,4 +79,4 @@ same-reply p q {k} {x} i e = ap (λ (s : State). reply (saved s) k x) i ∙ e
 pub stays : (q : State) (e : Event ℕ) {r : Step} → Given q e r → StaysSound q r
 stays q e g s =
     ap (λ (a : Reply). testedSound base (a .state)) (g .answer)
-    ∙ give-sound ltb base (saved q) e (filled-shape (q .tasks) (q .links) (q .control) (q .values) (g .lent)) s .1
+    ∙ give-sound earlier base (saved q) e (filled-shape (q .tasks) (q .links) (q .control) (q .values) (g .lent)) s .1

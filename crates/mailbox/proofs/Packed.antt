@@ -1,6 +1,6 @@
 -- A saved state put into the arrays of the code's state, and that nothing of such a state lies outside what it holds.
 -- Assumes nothing.
-use mathlib.Core.Path.{_≡_, refl, sym, ap, subst, _∙_}
+use mathlib.Core.Path.{_≡_, sym, ap, subst, _∙_}
 use mathlib.Core.List.{List, [], _∷_}
 use Prim.Native.Nat.{ℕ}
 use Rattle.protocol.specs.Event.{Event}
@@ -10,9 +10,9 @@ use Rattle.protocol_state.specs.Give.{Reply, givenTo}
 use Rattle.protocol_state.specs.Fresh as fresh
 use Rattle.protocol_state.proofs.Freshes.{made-shape}
 use Rattle.protocol_state.proofs.Give.{give-shape}
-use Rattle.regions.specs.Regions.{regions, joined, Widths}
+use Rattle.regions.specs.Regions.{joined, Widths}
 use Rattle.regions.proofs.Regions.{regions-joined, joined-length}
-use Rattle.mailbox_layout.specs.Layout.{controlWidths, valueWidths, cut, cutValues, fieldsOf, Filled}
+use Rattle.mailbox_layout.specs.Layout.{controlWidths, valueWidths, cutValues, fieldsOf}
 use Rattle.mailbox_layout.proofs.Places.{control-extent, value-extent}
 use Rattle.mailbox_layout.proofs.Whole.{filled-shape, same-control, same-values}
 use Rattle.mailbox.specs.States.{saved, Whole, Given, MadeFrom}

@@ -2,11 +2,8 @@
 -- Assumes nothing.
 use mathlib.Core.Path.{_≡_, refl, sym, ap, _∙_}
 use mathlib.Core.Bool.{Bool, true, false, cond, not, true≢false}
-use mathlib.Core.List.{List}
 use Prim.Native.Nat.{ℕ, _+_, _≤_}
 use native.Mathlib.Nat.{le-refl}
-use native.Mathlib.Omega.{arith}
-use lib.Dec.{ltb}
 use lib.ListN.{set}
 use lib.Seq.{set-getD}
 use Rattle.lists.specs.Lists.{upto}
@@ -15,8 +12,9 @@ use Rattle.protocol.specs.Event.{has}
 use Rattle.protocol.specs.Free.{lowestFree}
 use Rattle.protocol_state.specs.Saved.{Saved, at}
 use Rattle.protocol_state.specs.Decision.{decided}
-use Rattle.protocol_state.specs.Next.{withParts, phaseAt, arrived, newestAfter, previousAfter, pointerAfter, phaseAfter}
-use Rattle.mailbox_layout.specs.Layout.{withPhase, withNewest, withPrevious, withPointer}
+use Rattle.protocol_state.specs.Next.{phaseAt, arrived, newestAfter, previousAfter, pointerAfter, phaseAfter}
+use Rattle.protocol_state.specs.Records.{earlier}
+use Rattle.mailbox_layout.specs.Layout.{withPhase, withNewest, withPrevious}
 use Rattle.mailbox_arrival.specs.Arrives.{movedAt, moved, pointedAt, pointed, newestOn, previousOn, pointerOn}
 
 module _ (s t : ℕ) (q : Saved) where
@@ -28,7 +26,7 @@ module _ (s t : ℕ) (q : Saved) where
   -- one that is moves on, in three steps: y is its lowest free position, z its next phase
   pub moves :
       (b : Bool) {x y z : ℕ} {q₁ q₂ q₃ : Saved} → b ≡ has s t → not b ≡ false → x ≡ at (q .newest) t →
-      y ≡ lowestFree ltb (at (q .writer)) (at (q .reader)) (at (q .pointer)) (q .links) t x → z ≡ decided 0 (at (q .phase) t) →
+      y ≡ lowestFree earlier (at (q .writer)) (at (q .reader)) (at (q .pointer)) (q .links) t x → z ≡ decided 0 (at (q .phase) t) →
       q₁ ≡ withPrevious (set (q .previous) t x) q → q₂ ≡ withNewest (set (q₁ .newest) t y) q₁ → q₃ ≡ withPhase (set (q₂ .phase) t z) q₂ →
       q₃ ≡ movedAt s t q
   moves true {x} {y} {z} e h a f d e₁ e₂ e₃ =
@@ -67,6 +65,6 @@ module _ (s : ℕ) (q₀ : Saved) where
   pointed-end = at-bound (λ (k : ℕ). pointed s k q₀)
 
   -- both parts
-  pub both : {q₁ q₂ : Saved} → q₁ ≡ moved s (q₀ .tasks) q₀ → q₂ ≡ pointed s (q₀ .links) q₁ → q₂ ≡ arrived ltb s q₀
+  pub both : {q₁ q₂ : Saved} → q₁ ≡ moved s (q₀ .tasks) q₀ → q₂ ≡ pointed s (q₀ .links) q₁ → q₂ ≡ arrived earlier s q₀
   unfolding newestAfter previousAfter pointerAfter phaseAfter
   both a b = b ∙ ap (pointed s (q₀ .links)) a

@@ -1,16 +1,16 @@
 -- What an arrival makes of a state, step by step: the writers' part task by task, then the readers' part link by link.
 -- Assumes nothing.
 use Prim.Native.Nat.{ℕ}
-use lib.Dec.{ltb}
 use lib.ListN.{set}
 use Rattle.lists.specs.Lists.{upto}
 use Rattle.protocol_state.specs.Saved.{Saved, at}
 use Rattle.protocol_state.specs.Next.{withParts, previousAt, newestAt, pointerAt, phaseAt}
+use Rattle.protocol_state.specs.Records.{earlier}
 use Rattle.mailbox_layout.specs.Layout.{withPointer}
 
 -- what the arrival of the set s makes of task t's phase x, newest x and previous x, in the state q
 abbrev pub newestOn : ℕ → Saved → ℕ → ℕ → ℕ
-newestOn s q = newestAt ltb s (at (q .writer)) (at (q .reader)) (at (q .pointer)) (q .links)
+newestOn s q = newestAt earlier s (at (q .writer)) (at (q .reader)) (at (q .pointer)) (q .links)
 
 abbrev pub previousOn : ℕ → Saved → ℕ → ℕ → ℕ
 previousOn s q = previousAt s (at (q .newest))

@@ -8,6 +8,7 @@ ghost use Rattle.protocol.specs.Event.{has};
 ghost use Rattle.protocol.specs.Free.{holds, lowestFree};
 ghost use Rattle.protocol_state.specs.Saved.{at, base};
 ghost use Rattle.protocol_state.specs.Next.{aimed, arrived};
+ghost use Rattle.protocol_state.specs.Records.{earlier};
 ghost use Rattle.mailbox_free.specs.Marks.{lastBit};
 ghost use Rattle.mailbox_free.specs.Pattern.{AllLowest};
 ghost use Rattle.mailbox_layout.specs.Layout.{Becomes, newestIn, previousIn, pointerIn, writerIn, readerIn};
@@ -49,7 +50,7 @@ fn holds_at(w: u8, r: u8, x: u8, t: u8, p: u8) -> bool
 
 // Whether one of the links holds position `p` of task `t`.
 fn held(control: &[u8; CONTROL], links: usize, t: u8, p: u8) -> bool
-    ensures { λ r. ⌜ r ≡ some (holds ltb (at (writerIn (now (control .entry)))) (at (readerIn (now (control .entry)))) (at (pointerIn (now (control .entry)))) t p) links ⌝ }
+    ensures { λ r. ⌜ r ≡ some (holds earlier (at (writerIn (now (control .entry)))) (at (readerIn (now (control .entry)))) (at (pointerIn (now (control .entry)))) t p) links ⌝ }
 {
     let mut found = false;
     let mut l = 0;
@@ -69,7 +70,7 @@ fn held(control: &[u8; CONTROL], links: usize, t: u8, p: u8) -> bool
 
 // The marks of the positions of task `t` that the links hold.
 fn held_marks(control: &[u8; CONTROL], links: usize, t: u8) -> u16
-    ensures { λ r. ⌜ ((p : ℕ) → p < lastBit → has r p ≡ some (holds ltb (at (writerIn (now (control .entry)))) (at (readerIn (now (control .entry)))) (at (pointerIn (now (control .entry)))) t p) links) ⌝ }
+    ensures { λ r. ⌜ ((p : ℕ) → p < lastBit → has r p ≡ some (holds earlier (at (writerIn (now (control .entry)))) (at (readerIn (now (control .entry)))) (at (pointerIn (now (control .entry)))) t p) links) ⌝ }
 {
     let mut marks = 0;
     let mut l = 0;
@@ -85,7 +86,7 @@ fn held_marks(control: &[u8; CONTROL], links: usize, t: u8) -> u16
 // The lowest free position of task `t`, whose newest is `x`. Mostly no link holds the lowest position other than `x`, and one look at the
 // links shows it; else it is looked up. Where the links keep the rules at most nine of ten positions are taken, so the tenth needs no test.
 fn lowest_free(lowest: &[u8; PATTERNS], control: &[u8; CONTROL], links: usize, t: u8, x: u8) -> u8
-    ensures { λ r. ⌜ (AllLowest (now (lowest .entry)) → r ≡ lowestFree ltb (at (writerIn (now (control .entry)))) (at (readerIn (now (control .entry)))) (at (pointerIn (now (control .entry)))) links t x) ⌝ }
+    ensures { λ r. ⌜ (AllLowest (now (lowest .entry)) → r ≡ lowestFree earlier (at (writerIn (now (control .entry)))) (at (readerIn (now (control .entry)))) (at (pointerIn (now (control .entry)))) links t x) ⌝ }
 {
     let next = pick(x == 1, 2, 1);
     if !held(control, links, t, next) {
@@ -179,7 +180,7 @@ pub fn arrive(
     links: usize,
     control: &mut [u8; CONTROL],
 )
-    ensures { λ _. ⌜ (AllLowest (now (lowest .entry)) → Becomes (arrived ltb set) (min tasks (base .tasks)) (min links (base .links)) (now (control .entry)) (now (control .exit))) ⌝ }
+    ensures { λ _. ⌜ (AllLowest (now (lowest .entry)) → Becomes (arrived earlier set) (min tasks (base .tasks)) (min links (base .links)) (now (control .entry)) (now (control .exit))) ⌝ }
 {
     let n = few(links, LINKS);
     move_tasks(lowest, set, few(tasks, TASKS), n, control);

@@ -4,7 +4,7 @@ ghost use mathlib.Core.Bool.{cond};
 ghost use Prim.Native.Nat.{_+_, _-_, _*_};
 ghost use lib.ListN.{set};
 ghost use Rattle.protocol.specs.Event.{has};
-ghost use Rattle.protocol_state.specs.Saved.{at, cellOf};
+ghost use Rattle.protocol_state.specs.Saved.{cellOf};
 
 // At most so many tasks, links and, in a recording, events.
 pub const TASKS: usize = 16;
@@ -29,23 +29,7 @@ pub fn pick(b: bool, x: u8, y: u8) -> u8
     if b { x } else { y }
 }
 
-// What stands at `i`, and 0 past the end.
-pub fn at(a: &[u8], i: usize) -> u8
-    ensures { λ r. ⌜ r ≡ at (now (a .entry)) i ⌝ }
-{
-    if i < a.len() { a[i] } else { 0 }
-}
-
 // Stores at `i`, where that is within.
-pub fn put(a: &mut [u8], i: usize, x: u8)
-    ensures { λ _. ⌜ now (a .exit) ≡ set (now (a .entry)) i x ⌝ }
-{
-    if i < a.len() {
-        a[i] = x;
-    }
-}
-
-// The same in an array of values.
 pub fn put_number(a: &mut [u32], i: usize, x: u32)
     ensures { λ _. ⌜ now (a .exit) ≡ set (now (a .entry)) i x ⌝ }
 {
@@ -63,15 +47,6 @@ pub fn cell_of(t: u8, p: u8) -> usize
     } else {
         t as usize * POSITIONS + (p as usize - 1)
     }
-}
-
-// The value at position `p` of task `t`.
-pub fn cell_at(cells: &[u32; CELLS], t: u8, p: u8) -> u32
-    ensures { λ r. ⌜ r ≡ at (now (cells .entry)) (cellOf t p) ⌝ }
-{
-    let s: &[u32] = cells;
-    let i = cell_of(t, p);
-    if i < s.len() { s[i] } else { 0 }
 }
 
 // Whether task `t` is in the set: bit `t`, where there is such a bit.

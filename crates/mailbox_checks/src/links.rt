@@ -6,6 +6,7 @@ ghost use lib.Dec.{eqb, ltb};
 ghost use Rattle.lists.specs.Lists.{some};
 ghost use Rattle.protocol.specs.Table.{behinds};
 ghost use Rattle.protocol_state.specs.Saved.{at, base};
+ghost use Rattle.protocol_state.specs.Records.{earlier};
 ghost use Rattle.mailbox_layout.specs.Layout.{writerIn, readerIn};
 use lists::few;
 use lists::one_if;
@@ -51,7 +52,7 @@ fn is_behind(w: u8, r: u8, t: usize) -> bool
 
 // N: how many of the first `n` links are task `t`'s to readers behind.
 pub fn readers_behind(control: &[u8; CONTROL], n: usize, t: usize) -> usize
-    ensures { λ r. ⌜ (r ≡ behinds ltb (at (writerIn (now (control .entry)))) (at (readerIn (now (control .entry)))) t (min n (base .links))) × (r ≤ base .links) ⌝ }
+    ensures { λ r. ⌜ (r ≡ behinds earlier (at (writerIn (now (control .entry)))) (at (readerIn (now (control .entry)))) t (min n (base .links))) × (r ≤ base .links) ⌝ }
 {
     let end = few(n, LINKS);
     let mut c = 0;

@@ -3,10 +3,10 @@ ghost use mathlib.Core.Path.{_≡_};
 ghost use mathlib.Core.Bool.{cond};
 ghost use mathlib.Core.List.{List};
 ghost use Prim.Native.Nat.{ℕ, _≤_};
-ghost use lib.Dec.{ltb};
 ghost use Rattle.lists.specs.Lists.{every};
 ghost use Rattle.protocol_state.specs.Saved.{base};
 ghost use Rattle.protocol_state.specs.Sound.{within, taskIs, taskOk, pointerIs, pointerOk, isSound};
+ghost use Rattle.protocol_state.specs.Records.{earlier};
 ghost use Rattle.mailbox_layout.specs.Layout.{stateOf};
 use crate::links::readers_behind;
 use crate::table::judge_table;
@@ -38,7 +38,7 @@ fn task_is(phase: u8, newest: u8, previous: u8, n: usize) -> bool
 // Whether task `t` is as it may be: its links to readers behind are counted.
 fn task_ok(links: usize, control: &[u8; CONTROL], t: usize) -> bool
     requires { ⌜ links ≤ base .links ⌝ }
-    ensures { λ r. ⌜ ((T : ℕ) (v : List ℕ) → r ≡ taskOk ltb (stateOf T links (now (control .entry)) v) t) ⌝ }
+    ensures { λ r. ⌜ ((T : ℕ) (v : List ℕ) → r ≡ taskOk earlier (stateOf T links (now (control .entry)) v) t) ⌝ }
 {
     let n = readers_behind(control, links, t);
     task_is(
@@ -52,7 +52,7 @@ fn task_ok(links: usize, control: &[u8; CONTROL], t: usize) -> bool
 // Whether each task is as it may be.
 fn tasks_ok(tasks: usize, links: usize, control: &[u8; CONTROL]) -> bool
     requires { ⌜ links ≤ base .links ⌝ }
-    ensures { λ r. ⌜ ((T : ℕ) (v : List ℕ) → r ≡ every (taskOk ltb (stateOf T links (now (control .entry)) v)) tasks) ⌝ }
+    ensures { λ r. ⌜ ((T : ℕ) (v : List ℕ) → r ≡ every (taskOk earlier (stateOf T links (now (control .entry)) v)) tasks) ⌝ }
 {
     let mut ok = true;
     let mut t = 0;
@@ -74,7 +74,7 @@ fn pick_test(b: bool, x: bool, y: bool) -> bool
 // present where the reader is active, absent where it is idle and the writer ahead of it.
 fn pointer_is(w: u8, r: u8, y: u8, phase: u8, n: usize) -> bool
     requires { ⌜ n ≤ base .links ⌝ }
-    ensures { λ res. ⌜ res ≡ pointerIs ltb w r y phase n ⌝ }
+    ensures { λ res. ⌜ res ≡ pointerIs earlier w r y phase n ⌝ }
 {
     (y as usize <= n + 2) & pick_test(phase == 0, !(w < r) | (y == 0), 1 <= y)
 }
@@ -82,7 +82,7 @@ fn pointer_is(w: u8, r: u8, y: u8, phase: u8, n: usize) -> bool
 // Whether link `l` has a pointer that it may have: its reader's phase is looked up, its writer's links are counted.
 fn pointer_ok(links: usize, control: &[u8; CONTROL], l: usize) -> bool
     requires { ⌜ links ≤ base .links ⌝ }
-    ensures { λ r. ⌜ ((T : ℕ) (v : List ℕ) → r ≡ pointerOk ltb (stateOf T links (now (control .entry)) v) l) ⌝ }
+    ensures { λ r. ⌜ ((T : ℕ) (v : List ℕ) → r ≡ pointerOk earlier (stateOf T links (now (control .entry)) v) l) ⌝ }
 {
     let w = control_at(control, WRITER, l);
     let r = control_at(control, READER, l);
@@ -94,7 +94,7 @@ fn pointer_ok(links: usize, control: &[u8; CONTROL], l: usize) -> bool
 // Whether each pointer is as it may be.
 fn pointers_ok(links: usize, control: &[u8; CONTROL]) -> bool
     requires { ⌜ links ≤ base .links ⌝ }
-    ensures { λ r. ⌜ ((T : ℕ) (v : List ℕ) → r ≡ every (pointerOk ltb (stateOf T links (now (control .entry)) v)) links) ⌝ }
+    ensures { λ r. ⌜ ((T : ℕ) (v : List ℕ) → r ≡ every (pointerOk earlier (stateOf T links (now (control .entry)) v)) links) ⌝ }
 {
     let mut ok = true;
     let mut l = 0;
@@ -107,7 +107,7 @@ fn pointers_ok(links: usize, control: &[u8; CONTROL]) -> bool
 
 // Whether a state with this control is sound: its table keeps the rules, and each task and each pointer is as it may be.
 pub fn is_sound(tasks: usize, links: usize, control: &[u8; CONTROL]) -> bool
-    ensures { λ r. ⌜ ((v : List ℕ) → r ≡ isSound ltb base (stateOf tasks links (now (control .entry)) v)) ⌝ }
+    ensures { λ r. ⌜ ((v : List ℕ) → r ≡ isSound earlier base (stateOf tasks links (now (control .entry)) v)) ⌝ }
 {
     let refusal = judge_table(tasks, links, control);
     if refusal != 0 {

@@ -2,11 +2,12 @@
 ghost use mathlib.Core.Path.{_≡_};
 ghost use mathlib.Core.Bool.{cond};
 ghost use Prim.Native.Nat.{_≤_, _<_, min};
-ghost use lib.Dec.{eqb, ltb};
+ghost use lib.Dec.{eqb};
 ghost use Rattle.lists.specs.Lists.{leading};
 ghost use Rattle.protocol_state.specs.Saved.{base};
 ghost use Rattle.mailbox_layout.specs.Layout.{linkHeld};
 ghost use Rattle.protocol_state.specs.Rules.{faultOf, faultAfter, fault, judgedTable};
+ghost use Rattle.protocol_state.specs.Records.{earlier};
 use crate::links::has_pair;
 use crate::links::readers_behind;
 use mailbox_base::numbers::LINKS;
@@ -20,7 +21,7 @@ use mailbox_layout::control_at;
 
 // The refusal that a link from `w` to `r` of kind `k` earns, the lowest that applies; `twice` and `n` speak of its writer's earlier links.
 fn fault_of(tasks: usize, w: u8, r: u8, k: u8, twice: bool, n: usize) -> u8
-    ensures { λ res. ⌜ res ≡ faultOf ltb tasks (record { writer = w; reader = r; kind = k }) twice n ⌝ }
+    ensures { λ res. ⌜ res ≡ faultOf earlier tasks (record { writer = w; reader = r; kind = k }) twice n ⌝ }
 {
     let nine = pick((w < r) & (8 <= n), 9, 0);
     let eight = pick(twice, 8, nine);
@@ -32,7 +33,7 @@ fn fault_of(tasks: usize, w: u8, r: u8, k: u8, twice: bool, n: usize) -> u8
 
 // The refusal that a link from `w` to `r` of kind `k` earns after the first `n` links, of which there are at most 32.
 pub fn fault_after(tasks: usize, control: &[u8; CONTROL], n: usize, w: u8, r: u8, k: u8) -> u8
-    ensures { λ res. ⌜ res ≡ faultAfter ltb tasks (linkHeld (now (control .entry))) (min n (base .links)) (record { writer = w; reader = r; kind = k }) ⌝ }
+    ensures { λ res. ⌜ res ≡ faultAfter earlier tasks (linkHeld (now (control .entry))) (min n (base .links)) (record { writer = w; reader = r; kind = k }) ⌝ }
 {
     let twice = has_pair(control, n, w, r);
     let behind = readers_behind(control, n, w as usize);
@@ -42,7 +43,7 @@ pub fn fault_after(tasks: usize, control: &[u8; CONTROL], n: usize, w: u8, r: u8
 // The refusal that link `l` earns, 0 for none.
 fn fault_at(tasks: usize, control: &[u8; CONTROL], l: usize) -> u8
     requires { ⌜ l < base .links ⌝ }
-    ensures { λ r. ⌜ r ≡ fault ltb tasks (linkHeld (now (control .entry))) l ⌝ }
+    ensures { λ r. ⌜ r ≡ fault earlier tasks (linkHeld (now (control .entry))) l ⌝ }
 {
     fault_after(
         tasks,
@@ -54,18 +55,18 @@ fn fault_at(tasks: usize, control: &[u8; CONTROL], l: usize) -> u8
     )
 }
 
-// The first fault: `earlier` where there is one, else that of link `l`.
-fn fault_or(earlier: u8, tasks: usize, control: &[u8; CONTROL], l: usize) -> u8
+// The first fault: `before` where there is one, else that of link `l`.
+fn fault_or(before: u8, tasks: usize, control: &[u8; CONTROL], l: usize) -> u8
     requires { ⌜ l < base .links ⌝ }
-    ensures { λ r. ⌜ r ≡ cond (eqb earlier 0) (fault ltb tasks (linkHeld (now (control .entry))) l) earlier ⌝ }
+    ensures { λ r. ⌜ r ≡ cond (eqb before 0) (fault earlier tasks (linkHeld (now (control .entry))) l) before ⌝ }
 {
-    pick(earlier == 0, fault_at(tasks, control, l), earlier)
+    pick(before == 0, fault_at(tasks, control, l), before)
 }
 
 // The refusal of the first link at fault, 0 for none.
 fn first_fault(tasks: usize, links: usize, control: &[u8; CONTROL]) -> u8
     requires { ⌜ links ≤ base .links ⌝ }
-    ensures { λ r. ⌜ r ≡ leading (fault ltb tasks (linkHeld (now (control .entry)))) links ⌝ }
+    ensures { λ r. ⌜ r ≡ leading (fault earlier tasks (linkHeld (now (control .entry)))) links ⌝ }
 {
     let mut found: u8 = 0;
     let mut l = 0;
@@ -78,7 +79,7 @@ fn first_fault(tasks: usize, links: usize, control: &[u8; CONTROL]) -> u8
 
 // The refusal that a table earns, 0 for none: its counts, then the first link at fault.
 pub fn judge_table(tasks: usize, links: usize, control: &[u8; CONTROL]) -> u8
-    ensures { λ r. ⌜ r ≡ judgedTable ltb tasks (linkHeld (now (control .entry))) base links ⌝ }
+    ensures { λ r. ⌜ r ≡ judgedTable earlier tasks (linkHeld (now (control .entry))) base links ⌝ }
 {
     if (tasks == 0) | (TASKS < tasks) {
         return 2;

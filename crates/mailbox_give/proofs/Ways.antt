@@ -3,10 +3,9 @@
 use mathlib.Core.Path.{_≡_, sym, ap, _∙_}
 use mathlib.Core.Bool.{Bool, true, false, not}
 use mathlib.Core.List.{List}
-use Prim.Native.Nat.{ℕ, _≤_, min}
+use Prim.Native.Nat.{ℕ, _≤_}
 use native.Mathlib.Nat.{min-eq-left}
 use borrow.Author.Tests.{not-true}
-use lib.Dec.{ltb}
 use Rattle.lists.proofs.Bools.{passed}
 use Rattle.protocol.specs.Event.{Event}
 use Rattle.protocol_state.specs.Saved.{Saved, base}
@@ -16,6 +15,7 @@ use Rattle.protocol_state.specs.Sound.{testedSound}
 use Rattle.protocol_state.specs.Give.{reply, givenTo}
 use Rattle.protocol_state.proofs.Give.{give-unsound, give-refused, give-done}
 use Rattle.protocol_state.proofs.Sound.{sound-room}
+use Rattle.protocol_state.specs.Records.{earlier}
 use Rattle.mailbox_layout.specs.Layout.{stateOf, viewOf}
 
 -- counts that are within the room are taken as they are
@@ -24,26 +24,26 @@ within T L c v room = rw (min-eq-left (room .0), min-eq-left (room .1))
 
 module _ (T L : ℕ) (c v : List ℕ) (e : Event ℕ) {b : Bool} (test : b ≡ testedSound base (stateOf T L c v)) where
   pub given-unsound : not b ≡ true → reply (stateOf T L c v) 19 0 ≡ givenTo base (stateOf T L c v) e
-  given-unsound h = sym (give-unsound ltb base (stateOf T L c v) e (sym test ∙ not-true b h))
+  given-unsound h = sym (give-unsound earlier base (stateOf T L c v) e (sym test ∙ not-true b h))
 
   -- a sound state, which judges the event k
-  module _ {k : ℕ} (h : not b ≡ false) (judged : k ≡ judgedOn ltb (viewOf T L c v) e) where
+  module _ {k : ℕ} (h : not b ≡ false) (judged : k ≡ judgedOn earlier (viewOf T L c v) e) where
     sound : testedSound base (stateOf T L c v) ≡ true
     sound = passed test h
 
     here : viewOf T L c v ≡ stateOf T L c v
-    here = within T L c v (sound-room ltb base (stateOf T L c v) sound)
+    here = within T L c v (sound-room earlier base (stateOf T L c v) sound)
 
     pub given-refused : (k ≡ 0 → ⊥) → reply (stateOf T L c v) k 0 ≡ givenTo base (stateOf T L c v) e
     given-refused z =
-        let j : k ≡ judgedOn ltb (stateOf T L c v) e = judged ∙ ap (λ (q : Saved). judgedOn ltb q e) here in
-        rw j (sym (give-refused ltb base (stateOf T L c v) e sound (λ i. z (j ∙ i))))
+        let j : k ≡ judgedOn earlier (stateOf T L c v) e = judged ∙ ap (λ (q : Saved). judgedOn earlier q e) here in
+        rw j (sym (give-refused earlier base (stateOf T L c v) e sound (λ i. z (j ∙ i))))
 
-    pub given-done : (c′ v′ : List ℕ) {x : ℕ} → k ≡ 0 → x ≡ valueOf (viewOf T L c v) e → viewOf T L c′ v′ ≡ next ltb (viewOf T L c v) e →
+    pub given-done : (c′ v′ : List ℕ) {x : ℕ} → k ≡ 0 → x ≡ valueOf (viewOf T L c v) e → viewOf T L c′ v′ ≡ next earlier (viewOf T L c v) e →
         reply (stateOf T L c′ v′) 0 x ≡ givenTo base (stateOf T L c v) e
     given-done c′ v′ {x} z value done =
-        let j : k ≡ judgedOn ltb (stateOf T L c v) e = judged ∙ ap (λ (q : Saved). judgedOn ltb q e) here in
+        let j : k ≡ judgedOn earlier (stateOf T L c v) e = judged ∙ ap (λ (q : Saved). judgedOn earlier q e) here in
         let x-is : x ≡ valueOf (stateOf T L c v) e = value ∙ ap (λ (q : Saved). valueOf q e) here in
-        let after : stateOf T L c′ v′ ≡ next ltb (stateOf T L c v) e =
-        sym (within T L c′ v′ (sound-room ltb base (stateOf T L c v) sound)) ∙ done ∙ ap (λ (q : Saved). next ltb q e) here in
-        rw (after, x-is) (sym (give-done ltb base (stateOf T L c v) e sound (sym j ∙ z)))
+        let after : stateOf T L c′ v′ ≡ next earlier (stateOf T L c v) e =
+        sym (within T L c′ v′ (sound-room earlier base (stateOf T L c v) sound)) ∙ done ∙ ap (λ (q : Saved). next earlier q e) here in
+        rw (after, x-is) (sym (give-done earlier base (stateOf T L c v) e sound (sym j ∙ z)))

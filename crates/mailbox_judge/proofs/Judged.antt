@@ -11,6 +11,7 @@ use Rattle.protocol_state.specs.Saved.{activePhase}
 use Rattle.protocol_state.specs.Decision.{decided}
 use Rattle.protocol_state.specs.Judge.{mayArrive, judgedArrival, judgedTask, judgedRead}
 use Rattle.protocol_state.proofs.Places.{some-same}
+use Rattle.protocol_state.specs.Records.{earlier}
 use Rattle.mailbox_judge.proofs.Sets.{shifted}
 
 -- under fixed priorities the tasks ahead of t are those before it
@@ -37,22 +38,22 @@ unfolding judgedArrival
 arrival-judged s T ph eb eu er = rw (er, eu, eb, shifted s T)
 
 module _ (k t T : ℕ) (ph : ℕ → ℕ) where
-  pub judged-outside : T ≤ t → 12 ≡ judgedTask ltb k t T ph
+  pub judged-outside : T ≤ t → 12 ≡ judgedTask earlier k t T ph
   unfolding judgedTask
   judged-outside l = rw (le-leb T t l)
 
   -- d is the decision, b whether a task before t is activePhase, u what that means for its turn
   pub judged-inside :
       {d u r : ℕ} {b : Bool} → t < T → d ≡ decided k (ph t) → b ≡ some (λ u. activePhase (ph u)) t → u ≡ cond b 16 0 → r ≡ cond (ltb d 12) u d →
-      r ≡ judgedTask ltb k t T ph
+      r ≡ judgedTask earlier k t T ph
   unfolding judgedTask
   judged-inside l ed eb eu er = rw (lt-leb T t l, er, eu, eb, ed, some-ahead (λ u. activePhase (ph u)) t T (omega arith))
 
 module _ (l T L : ℕ) (R ph : ℕ → ℕ) where
-  pub read-outside : L ≤ l → 12 ≡ judgedRead ltb l T L R ph
+  pub read-outside : L ≤ l → 12 ≡ judgedRead earlier l T L R ph
   unfolding judgedRead
   read-outside h = rw (le-leb L l h)
 
-  pub read-inside : {r : ℕ} → l < L → r ≡ judgedTask ltb 2 (R l) T ph → r ≡ judgedRead ltb l T L R ph
+  pub read-inside : {r : ℕ} → l < L → r ≡ judgedTask earlier 2 (R l) T ph → r ≡ judgedRead earlier l T L R ph
   unfolding judgedRead
   read-inside h e = rw (lt-leb L l h) e

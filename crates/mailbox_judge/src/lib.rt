@@ -2,12 +2,12 @@
 ghost use mathlib.Core.Path.{_≡_};
 ghost use mathlib.Core.Bool.{_||_, not};
 ghost use Prim.Native.Nat.{min};
-ghost use lib.Dec.{ltb};
 ghost use Rattle.lists.specs.Lists.{every, some};
 ghost use Rattle.protocol.specs.Event.{has};
 ghost use Rattle.protocol_state.specs.Saved.{at, base, activePhase};
 ghost use Rattle.protocol_state.specs.Decision.{decided};
 ghost use Rattle.protocol_state.specs.Judge.{allows, mayArrive, judgedArrival, judgedTask, judgedRead};
+ghost use Rattle.protocol_state.specs.Records.{earlier};
 ghost use Rattle.mailbox_layout.specs.Layout.{phaseIn, readerIn};
 use lists::few;
 use mailbox_base::decision::ARRIVAL;
@@ -78,7 +78,7 @@ fn some_before(t: usize, control: &[u8; CONTROL]) -> bool
 
 // The refusal of a start, a read or a finish by task `t`, 0 for none.
 pub fn judge_task(kind: usize, t: u8, tasks: usize, control: &[u8; CONTROL]) -> u8
-    ensures { λ r. ⌜ r ≡ judgedTask ltb kind t (min tasks (base .tasks)) (at (phaseIn (now (control .entry)))) ⌝ }
+    ensures { λ r. ⌜ r ≡ judgedTask earlier kind t (min tasks (base .tasks)) (at (phaseIn (now (control .entry)))) ⌝ }
 {
     let i = t as usize;
     if few(tasks, TASKS) <= i {
@@ -91,7 +91,7 @@ pub fn judge_task(kind: usize, t: u8, tasks: usize, control: &[u8; CONTROL]) -> 
 
 // The refusal of a read by link `l`, 0 for none: its reader is the task that reads.
 pub fn judge_read(l: u8, tasks: usize, links: usize, control: &[u8; CONTROL]) -> u8
-    ensures { λ r. ⌜ r ≡ judgedRead ltb l (min tasks (base .tasks)) (min links (base .links)) (at (readerIn (now (control .entry)))) (at (phaseIn (now (control .entry)))) ⌝ }
+    ensures { λ r. ⌜ r ≡ judgedRead earlier l (min tasks (base .tasks)) (min links (base .links)) (at (readerIn (now (control .entry)))) (at (phaseIn (now (control .entry)))) ⌝ }
 {
     let i = l as usize;
     if few(links, LINKS) <= i {

@@ -2,7 +2,7 @@
 -- Assumes nothing.
 use mathlib.Core.Path.{_≡_, ap}
 use mathlib.Core.List.{List}
-use Prim.Native.Nat.{ℕ, _+_}
+use Prim.Native.Nat.{ℕ}
 use lib.ListN.{set}
 use Rattle.regions.specs.Regions.{regions}
 use Rattle.mailbox_layout.specs.Layout.{cut, cutValues, fieldsOf, stateOf, withPhase, withNewest, withPrevious, withPointer, withCells}

@@ -1,14 +1,12 @@
 -- A finish, turn by turn.
 -- Assumes nothing.
-use mathlib.Core.Path.{_≡_, refl, sym, ap, _∙_}
-use mathlib.Core.List.{List}
+use mathlib.Core.Path.{_≡_, refl, ap, _∙_}
 use Prim.Native.Nat.{ℕ, _+_, _≤_}
-use lib.Dec.{ltb}
 use lib.ListN.{set}
-use Rattle.lists.specs.Lists.{upto}
 use Rattle.lists.proofs.Lists.{at-bound, upto-none, upto-more}
 use Rattle.protocol_state.specs.Saved.{Saved, at, cellOf}
 use Rattle.protocol_state.specs.Next.{finished}
+use Rattle.protocol_state.specs.Records.{earlier}
 use Rattle.mailbox_layout.specs.Layout.{withCells}
 use Rattle.mailbox_parts.specs.Frees.{freedOn, freedOne, freedFirst, advanced}
 
@@ -26,5 +24,5 @@ module _ (t : ℕ) (q₀ : Saved) where
   -- the three steps of a finish
   pub all-three :
       (v : ℕ) {q₁ q₂ q₃ : Saved} → q₁ ≡ withCells (set (q₀ .cells) (cellOf t (at (q₀ .newest) t)) v) q₀ → q₂ ≡ freedFirst t (q₀ .links) q₁ →
-      q₃ ≡ advanced 3 t q₂ → q₃ ≡ finished ltb t v q₀
+      q₃ ≡ advanced 3 t q₂ → q₃ ≡ finished earlier t v q₀
   all-three v e₁ e₂ e₃ = e₃ ∙ ap (advanced 3 t) (e₂ ∙ ap (freedFirst t (q₀ .links)) e₁)

@@ -1,16 +1,16 @@
 -- What a finish and a start make of a state, step by step.
 -- Assumes nothing.
 use Prim.Native.Nat.{ℕ}
-use lib.Dec.{ltb}
 use lib.ListN.{set}
 use Rattle.lists.specs.Lists.{upto}
-use Rattle.protocol_state.specs.Saved.{Saved, at, cellOf}
+use Rattle.protocol_state.specs.Saved.{Saved, at}
 use Rattle.protocol_state.specs.Next.{freedAt, phasesAfter}
-use Rattle.mailbox_layout.specs.Layout.{withPhase, withPointer, withCells}
+use Rattle.protocol_state.specs.Records.{earlier}
+use Rattle.mailbox_layout.specs.Layout.{withPhase, withPointer}
 
 -- as t finishes: what becomes of the pointer x of link l
 abbrev pub freedOn : ℕ → Saved → ℕ → ℕ → ℕ
-freedOn t q = freedAt ltb t (at (q .writer)) (at (q .reader))
+freedOn t q = freedAt earlier t (at (q .writer)) (at (q .reader))
 
 -- the pointer of link l
 abbrev pub freedOne : ℕ → ℕ → Saved → Saved

@@ -1,8 +1,8 @@
 // One event of any kind on the lent state: judged, and done. Counts above the room are taken as the room.
 ghost use mathlib.Core.Path.{_≡_};
-ghost use lib.Dec.{ltb};
 ghost use Rattle.protocol_state.specs.Judge.{judgedOn};
 ghost use Rattle.protocol_state.specs.Next.{next, valueOf};
+ghost use Rattle.protocol_state.specs.Records.{earlier};
 ghost use Rattle.mailbox_free.specs.Pattern.{AllLowest};
 ghost use Rattle.mailbox_layout.specs.Layout.{viewOf};
 ghost use Rattle.mailbox_parts.specs.Plain.{plain};
@@ -35,7 +35,7 @@ pub fn judge(
     control: &[u8; CONTROL],
     values: &[u32; VALUES],
 ) -> u8
-    ensures { λ r. ⌜ r ≡ judgedOn ltb (viewOf tasks links (now (control .entry)) (now (values .entry))) (plain e) ⌝ }
+    ensures { λ r. ⌜ r ≡ judgedOn earlier (viewOf tasks links (now (control .entry)) (now (values .entry))) (plain e) ⌝ }
 {
     match e {
         Event::Arrival(set) => judge_arrival(set, tasks, control),
@@ -72,7 +72,7 @@ pub fn do_event(
     control: &mut [u8; CONTROL],
     values: &mut [u32; VALUES],
 )
-    ensures { λ _. ⌜ (AllLowest (now (lowest .entry)) → viewOf tasks links (now (control .exit)) (now (values .exit)) ≡ next ltb (viewOf tasks links (now (control .entry)) (now (values .entry))) (plain e)) ⌝ }
+    ensures { λ _. ⌜ (AllLowest (now (lowest .entry)) → viewOf tasks links (now (control .exit)) (now (values .exit)) ≡ next earlier (viewOf tasks links (now (control .entry)) (now (values .entry))) (plain e)) ⌝ }
 {
     match e {
         Event::Arrival(set) => arrive(lowest, set, tasks, links, control),

@@ -1,9 +1,9 @@
 // What a start, a read and a finish do.
 ghost use mathlib.Core.Path.{_≡_};
-ghost use Prim.Native.Nat.{ℕ, _<_, _≤_, min};
-ghost use lib.Dec.{ltb};
+ghost use Prim.Native.Nat.{ℕ, _<_, min};
 ghost use Rattle.protocol_state.specs.Saved.{at, base};
 ghost use Rattle.protocol_state.specs.Next.{numberRead, freed, finished};
+ghost use Rattle.protocol_state.specs.Records.{earlier};
 ghost use Rattle.mailbox_layout.specs.Layout.{Becomes, stateOf, writerIn, pointerIn, cellsIn};
 ghost use Rattle.mailbox_parts.specs.Frees.{freedOne, freedFirst, advanced};
 use lists::few;
@@ -46,7 +46,7 @@ pub fn number_of(l: u8, control: &[u8; CONTROL], values: &[u32; VALUES]) -> u32
 
 // What becomes of the pointer `x` of a link from `w` to `r`, as `t` finishes.
 fn freed_at(t: u8, w: u8, r: u8, x: u8) -> u8
-    ensures { λ res. ⌜ res ≡ freed ltb t w r x ⌝ }
+    ensures { λ res. ⌜ res ≡ freed earlier t w r x ⌝ }
 {
     pick((r == t) & (w < t), 0, x)
 }
@@ -77,7 +77,7 @@ fn free_pointers(t: u8, links: usize, control: &mut [u8; CONTROL])
 
 // A finish that is allowed: the value goes to the newest position. A count above the room is taken as the room.
 pub fn finish(t: u8, v: u32, links: usize, control: &mut [u8; CONTROL], values: &mut [u32; VALUES])
-    ensures { λ _. ⌜ ((T : ℕ) → stateOf T (min links (base .links)) (now (control .exit)) (now (values .exit)) ≡ finished ltb t v (stateOf T (min links (base .links)) (now (control .entry)) (now (values .entry)))) ⌝ }
+    ensures { λ _. ⌜ ((T : ℕ) → stateOf T (min links (base .links)) (now (control .exit)) (now (values .exit)) ≡ finished earlier t v (stateOf T (min links (base .links)) (now (control .entry)) (now (values .entry)))) ⌝ }
 {
     put_cell(values, t, control_at(control, NEWEST, t as usize), v);
     free_pointers(t, few(links, LINKS), control);

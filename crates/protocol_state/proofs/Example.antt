@@ -3,14 +3,13 @@
 use mathlib.Core.Path.{_≡_, refl}
 use mathlib.Core.List.{List, [], _∷_}
 use Prim.Native.Nat.{ℕ}
-use lib.Dec.{ltb}
 use Rattle.lists.specs.Lists.{upto, every, some, count, first, leading, sum}
 use Rattle.protocol.specs.Given.{values}
 use Rattle.protocol.specs.Event.{Event, arrival, start, read, finish, has}
 use Rattle.protocol.specs.History.{arrivals, starts, finishes, reads, upTo, output, counts}
 use Rattle.protocol.specs.ZeroTime.{dues, ideals}
 use Rattle.protocol.specs.Instant.{ask, readLinks, runWhole, work, come, carried, upward, sets, zeroRun, find, looked, theres}
-use Rattle.protocol_state.specs.Records.{Link}
+use Rattle.protocol_state.specs.Records.{Link, earlier}
 use Rattle.protocol_state.specs.Saved.{Saved, base, at, table}
 use Rattle.protocol_state.specs.Rules.{fault, judgedTable}
 use Rattle.protocol_state.specs.Decision.{decided}
@@ -41,16 +40,16 @@ abbrev last-part : List (Event ℕ)
 last-part = start 0 ∷ read 0 ∷ finish 0 0 ∷ start 1 ∷ finish 1 103 ∷ read 2 ∷ finish 3 0 ∷ arrival 9 ∷ start 0 ∷ read 0 ∷ finish 0 0 ∷ start 3 ∷ read 2 ∷ finish 3 0 ∷ []
 
 abbrev one : Progress
-one = replay ltb base (begin station) first-part
+one = replay earlier base (begin station) first-part
 
 abbrev two : Progress
-two = replay ltb base one second-part
+two = replay earlier base one second-part
 
 abbrev three : Progress
-three = replay ltb base two third-part
+three = replay earlier base two third-part
 
 abbrev all : Progress
-all = replay ltb base three last-part
+all = replay earlier base three last-part
 
 abbrev newest-of-1 : Progress → ℕ
 newest-of-1 o = at (o .state .newest) 1
@@ -63,8 +62,8 @@ eight = 103 ∷ 102 ∷ 101 ∷ 102 ∷ 102 ∷ 101 ∷ 101 ∷ 100 ∷ []
 pub long-example :
     (newest-of-1 one ≡ 2) × (newest-of-1 two ≡ 1) × (newest-of-1 three ≡ 3) × (newest-of-1 all ≡ 3)
     × (all .numbers ≡ eight)
-    × (ideals (table ltb station) (all .history) ≡ eight)
-    × (looked (table ltb station) (zeroRun (table ltb station) (upward 0 4) (all .history)) (all .history) ≡ theres eight)
-    × (counts (table ltb station) (all .history) ≡ record { arrivals = 11; starts = 11; reads = 8; finishes = 11 })
+    × (ideals (table earlier station) (all .history) ≡ eight)
+    × (looked (table earlier station) (zeroRun (table earlier station) (upward 0 4) (all .history)) (all .history) ≡ theres eight)
+    × (counts (table earlier station) (all .history) ≡ record { arrivals = 11; starts = 11; reads = 8; finishes = 11 })
 unfolding upto every some count first leading sum has fault judgedTable decided judgedArrival judgedTask judgedRead newestAfter previousAfter pointerAfter phaseAfter isSound freshOf settled afterEvent replay arrivals starts reads finishes upTo output dues values ask readLinks runWhole work come carried upward sets find looked theres
 long-example = (refl, refl, refl, refl, refl, refl, refl, refl)

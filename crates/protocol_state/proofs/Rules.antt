@@ -17,17 +17,13 @@ use Rattle.protocol_state.specs.Saved.{Size, Saved, at, linkIn, table}
 use Rattle.protocol_state.specs.Rules.{Ranks, alike, linksBehind, faultAfter, fault, Obeys, judgedTable, KeepsRules}
 use Rattle.protocol_state.proofs.Places.{some-same, count-same, leading-none-other}
 
--- the earlier task is ahead: fixed priorities are an order of tasks
-pub ltb-ranks : Ranks ltb
-ltb-ranks = record {
+-- the order of any table's tasks is an order: nobody is ahead of himself, and of two tasks the earlier is ahead
+pub ranked : (ts : List Task) → Ranks (aheadOf ts)
+ranked ts = record {
   itself = λ t. le-ltb t t (omega arith);
   either = λ u t d e. lt-ltb t u (omega (arith, ltb-false u t e));
   onward = λ u t s d e. lt-ltb u s (omega (arith, ltb-true u t d, ltb-true t s e));
 }
-
--- whatever the tasks of a table
-pub ranked : (ts : List Task) → Ranks (aheadOf ts)
-ranked ts = ltb-ranks
 
 -- a link's fault depends only on the links before it
 pub fault-agrees : (ahead : ℕ → ℕ → Bool) (T : ℕ) {link link′ : ℕ → Link} (n : ℕ) (x : Link) → ((j : ℕ) → j < n → link j ≡ link′ j)

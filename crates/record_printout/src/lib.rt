@@ -8,15 +8,13 @@ use record_lines::put_fault;
 use record_lines::put_refused;
 use record_lines::put_too_long;
 use recording_make::make_recording;
+use recording_read::table::RECORDING;
 use text_line::ROOM;
 use text_line::show;
 use text_line::show_error;
 
 // The bytes of the longest text.
 pub const TEXT: usize = 1048576;
-
-// The bytes of the longest recording: T and the defaults, L and the links, E and the events.
-const RECORDING: usize = 1 + 4 * 16 + 1 + 3 * 32 + 2 + 6 * 10000;
 
 // Tells on standard error that a line cannot be read.
 fn tell_fault(line: usize, fault: u8) {

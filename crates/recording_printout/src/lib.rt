@@ -33,12 +33,13 @@ use recording_lines::put_refused;
 use recording_lines::put_rest;
 use recording_lines::put_task;
 use recording_read::event::Next;
+use recording_read::table::RECORDING;
 use recording_read::table::read_table;
 use recording_walk::event_at;
 use text_line::show;
 
-// The bytes of the longest recording, and one more so that an extra byte is seen: T and the defaults, L and the links, E and the events.
-pub const BYTES: usize = 1 + 4 * State::TASKS + 1 + 3 * State::LINKS + 2 + 6 * State::EVENTS + 1;
+// The bytes of the longest recording, and one more so that an extra byte is seen.
+pub const BYTES: usize = RECORDING + 1;
 
 // A program's room for numbers: as many as a recording may have events.
 pub const NUMBERS: usize = State::EVENTS;

@@ -7,15 +7,15 @@ use borrow.Author.Needs.{needs}
 use Rattle.lists.specs.Lists.{some}
 use Rattle.lists.proofs.Lists.{some-none, some-more, some-end}
 use Rattle.protocol.specs.Free.{holds}
-use lib.Dec.{ltb}
 use Rattle.mailbox_layout.specs.Layout.{writerIn, readerIn, pointerIn}
 use Rattle.protocol_state.specs.Saved.{at}
+use Rattle.protocol_state.specs.Records.{earlier}
 use Rattle.mailbox_arrival.proofs.held.Statement.{statement}
 use Rattle.mailbox_arrival.proofs.held.Tie as tie
 
 abbrev Inv-loop : tie.InvT-loop
 Inv-loop control links t p found₀ l₀ found l =
-    (l ≤ links) × (found ≡ some (holds ltb (at (writerIn control)) (at (readerIn control)) (at (pointerIn control)) t p) l)
+    (l ≤ links) × (found ≡ some (holds earlier (at (writerIn control)) (at (readerIn control)) (at (pointerIn control)) t p) l)
 
 abbrev μ-loop : tie.MeasureT-loop
 μ-loop control links t p found₀ l₀ found l = links - l
@@ -45,7 +45,7 @@ loop-again : tie.Need-loop-again Inv-loop μ-loop
 loop-again c =
     let a = c .before .before .before .before .before .before .args in (
       omega arith,
-      some-more (holds ltb (at (writerIn (a .control .now))) (at (readerIn (a .control .now))) (at (pointerIn (a .control .now))) (a .t) (a .p)) _
+      some-more (holds earlier (at (writerIn (a .control .now))) (at (readerIn (a .control .now))) (at (pointerIn (a .control .now))) (a .t) (a .p)) _
           (rw (c .before .before .before .control-at .ensures, c .before .before .control-at2 .ensures, c .before .control-at3 .ensures) at (c .holds-at .ensures)) (c .before .before .before .before .before .loop .inv .1),
     )
 

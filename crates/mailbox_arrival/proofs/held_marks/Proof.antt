@@ -5,13 +5,14 @@ use mathlib.Core.Bool.{Bool, _&&_}
 use Prim.Native.Nat.{ℕ, _≤_, _<_, _-_}
 use native.Mathlib.Omega.{arith}
 use borrow.Author.Needs.{needs}
-use lib.Dec.{eqb, ltb}
+use lib.Dec.{eqb}
 use Rattle.lists.specs.Lists.{some}
 use Rattle.lists.proofs.Lists.{some-none, some-more, some-end}
 use Rattle.protocol.specs.Event.{has}
 use Rattle.protocol.specs.Free.{holds}
 use Rattle.mailbox_layout.specs.Layout.{writerIn, readerIn, pointerIn}
 use Rattle.protocol_state.specs.Saved.{at}
+use Rattle.protocol_state.specs.Records.{earlier}
 use Rattle.mailbox_free.specs.Marks.{lastBit}
 use Rattle.mailbox_free.proofs.Marked.{has-none, has-or, has-mark}
 use Rattle.mailbox_arrival.proofs.held_marks.Statement.{statement}
@@ -19,7 +20,7 @@ use Rattle.mailbox_arrival.proofs.held_marks.Tie as tie
 
 abbrev Inv-loop : tie.InvT-loop
 Inv-loop control links t marks₀ l₀ marks l =
-    (l ≤ links) × ((p : ℕ) → p < lastBit → has marks p ≡ some (holds ltb (at (writerIn control)) (at (readerIn control)) (at (pointerIn control)) t p) l)
+    (l ≤ links) × ((p : ℕ) → p < lastBit → has marks p ≡ some (holds earlier (at (writerIn control)) (at (readerIn control)) (at (pointerIn control)) t p) l)
 
 abbrev μ-loop : tie.MeasureT-loop
 μ-loop control links t marks₀ l₀ marks l = links - l
@@ -54,7 +55,7 @@ loop-again c =
     let now = c .before .before .before .before .before .before .loop in (
       omega arith,
       λ p h. has-or _ _ p
-          ∙ some-more (holds ltb (at (writerIn (a .control .now))) (at (readerIn (a .control .now))) (at (pointerIn (a .control .now))) (a .t) p) (now .l)
+          ∙ some-more (holds earlier (at (writerIn (a .control .now))) (at (readerIn (a .control .now))) (at (pointerIn (a .control .now))) (a .t) p) (now .l)
           (ap (λ (n : ℕ). has n p) (rw (c .before .control-at3 .ensures) at (c .mark .ensures)) ∙ has-mark (c .before .before .is-behind .result) (at (pointerIn (a .control .now)) (now .l)) p h
           ∙ ap (λ (b : Bool). b && eqb (at (pointerIn (a .control .now)) (now .l)) p) (rw (c .before .before .before .before .control-at .ensures, c .before .before .before .control-at2 .ensures) at (c .before .before .is-behind .ensures)))
           (now .inv .1 p h),

@@ -7,13 +7,13 @@ use Prim.Native.Nat.{ℕ}
 use native.Mathlib.Omega.{arith}
 use borrow.Author.Needs.{needs}
 use borrow.Author.Tests.{not-true}
-use lib.Dec.{ltb}
 use Rattle.lists.specs.Lists.{some}
 use Rattle.lists.proofs.Search.{first-same}
 use Rattle.protocol.specs.Event.{has}
 use Rattle.protocol.specs.Free.{holds}
 use Rattle.mailbox_layout.specs.Layout.{writerIn, readerIn, pointerIn}
 use Rattle.protocol_state.specs.Saved.{at}
+use Rattle.protocol_state.specs.Records.{earlier}
 use Rattle.mailbox_free.proofs.Marked.{has-or, has-mark}
 use Rattle.mailbox_arrival.proofs.Other.{other-than}
 use Rattle.mailbox_arrival.proofs.lowest_free.Statement.{statement}
@@ -28,7 +28,7 @@ held-requires c κs = search needs
 returns : tie.Need-returns
 returns c right =
     let a = c .before .before .before .args in
-    let taken : ℕ → Bool = λ (p : ℕ). some (holds ltb (at (writerIn (a .control .now))) (at (readerIn (a .control .now))) (at (pointerIn (a .control .now))) (a .t) p) (a .links) in
+    let taken : ℕ → Bool = λ (p : ℕ). some (holds earlier (at (writerIn (a .control .now))) (at (readerIn (a .control .now))) (at (pointerIn (a .control .now))) (a .t) p) (a .links) in
     c .before .before .pick .ensures
     ∙ other-than taken (a .x) (ap taken (sym (c .before .before .pick .ensures)) ∙ sym (c .before .held .ensures) ∙ not-true _ (c .if1 .taken))
 

@@ -1,7 +1,6 @@
 -- `mailbox_layout::control_place` meets its contract: region by region.
 -- Assumes nothing.
 use native.Mathlib.Omega.{arith}
-use Rattle.regions.specs.Regions.{start}
 use Rattle.mailbox_layout.proofs.Places.{task-place, task-none, link-place, link-none, no-region}
 use borrow.Author.Needs.{needs}
 use Rattle.mailbox_layout.proofs.control_place.Statement.{statement}

@@ -9,14 +9,14 @@ use Rattle.lists.specs.Lists.{count}
 use Rattle.lists.proofs.Lists.{count-none, count-more, count-end, count-le}
 use Rattle.lists.proofs.Bools.{cond-small}
 use Rattle.protocol.specs.Table.{toBehind}
-use lib.Dec.{ltb}
 use Rattle.protocol_state.specs.Saved.{at}
+use Rattle.protocol_state.specs.Records.{earlier}
 use Rattle.mailbox_checks.proofs.links.readers_behind.Statement.{statement}
 use Rattle.mailbox_checks.proofs.links.readers_behind.Tie as tie
 
 abbrev Inv-loop : tie.InvT-loop
 Inv-loop control n t end c₀ l₀ c l =
-    (l ≤ end) × (c ≡ count (toBehind ltb (at (writerIn control)) (at (readerIn control)) t) l)
+    (l ≤ end) × (c ≡ count (toBehind earlier (at (writerIn control)) (at (readerIn control)) t) l)
 
 abbrev μ-loop : tie.MeasureT-loop
 μ-loop control n t end c₀ l₀ c l = end - l
@@ -45,7 +45,7 @@ add-c c =
     let l = c .before .before .before .before .before .loop in
     omega (
       arith,
-      count-le (toBehind ltb (at (writerIn (a .control .now))) (at (readerIn (a .control .now))) (a .t)) (l .l),
+      count-le (toBehind earlier (at (writerIn (a .control .now))) (at (readerIn (a .control .now))) (a .t)) (l .l),
       l .inv .1,
       c .one-if .ensures,
       cond-small (c .before .is-behind .result) {x = 1} {y = 0} {m = 1} (omega arith) (omega arith),
@@ -61,15 +61,15 @@ loop-again : tie.Need-loop-again Inv-loop μ-loop
 loop-again c =
     let a = c .before .before .before .before .before .before .before .args in (
       omega arith,
-      count-more (toBehind ltb (at (writerIn (a .control .now))) (at (readerIn (a .control .now))) (a .t)) _
+      count-more (toBehind earlier (at (writerIn (a .control .now))) (at (readerIn (a .control .now))) (a .t)) _
           (rw (c .before .before .before .control-at .ensures, c .before .before .control-at2 .ensures) at (c .before .is-behind .ensures)) (c .before .before .before .before .before .loop .inv .1) (c .one-if .ensures),
     )
 
 returns : tie.Need-returns Inv-loop μ-loop
 returns c =
     let a = c .before .before .before .args in
-    let e = count-end (toBehind ltb (at (writerIn (a .control .now))) (at (readerIn (a .control .now))) (a .t)) _ _ (c .before .loop .inv .1) (c .before .loop .inv .0) (c .loop-test .left) in
-    (rw (← c .before .before .few .ensures) e, omega (arith, count-le (toBehind ltb (at (writerIn (a .control .now))) (at (readerIn (a .control .now))) (a .t)) (c .before .loop .l), c .before .loop .inv .1))
+    let e = count-end (toBehind earlier (at (writerIn (a .control .now))) (at (readerIn (a .control .now))) (a .t)) _ _ (c .before .loop .inv .1) (c .before .loop .inv .0) (c .loop-test .left) in
+    (rw (← c .before .before .few .ensures) e, omega (arith, count-le (toBehind earlier (at (writerIn (a .control .now))) (at (readerIn (a .control .now))) (a .t)) (c .before .loop .l), c .before .loop .inv .1))
 
 pub readers-behind-spec : {M : Type 1} → statement M
 readers-behind-spec =

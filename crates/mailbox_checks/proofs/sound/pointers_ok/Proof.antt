@@ -8,14 +8,14 @@ use borrow.Author.Needs.{needs}
 use Rattle.lists.specs.Lists.{every}
 use Rattle.lists.proofs.Lists.{every-none, every-more, every-end}
 use Rattle.protocol_state.specs.Sound.{pointerOk}
-use lib.Dec.{ltb}
+use Rattle.protocol_state.specs.Records.{earlier}
 use Rattle.mailbox_layout.specs.Layout.{stateOf}
 use Rattle.mailbox_checks.proofs.sound.pointers_ok.Statement.{statement}
 use Rattle.mailbox_checks.proofs.sound.pointers_ok.Tie as tie
 
 abbrev Inv-loop : tie.InvT-loop
 Inv-loop links control ok₀ l₀ ok l =
-    (l ≤ links) × ((T : ℕ) (v : List ℕ) → ok ≡ every (pointerOk ltb (stateOf T links control v)) l)
+    (l ≤ links) × ((T : ℕ) (v : List ℕ) → ok ≡ every (pointerOk earlier (stateOf T links control v)) l)
 
 abbrev μ-loop : tie.MeasureT-loop
 μ-loop links control ok₀ l₀ ok l = links - l
@@ -36,7 +36,7 @@ loop-again : tie.Need-loop-again Inv-loop μ-loop
 loop-again c =
     let a = c .before .before .before .args in (
       omega arith,
-      λ T v. every-more (pointerOk ltb (stateOf T (a .links) (a .control .now) v)) _ (c .pointer-ok .ensures T v) (c .before .before .loop .inv .1 T v),
+      λ T v. every-more (pointerOk earlier (stateOf T (a .links) (a .control .now) v)) _ (c .pointer-ok .ensures T v) (c .before .before .loop .inv .1 T v),
     )
 
 returns : tie.Need-returns Inv-loop μ-loop

@@ -8,14 +8,14 @@ use borrow.Author.Needs.{needs}
 use Rattle.lists.specs.Lists.{every}
 use Rattle.lists.proofs.Lists.{every-none, every-more, every-end}
 use Rattle.protocol_state.specs.Sound.{taskOk}
-use lib.Dec.{ltb}
+use Rattle.protocol_state.specs.Records.{earlier}
 use Rattle.mailbox_layout.specs.Layout.{stateOf}
 use Rattle.mailbox_checks.proofs.sound.tasks_ok.Statement.{statement}
 use Rattle.mailbox_checks.proofs.sound.tasks_ok.Tie as tie
 
 abbrev Inv-loop : tie.InvT-loop
 Inv-loop tasks links control ok₀ t₀ ok t =
-    (t ≤ tasks) × ((T : ℕ) (v : List ℕ) → ok ≡ every (taskOk ltb (stateOf T links control v)) t)
+    (t ≤ tasks) × ((T : ℕ) (v : List ℕ) → ok ≡ every (taskOk earlier (stateOf T links control v)) t)
 
 abbrev μ-loop : tie.MeasureT-loop
 μ-loop tasks links control ok₀ t₀ ok t = tasks - t
@@ -36,7 +36,7 @@ loop-again : tie.Need-loop-again Inv-loop μ-loop
 loop-again c =
     let a = c .before .before .before .args in (
       omega arith,
-      λ T v. every-more (taskOk ltb (stateOf T (a .links) (a .control .now) v)) _ (c .task-ok .ensures T v) (c .before .before .loop .inv .1 T v),
+      λ T v. every-more (taskOk earlier (stateOf T (a .links) (a .control .now) v)) _ (c .task-ok .ensures T v) (c .before .before .loop .inv .1 T v),
     )
 
 returns : tie.Need-returns Inv-loop μ-loop

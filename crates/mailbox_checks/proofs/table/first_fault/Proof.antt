@@ -8,13 +8,13 @@ use borrow.Author.Needs.{needs}
 use Rattle.lists.specs.Lists.{leading}
 use Rattle.lists.proofs.Lists.{leading-none, leading-more, leading-end}
 use Rattle.protocol_state.specs.Rules.{fault}
-use lib.Dec.{ltb}
+use Rattle.protocol_state.specs.Records.{earlier}
 use Rattle.mailbox_checks.proofs.table.first_fault.Statement.{statement}
 use Rattle.mailbox_checks.proofs.table.first_fault.Tie as tie
 
 abbrev Inv-loop : tie.InvT-loop
 Inv-loop tasks links control found₀ l₀ found l =
-    (l ≤ links) × (found ≡ leading (fault ltb tasks (linkHeld control)) l)
+    (l ≤ links) × (found ≡ leading (fault earlier tasks (linkHeld control)) l)
 
 abbrev μ-loop : tie.MeasureT-loop
 μ-loop tasks links control found₀ l₀ found l = links - l
@@ -35,7 +35,7 @@ loop-again : tie.Need-loop-again Inv-loop μ-loop
 loop-again c =
     let a = c .before .before .before .args in (
       omega arith,
-      leading-more (fault ltb (a .tasks) (linkHeld (a .control .now))) _ refl
+      leading-more (fault earlier (a .tasks) (linkHeld (a .control .now))) _ refl
           (c .before .before .loop .inv .1) (c .fault-or .ensures),
     )
 
