@@ -5,7 +5,7 @@ use mathlib.Core.List.{List, []}
 use Prim.Native.Nat.{ℕ}
 use Rattle.protocol.specs.Event.{Event}
 use Rattle.protocol.specs.Table.{Table}
-use Rattle.protocol.specs.Schedule.{urgent}
+use Rattle.protocol.specs.Schedule.{policyOf}
 use Rattle.protocol.specs.Answering.{Answerer, RefusesRightly, FollowsProtocol}
 use Rattle.protocol_state.specs.Saved.{tasksIn, aheadIn, table}
 use Rattle.protocol_state.specs.Give.{Reply, reply}
@@ -23,7 +23,7 @@ use Rattle.demands.proofs.Calls.{comes}
 abbrev pub AnsweredBy : Answerer ℕ → Table ℕ → List (Event ℕ) → Event ℕ → Step → Type 0
 AnsweredBy B T h e r = Alike (reply (saved (r .state)) (r .answer .refusal) (r .answer .value)) (B .reply T h e)
 
-pub as-answerer : {T : Table ℕ} {es : List (Event ℕ)} {ns : List ℕ} {q : State} → Calls T es ns q → (B : Answerer ℕ) → RefusesRightly B urgent 0 → FollowsProtocol B urgent
+pub as-answerer : {T : Table ℕ} {es : List (Event ℕ)} {ns : List ℕ} {q : State} → Calls T es ns q → (B : Answerer ℕ) → RefusesRightly B policyOf 0 → FollowsProtocol B policyOf
     → (e : Event ℕ) (r : Step) → Gives q e r → AnsweredBy B T (past [] es) e r
 as-answerer {es = es} {q = q} c B D1 D2 e r call =
     let C = comes c in

@@ -21,7 +21,7 @@ use Rattle.protocol_state.proofs.Freshes.{made-fresh}
 use Rattle.protocol_state.proofs.Give.{refused-same}
 use Rattle.protocol_state.proofs.History.{reached-after, reached-fresh}
 use Rattle.protocol.specs.History.{past}
-use Rattle.mailbox.specs.States.{saved, Whole}
+use Rattle.mailbox.specs.States.{saved, IsWhole}
 use Rattle.mailbox.proofs.Packed.{saved-same}
 use Rattle.mailbox.specs.declared.State.{State}
 use Rattle.mailbox.specs.declared.Step.{Step}
@@ -105,7 +105,7 @@ comes (accepted c e r call z) = come-accepted (comes c) e r call z
 comes (refused c e r call n) = come-refused (comes c) e r call n
 
 -- and its arrays have their lengths
-pub calls-whole : {T : Table ℕ} {es : List (Event ℕ)} {ns : List ℕ} {q : State} → Calls T es ns q → Whole q
+pub calls-whole : {T : Table ℕ} {es : List (Event ℕ)} {ns : List ℕ} {q : State} → Calls T es ns q → IsWhole q
 calls-whole (fresh T L D W R K m said ok) = said .whole
 calls-whole (accepted c e r call z) = call .whole
 calls-whole (refused c e r call n) = call .whole

@@ -14,7 +14,7 @@ use Rattle.lists.proofs.Bools.{and-left, and-right, and-both}
 use Rattle.protocol.specs.Event.{Event, arrival, start, read, finish, has}
 use Rattle.protocol.specs.Table.{Table}
 use Rattle.protocol.specs.History.{reads}
-use Rattle.protocol.specs.Schedule.{urgent, judged}
+use Rattle.protocol.specs.Schedule.{policyOf, judged}
 use Rattle.protocol.proofs.Schedule.{has-not}
 use Rattle.protocol_state.specs.Saved.{Saved, base, at, busy, table}
 use Rattle.protocol_state.specs.Judge.{allows, mayArrive, preempted, judgedArrival, judgedTask, judgedRead, judgedOn}
@@ -126,14 +126,14 @@ turn-held false b k = refl
 
 -- by the history
 module _ (T : Table ℕ) (h : List (Event ℕ)) where
-  judged-chain : (e : Event ℕ) → judged T (urgent T) h e ≡ chain (tests T (byHistory h) e)
+  judged-chain : (e : Event ℕ) → judged T (policyOf T) h e ≡ chain (tests T (byHistory h) e)
   unfolding judged
   judged-chain (arrival m) = refl
   judged-chain (start t) = ap (λ (n : ℕ). cond (leb (T .tasks) t) 12 n) (turn-asked (byHistory h .waiting t) (heldBack T (byHistory h) t) 14)
   judged-chain (read l) = ap (λ (n : ℕ). cond (leb (T .links) l) 12 n) (turn-asked (byHistory h .running (T .reader l)) (heldBack T (byHistory h) (T .reader l)) 15)
   judged-chain (finish t v) = ap (λ (n : ℕ). cond (leb (T .tasks) t) 12 n) (turn-asked (byHistory h .running t) (heldBack T (byHistory h) t) 15)
 
-  pub judged-earned : (e : Event ℕ) → Earns (EventBreaks T (byHistory h) e) (judged T (urgent T) h e)
+  pub judged-earned : (e : Event ℕ) → Earns (EventBreaks T (byHistory h) e) (judged T (policyOf T) h e)
   judged-earned e = subst (λ (n : ℕ). Earns (EventBreaks T (byHistory h) e) n) (sym (judged-chain e)) (chain-earned T (byHistory h) e)
 
   -- the rules of events have the numbers 12 to 16
@@ -176,7 +176,7 @@ module _ (T : Table ℕ) (h : List (Event ℕ)) where
     pub record-earned : (e : Event ℕ) → Earns (RecordBreaks T out h e) (refusedBy T out h e)
     record-earned e = go (judged-earned e) refl
       where
-        go : {x : ℕ} → Earns (EventBreaks T (byHistory h) e) x → judged T (urgent T) h e ≡ x → Earns (RecordBreaks T out h e) (refusedBy T out h e)
+        go : {x : ℕ} → Earns (EventBreaks T (byHistory h) e) x → judged T (policyOf T) h e ≡ x → Earns (RecordBreaks T out h e) (refusedBy T out h e)
         go (none f) i = subst (λ (x : ℕ). Earns (RecordBreaks T out h e) (thenRoom x e (full out (reads h)))) (sym i) (room-earned e f)
         go (lowest {r = r} b f) i =
             subst (λ (x : ℕ). Earns (RecordBreaks T out h e) x)

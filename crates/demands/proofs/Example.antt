@@ -9,7 +9,7 @@ use Rattle.protocol.specs.Event.{Event, arrival, start, read, finish, has}
 use Rattle.protocol.specs.Table.{Table}
 use Rattle.protocol.specs.Given.{values}
 use Rattle.protocol.specs.History.{arrivals, starts, finishes, upTo, output, past}
-use Rattle.protocol.specs.Schedule.{urgent, Possible}
+use Rattle.protocol.specs.Schedule.{policyOf, Possible}
 use Rattle.protocol.specs.ZeroTime.{dues}
 use Rattle.protocol_state.specs.Rules.{fault, judgedTable}
 use Rattle.protocol_state.specs.Saved.{base}
@@ -36,7 +36,7 @@ five = arrival 3 ∷ start 0 ∷ finish 0 101 ∷ start 1 ∷ read 0 ∷ []
 abbrev Some : List (Event ℕ) → Type 0
 Some es = (ns : List ℕ) × (q : State) × Calls two es ns q
 
-more : {es : List (Event ℕ)} → Some es → (e : Event ℕ) → Possible two (urgent two) (past [] es) e → Some (es ++ (e ∷ []))
+more : {es : List (Event ℕ)} → Some es → (e : Event ℕ) → Possible two (policyOf two) (past [] es) e → Some (es ++ (e ∷ []))
 more {es} c e p =
     let r = stepTo (givenTo base (saved (c .1)) e) in
     let g = given-to (c .1) e (calls-whole (c .2)) in

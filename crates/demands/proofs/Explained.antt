@@ -35,7 +35,7 @@ use Rattle.recording_format.proofs.EventRecords.{events-lawful}
 use Rattle.recording_core.specs.Playing.{Playing, coreOf, judgedIn, steppedIn}
 use Rattle.recording_core.specs.Promise.{refusedBy, tableOf}
 use Rattle.recording_core.proofs.Promises.{event-refused}
-use Rattle.mailbox.specs.States.{saved, Whole}
+use Rattle.mailbox.specs.States.{saved, IsWhole}
 use Rattle.mailbox.specs.declared.State.{State}
 use Rattle.recording.specs.Answers.{replied}
 use Rattle.recording.specs.declared.Answer.{Answer}
@@ -71,7 +71,7 @@ single-made =
     made-ok (0 ∷ []) [] (no-refusal (aheadOf (0 ∷ [])) 1 (linkOf []) base 0 (omega arith) (omega arith) (omega arith) (λ l h. absurd (omega arith)))
 
 -- so whatever holds it is
-pub single-held : (q : State) → saved q ≡ fresh.single base → Whole q → Makes 1 0 (0 ∷ []) [] [] [] (record { refusal = 0; state = q })
+pub single-held : (q : State) → saved q ≡ fresh.single base → IsWhole q → Makes 1 0 (0 ∷ []) [] [] [] (record { refusal = 0; state = q })
 single-held q e w = record { answer = (λ i. record { refusal = 0; state = e i }) ∙ sym single-made; whole = w }
 
 module _ {s out list : List ℕ} {a : Answer} (said : Replays s out a list) where

@@ -9,7 +9,7 @@ use lib.ListN.{length, replicate, length-replicate}
 use Rattle.protocol.specs.Event.{Event}
 use Rattle.protocol.specs.Table.{Table}
 use Rattle.protocol.specs.History.{reads, past}
-use Rattle.protocol.specs.Schedule.{urgent, AllPossible}
+use Rattle.protocol.specs.Schedule.{policyOf, AllPossible}
 use Rattle.protocol_state.specs.Saved.{base}
 use Rattle.byte_format.specs.Play.{Verdict, verdict}
 use Rattle.recording_format.specs.Link.{Link}
@@ -46,7 +46,7 @@ module _ {s out ds : List ℕ} {ls : List Link} {es : List (Event ℕ)} where
     few-links = g .keeps .links;
     few-events = g .few;
     rules = g .keeps .rules;
-    happens = subst (λ (t : Table ℕ). AllPossible t (urgent t) (past [] es)) (sym (fresh-station ds ls (g .keeps .tasks .1) (g .keeps .links)))
+    happens = subst (λ (t : Table ℕ). AllPossible t (policyOf t) (past [] es)) (sym (fresh-station ds ls (g .keeps .tasks .1) (g .keeps .links)))
         (happen-possible (station ds ls) [] es tt (g .happen));
     room = omega (arith, past-reads [] es, g .room);
   }
@@ -60,7 +60,7 @@ module _ {s out ds : List ℕ} {ls : List Link} {es : List (Event ℕ)} where
     few = g .few-events;
     room = omega (arith, past-reads [] es, g .room);
     happen = possible-happen (station ds ls) [] es
-        (subst (λ (t : Table ℕ). AllPossible t (urgent t) (past [] es)) (fresh-station ds ls (g .few-tasks .1) (g .few-links)) (g .happens)) .0;
+        (subst (λ (t : Table ℕ). AllPossible t (policyOf t) (past [] es)) (fresh-station ds ls (g .few-tasks .1) (g .few-links)) (g .happens)) .0;
   }
 
   -- a genuine recording, as the reader judges it

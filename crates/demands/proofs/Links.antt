@@ -12,7 +12,7 @@ use lib.ListN.{length}
 use Rattle.lists.specs.Lists.{some}
 use Rattle.lists.proofs.Bools.{and-left, and-right, and-both}
 use Rattle.protocol_state.specs.Records.{linkOf, aheadOf}
-use Rattle.protocol_state.specs.Rules.{alike, linksBehind}
+use Rattle.protocol_state.specs.Rules.{samePair, linksBehind}
 use Rattle.recording_format.specs.Link.{Link, linkFault}
 use Rattle.demands.specs.Refusals.{Earns, LinkBreaks, noTask, itself, unknownKind, directAhead, twice, ninth}
 use Rattle.demands.proofs.Earned.{earns-alike, Test, test, Fires, here, later, chain-earns}
@@ -57,7 +57,7 @@ module _ (ds : List ℕ) (ls : List Link) (l : Link) where
       ∷ test 5 (eqb (l .writer) (l .reader))
       ∷ test 6 (ltb 1 (l .kind))
       ∷ test 7 (eqb (l .kind) 0 && aheadOf ds (l .reader) (l .writer))
-      ∷ test 8 (some (λ j. alike l (linkOf ls j)) (length ls))
+      ∷ test 8 (some (λ j. samePair l (linkOf ls j)) (length ls))
       ∷ test 9 (aheadOf ds (l .writer) (l .reader) && leb 8 (linksBehind (aheadOf ds) (linkOf ls) (l .writer) (length ls)))
       ∷ []
 
@@ -80,7 +80,7 @@ module _ (ds : List ℕ) (ls : List Link) (l : Link) where
   fires-broken (later (later (here e))) = let h = ltb-true 1 (l .kind) e in unknownKind (λ z. omega arith) (λ z. omega arith)
   fires-broken (later (later (later (here e)))) = directAhead (eqb-true _ _ (and-left (eqb (l .kind) 0) _ e)) (and-right (eqb (l .kind) 0) _ e)
   fires-broken (later (later (later (later (here e))))) =
-      let w = found (λ j. alike l (linkOf ls j)) (length ls) e in
+      let w = found (λ j. samePair l (linkOf ls j)) (length ls) e in
       twice (w .0) (w .1) (eqb-true _ _ (and-left (eqb (linkOf ls (w .0) .writer) (l .writer)) _ (w .2))) (eqb-true _ _ (and-right (eqb (linkOf ls (w .0) .writer) (l .writer)) _ (w .2)))
   fires-broken (later (later (later (later (later (here e)))))) =
       ninth (and-left (aheadOf ds (l .writer) (l .reader)) _ e) (leb-true 8 _ (and-right (aheadOf ds (l .writer) (l .reader)) _ e))

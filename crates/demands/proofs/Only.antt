@@ -18,7 +18,7 @@ use Rattle.recording_format.specs.Recording.{encodeRecording, stateAfter, recor
 use Rattle.recording_format.proofs.Decided.{outcome-is}
 use Rattle.recording_core.specs.Playing.{Playing, coreOf}
 use Rattle.protocol_state.specs.Fresh as fresh
-use Rattle.mailbox.specs.States.{saved, Whole}
+use Rattle.mailbox.specs.States.{saved, IsWhole}
 use Rattle.mailbox.proofs.Packed.{saved-packed, saved-same}
 use Rattle.mailbox.specs.declared.Made.{Made}
 use Rattle.recording.specs.Answers.{replied}
@@ -121,12 +121,12 @@ explained-is (inl x) = table-answer x
 explained-is (inr x) = events-answer x
 
 -- and its state has its arrays
-pub explained-whole : {s out list : List ℕ} {a : Answer} → Explained s out a list → Whole (a .state)
+pub explained-whole : {s out list : List ℕ} {a : Answer} → Explained s out a list → IsWhole (a .state)
 explained-whole (inl x) = x .state .whole
 explained-whole (inr x) = calls-whole (x .calls)
 
 -- replies that are equal are equal answers and lists
-pub reply-parts : {list list′ : List ℕ} {a a′ : Answer} → Whole (a .state) → Whole (a′ .state) → replied a list ≡ replied a′ list′ → (a ≡ a′) × (list ≡ list′)
+pub reply-parts : {list list′ : List ℕ} {a a′ : Answer} → IsWhole (a .state) → IsWhole (a′ .state) → replied a list ≡ replied a′ list′ → (a ≡ a′) × (list ≡ list′)
 reply-parts {a = a} {a′ = a′} w w′ e = (
   λ i. record {
     refusal = e i .refusal;

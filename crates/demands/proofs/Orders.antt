@@ -8,7 +8,7 @@ use lib.ListN.{length, length-append, drop, set}
 use Rattle.protocol.specs.Event.{Event, arrival, start, read, finish}
 use Rattle.protocol.specs.Table.{Table}
 use Rattle.protocol.specs.History.{Goes, same, more, arrivals, reads, past}
-use Rattle.protocol.specs.Schedule.{urgent, AllPossible}
+use Rattle.protocol.specs.Schedule.{policyOf, AllPossible}
 use Rattle.protocol.specs.ZeroTime.{due, dues}
 use Rattle.protocol.specs.Instant.{LogEntry, find, looked}
 use Rattle.protocol.specs.Answering.{ReadsNothing}
@@ -32,18 +32,18 @@ past-reads h (finish t v ∷ es) = past-reads (finish t v ∷ h) es
 
 -- each event could happen in its turn, in either order
 module _ (T : Table ℕ) where
-  pub happen-possible : (h es : List (Event ℕ)) → AllPossible T (urgent T) h → Happen T h es → AllPossible T (urgent T) (past h es)
+  pub happen-possible : (h es : List (Event ℕ)) → AllPossible T (policyOf T) h → Happen T h es → AllPossible T (policyOf T) (past h es)
   unfolding past Happen AllPossible
   happen-possible h [] P H = P
   happen-possible h (e ∷ es) P H = happen-possible (e ∷ h) es (H .0, P) (H .1)
 
-  pub possible-happen : (h es : List (Event ℕ)) → AllPossible T (urgent T) (past h es) → Happen T h es × AllPossible T (urgent T) h
+  pub possible-happen : (h es : List (Event ℕ)) → AllPossible T (policyOf T) (past h es) → Happen T h es × AllPossible T (policyOf T) h
   unfolding past Happen AllPossible
   possible-happen h [] P = (tt, P)
   possible-happen h (e ∷ es) P = let i = possible-happen (e ∷ h) es P in ((i .1 .0, i .0), i .1 .1)
 
   -- the first of events that could happen
-  pub part-possible : {h H : List (Event ℕ)} → Goes h H → AllPossible T (urgent T) H → AllPossible T (urgent T) h
+  pub part-possible : {h H : List (Event ℕ)} → Goes h H → AllPossible T (policyOf T) H → AllPossible T (policyOf T) h
   unfolding AllPossible
   part-possible same P = P
   part-possible (more e g) P = part-possible g (P .1)

@@ -9,13 +9,13 @@ use lib.ListN.{length}
 use Rattle.protocol.specs.Event.{Event, arrival, start, read, finish}
 use Rattle.protocol.specs.Table.{Table, Lawful}
 use Rattle.protocol.specs.History.{Goes, arrivals, finishes, reads, past}
-use Rattle.protocol.specs.Schedule.{urgent, Possible, AllPossible, judged}
+use Rattle.protocol.specs.Schedule.{policyOf, Possible, AllPossible, judged}
 use Rattle.protocol.specs.ZeroTime.{runOf, had, wanted, due, dues, ideals}
 use Rattle.protocol.specs.Given.{there}
 use Rattle.protocol.specs.Answering.{ReadsNothing}
 use Rattle.protocol.specs.Published.{number}
 use Rattle.protocol.specs.Instant.{Order, upward, zeroRun, find, looked, theres}
-use Rattle.protocol.proofs.Schedule.{urgent-fair, judged-possible, possible-judged}
+use Rattle.protocol.proofs.Schedule.{policy-fair, judged-possible, possible-judged}
 use Rattle.protocol.proofs.Theorem.{lowest-only, weaken, finished-then, zero-time, ideals-there, ideals-count}
 use Rattle.protocol.proofs.Unique.{runs-same}
 use Rattle.protocol.proofs.Upward.{upward-order}
@@ -54,21 +54,21 @@ module _ {T : Table ℕ} {es : List (Event ℕ)} {ns : List ℕ} {q : State} (c 
   ranks = ranked (tasksIn (C .begin))
 
   -- the accepted events could happen
-  pub calls-possible : AllPossible T (urgent T) (past [] es)
-  calls-possible = subst (λ (t : Table ℕ). AllPossible t (urgent t) (past [] es)) (C .same) (C .reached .possible)
+  pub calls-possible : AllPossible T (policyOf T) (past [] es)
+  calls-possible = subst (λ (t : Table ℕ). AllPossible t (policyOf t) (past [] es)) (C .same) (C .reached .possible)
 
   calls-lawful : Lawful T
   calls-lawful = subst (λ (t : Table ℕ). Lawful t) (C .same) (table-lawful ranks (C .reached))
 
   -- demand 2: a refusal is what the table and the accepted events say
-  pub calls-refusal : (e : Event ℕ) (r : Step) → Gives q e r → r .answer .refusal ≡ judged T (urgent T) (past [] es) e
+  pub calls-refusal : (e : Event ℕ) (r : Step) → Gives q e r → r .answer .refusal ≡ judged T (policyOf T) (past [] es) e
   calls-refusal e r call =
-      ap (λ (x : Reply). x .refusal) (call .answer) ∙ reached-refusal (C .reached) e ∙ ap (λ (t : Table ℕ). judged t (urgent t) (past [] es) e) (C .same)
+      ap (λ (x : Reply). x .refusal) (call .answer) ∙ reached-refusal (C .reached) e ∙ ap (λ (t : Table ℕ). judged t (policyOf t) (past [] es) e) (C .same)
 
-  pub calls-event : (e : Event ℕ) (r : Step) → Gives q e r → (r .answer .refusal ≡ 0) ↔ Possible T (urgent T) (past [] es) e
+  pub calls-event : (e : Event ℕ) (r : Step) → Gives q e r → (r .answer .refusal ≡ 0) ↔ Possible T (policyOf T) (past [] es) e
   calls-event e r call = (
-    λ z. judged-possible T (urgent T) (past [] es) e (sym (calls-refusal e r call) ∙ z),
-    λ p. calls-refusal e r call ∙ possible-judged T (urgent T) (past [] es) e p,
+    λ z. judged-possible T (policyOf T) (past [] es) e (sym (calls-refusal e r call) ∙ z),
+    λ p. calls-refusal e r call ∙ possible-judged T (policyOf T) (past [] es) e p,
   )
 
   published-there : Published T₀ es ns q
@@ -77,7 +77,7 @@ module _ {T : Table ℕ} {es : List (Event ℕ)} {ns : List ℕ} {q : State} (c 
     run = C .reached .run;
     only = λ s r. runs-same T₀ (C .reached .run) r;
     numbers = C .turns ∙ ap turned (C .reached .read);
-    mailboxes = run-mailboxes T₀ (urgent T₀) (subst (λ (t : Table ℕ). Apart t) (C .reached .same) (sound-apart (saved q) (C .reached .sound)))
+    mailboxes = run-mailboxes T₀ (policyOf T₀) (subst (λ (t : Table ℕ). Apart t) (C .reached .same) (sound-apart (saved q) (C .reached .sound)))
         (weaken T₀ (lowest-only T₀) (C .reached .run)) (C .reached .possible);
   }
 
@@ -104,12 +104,12 @@ module _ {T : Table ℕ} {es : List (Event ℕ)} {ns : List ℕ} {q : State} (c 
 
   -- one for each read
   pub calls-count : length (ideals T (past [] es)) ≡ reads (past [] es)
-  calls-count = ideals-count T (urgent T) calls-lawful (urgent-fair T) (past [] es) calls-possible
+  calls-count = ideals-count T (policyOf T) calls-lawful (policy-fair T) (past [] es) calls-possible
 
   -- each is what its link was due
   zero-there : dues T₀ (past [] es) ≡ looked T₀ (zeroRun T₀ (upward 0 (T₀ .tasks)) (past [] es)) (past [] es)
   zero-there =
-      sym (ideals-there T₀ (urgent T₀) (table-lawful ranks (C .reached)) (urgent-fair T₀) (past [] es) (C .reached .possible))
+      sym (ideals-there T₀ (policyOf T₀) (table-lawful ranks (C .reached)) (policy-fair T₀) (past [] es) (C .reached .possible))
       ∙ ap theres (sym (reached-ideals ranks (C .reached))) ∙ reached-zero-run ranks (C .reached) (upward 0 (T₀ .tasks)) (upward-order T₀ (λ u t. refl))
 
   zero-run : dues T (past [] es) ≡ looked T (zeroRun T (upward 0 (T .tasks)) (past [] es)) (past [] es)
@@ -119,8 +119,8 @@ module _ {T : Table ℕ} {es : List (Event ℕ)} {ns : List ℕ} {q : State} (c 
   read-finished : (h : List (Event ℕ)) (l : ℕ) → Goes (read l ∷ h) (past [] es) → wanted T h l ≤ finishes h (T .writer l)
   unfolding AllPossible Possible
   read-finished h l g =
-      let P : AllPossible T (urgent T) (read l ∷ h) = part-possible T g calls-possible in
-      finished-then T (urgent T) calls-lawful (urgent-fair T) h l (P .1) (P .0 .0) (P .0 .2)
+      let P : AllPossible T (policyOf T) (read l ∷ h) = part-possible T g calls-possible in
+      finished-then T (policyOf T) calls-lawful (policy-fair T) h l (P .1) (P .0 .0) (P .0 .2)
 
   -- the number of an accepted read is what its link is due
   read-due : (l : ℕ) (r : Step) → Gives q (read l) r → r .answer .refusal ≡ 0 → there (r .answer .value) ≡ due T (past [] es) l
@@ -128,9 +128,9 @@ module _ {T : Table ℕ} {es : List (Event ℕ)} {ns : List ℕ} {q : State} (c 
       let j : judgedOn (aheadIn (saved q)) (saved q) (read l) ≡ 0 = sym (give-refusal (aheadIn (saved q)) base (saved q) (read l) (reached-sound (C .reached))) ∙ ap (λ (x : Reply). x .refusal) (sym (call .answer)) ∙ z in
       let v : r .answer .value ≡ number T₀ (boxes (saved q)) l =
       ap (λ (x : Reply). x .value) (call .answer) ∙ ap (λ (x : Reply). x .value) (give-done (aheadIn (saved q)) base (saved q) (read l) (reached-sound (C .reached)) j) ∙ reached-number (C .reached) l j in
-      let p : Possible T₀ (urgent T₀) (past [] es) (read l) = judged-possible T₀ (urgent T₀) (past [] es) (read l) (sym (judged-history (C .reached) (read l)) ∙ j) in
+      let p : Possible T₀ (policyOf T₀) (past [] es) (read l) = judged-possible T₀ (policyOf T₀) (past [] es) (read l) (sym (judged-history (C .reached) (read l)) ∙ j) in
       ap (λ (x : ℕ). there x) v
-      ∙ zero-time T₀ (urgent T₀) (table-lawful ranks (C .reached)) (urgent-fair T₀) (lowest-only T₀) (C .reached .run) (C .reached .possible) p .0
+      ∙ zero-time T₀ (policyOf T₀) (table-lawful ranks (C .reached)) (policy-fair T₀) (lowest-only T₀) (C .reached .run) (C .reached .possible) p .0
       ∙ ap (λ (t : Table ℕ). due t (past [] es) l) (C .same)
 
 -- so at each read

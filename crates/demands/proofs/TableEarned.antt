@@ -34,21 +34,9 @@ unfolding leading
 first-at f zero ne = absurd (ne refl)
 first-at f (suc n) ne = go (ℕ-discrete (leading f n) 0) (first-at f n)
   where
-    zeros : (m : ℕ) → leading f m ≡ 0 → (i : ℕ) → i < m → f i ≡ 0
-    zeros zero z i h = absurd (omega arith)
-    zeros (suc m) z i h = also (ℕ-discrete (leading f m) 0) (λ y. zeros m y i) z
-      where
-        also : Dec (leading f m ≡ 0) → (leading f m ≡ 0 → i < m → f i ≡ 0) → cond (eqb (leading f m) 0) (f m) (leading f m) ≡ 0 → f i ≡ 0
-        also (yes y) g e = here (ℕ-discrete i m)
-          where
-            here : Dec (i ≡ m) → f i ≡ 0
-            here (yes k) = ap f k ∙ (rw (eq-eqb _ 0 y) at e)
-            here (no k) = g y (omega (arith, k))
-        also (no y) g e = absurd (y (rw (ne-eqb _ 0 y) at e))
-
     go : Dec (leading f n ≡ 0) → (leading f n ≢ 0 → (j : ℕ) × (j < n) × ((i : ℕ) → i < j → f i ≡ 0) × (f j ≡ leading f n))
         → (j : ℕ) × (j < suc n) × ((i : ℕ) → i < j → f i ≡ 0) × (f j ≡ cond (eqb (leading f n) 0) (f n) (leading f n))
-    go (yes z) g = (n, omega arith, λ i h. zeros n z i h, rw (eq-eqb _ 0 z))
+    go (yes z) g = (n, omega arith, λ i h. leading-zero f n i z h, rw (eq-eqb _ 0 z))
     go (no z) g = let w = g z in (w .0, omega (arith, w .1), w .2, w .3 ∙ rw (ne-eqb _ 0 z))
 
 first-is : (f : ℕ → ℕ) (n j : ℕ) → j < n → ((i : ℕ) → i < j → f i ≡ 0) → f j ≢ 0 → leading f n ≡ f j

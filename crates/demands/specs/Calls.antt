@@ -1,4 +1,4 @@
--- The calls on a state, and what comes of any sequence of them from a fresh one.
+-- The calls on a state (`Makes`, `Gives`), and what comes of any sequence of them from a fresh one.
 -- Assumes nothing.
 use mathlib.Core.Path.{_≡_}
 use mathlib.Core.Logic.{_≢_}
@@ -7,19 +7,11 @@ use Prim.Native.Nat.{ℕ}
 use lib.ListN.{drop}
 use Rattle.protocol.specs.Event.{Event, arrival, start, read, finish}
 use Rattle.protocol.specs.Table.{Table}
-use Rattle.mailbox.specs.States.{MadeFrom, Given}
+pub use Rattle.mailbox.specs.States.{Makes, Gives}
 use Rattle.mailbox.specs.declared.State.{State}
 use Rattle.mailbox.specs.declared.Step.{Step}
 use Rattle.mailbox.specs.declared.Made.{Made}
 use Rattle.demands.specs.Station.{station, firstTasks, firstLinks}
-
--- `State::fresh` answers m to T tasks with the defaults D and L links with the writers W, the readers R and the kinds K
-abbrev pub Makes : ℕ → ℕ → List ℕ → List ℕ → List ℕ → List ℕ → Made → Type 0
-Makes = MadeFrom
-
--- an event e given to the state q, any state, by `arrival`, `start`, `read`, `finish` or `event`, is answered r
-abbrev pub Gives : State → Event ℕ → Step → Type 0
-Gives = Given
 
 -- the part of the recording s that `recording::rest` hands back for the place p
 abbrev pub Rests : List ℕ → ℕ → List ℕ → Type 0

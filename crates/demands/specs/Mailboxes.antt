@@ -9,7 +9,7 @@ use Rattle.lists.specs.Lists.{some, count}
 use Rattle.protocol.specs.Event.{Event}
 use Rattle.protocol.specs.Table.{Table}
 use Rattle.protocol.specs.History.{active, past}
-use Rattle.protocol.specs.Schedule.{urgent, AllPossible}
+use Rattle.protocol.specs.Schedule.{policyOf, AllPossible}
 use Rattle.protocol.specs.Published.{Boxes, Same, Lowest, Run}
 use Rattle.protocol.specs.Published as published
 use Rattle.mailbox.specs.declared.State.{State}
@@ -36,7 +36,7 @@ pub record Mailboxes (T : Table ℕ) (h : List (Event ℕ)) (s : Boxes ℕ) : Ty
 -- state q and numbers ns are what the published protocol gives for the events es
 pub record Published (T : Table ℕ) (es : List (Event ℕ)) (ns : List ℕ) (q : State) : Type 0 where
   -- the events could happen on one processor
-  pub possible : AllPossible T (urgent T) (past [] es)
+  pub possible : AllPossible T (policyOf T) (past [] es)
   -- "Every pointer, mailbox": by a run of the protocol over these events
   pub run : Run T (Lowest T) (boxesIn q) (past [] es)
   -- "is .. the one": no run of the protocol, with the lowest free position taken, gives others

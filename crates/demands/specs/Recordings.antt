@@ -11,10 +11,12 @@ use Rattle.protocol.specs.History.{Counts, counts, reads, past}
 use Rattle.byte_format.specs.Number.{numberAt}
 use Rattle.byte_format.specs.Stands.{Stands}
 use Rattle.byte_format.specs.Format.{FitEach, encodes, encodeBegun, encodeSection}
+use Rattle.protocol_state.specs.Records.{Task}
 use Rattle.recording_format.specs.RecordingKind.{baseRecording}
 use Rattle.recording_format.specs.Task.{tasks}
 use Rattle.recording_format.specs.Link.{Link, linkSize, links, linkAt}
-use Rattle.recording_format.specs.Event.{events, encodeEvent, EventFits}
+use Rattle.recording_format.specs.Event.{events, encodeEvent, EventFits, sizeOf}
+use Rattle.recording_format.specs.Event as event
 use Rattle.recording_format.specs.Recording.{encodeRecording, throughE}
 use Rattle.recording.specs.declared.Answer.{Answer}
 use Rattle.demands.specs.Station.{station, Keeps}
@@ -23,17 +25,17 @@ use Rattle.demands.specs.Calls.{Makes, Calls}
 use Rattle.demands.specs.Refusals.{Earns, LinkBreaks, RecordBreaks}
 
 -- the bytes of a recording, of its events, and through its count of events
-abbrev pub recordingBytes : List ℕ → List Link → List (Event ℕ) → List ℕ
+abbrev pub recordingBytes : List Task → List Link → List (Event ℕ) → List ℕ
 recordingBytes ds ls es = encodeRecording baseRecording ds ls es
 
 abbrev pub eventBytes : List (Event ℕ) → List ℕ
 eventBytes es = encodes (events baseRecording) es
 
-abbrev pub throughCount : List ℕ → List Link → ℕ
+abbrev pub throughCount : List Task → List Link → ℕ
 throughCount ds ls = throughE baseRecording ds ls
 
 -- the bytes s are the tasks ds, the links ls and the events es, within every limit, with room for the numbers of its reads in the lent list out, and could happen
-pub record Genuine (s out : List ℕ) (ds : List ℕ) (ls : List Link) (es : List (Event ℕ)) : Type 0 where
+pub record Genuine (s out : List ℕ) (ds : List Task) (ls : List Link) (es : List (Event ℕ)) : Type 0 where
   -- "its links obey the published rules"
   pub keeps : Keeps ds ls
   -- "its bytes .. the stated limits"
@@ -48,20 +50,20 @@ pub record Genuine (s out : List ℕ) (ds : List ℕ) (ls : List Link) (es : Lis
 -- ---- what stands at the beginning of the bytes s, up to the place p, in order
 
 -- a count of tasks, and the first tasks
-pub record TasksBegun (s : List ℕ) (T : ℕ) (ds : List ℕ) (p : ℕ) : Type 0 where
+pub record TasksBegun (s : List ℕ) (T : ℕ) (ds : List Task) (p : ℕ) : Type 0 where
   pub few : (1 ≤ T) × (T ≤ baseRecording .tasks)
   pub fits : FitEach (tasks baseRecording) ds
   pub bytes : Stands s 0 (encodeBegun (tasks baseRecording) T ds) p
 
 -- all tasks, a count of links, and the first links, which keep the rules
-pub record LinksBegun (s : List ℕ) (ds : List ℕ) (L : ℕ) (ls : List Link) (p : ℕ) : Type 0 where
+pub record LinksBegun (s : List ℕ) (ds : List Task) (L : ℕ) (ls : List Link) (p : ℕ) : Type 0 where
   pub few : L ≤ baseRecording .links
   pub keeps : Keeps ds ls
   pub fits : FitEach (tasks baseRecording) ds × FitEach (links baseRecording) ls
   pub bytes : Stands s 0 (encodeSection (tasks baseRecording) ds ++ encodeBegun (links baseRecording) L ls) p
 
 -- the table, a count of events, and the first events
-pub record EventsBegun (s : List ℕ) (ds : List ℕ) (ls : List Link) (E : ℕ) (es : List (Event ℕ)) (p : ℕ) : Type 0 where
+pub record EventsBegun (s : List ℕ) (ds : List Task) (ls : List Link) (E : ℕ) (es : List (Event ℕ)) (p : ℕ) : Type 0 where
   pub few : E ≤ baseRecording .events
   pub keeps : Keeps ds ls
   pub fits : FitEach (tasks baseRecording) ds × (FitEach (links baseRecording) ls × FitEach (events baseRecording) es)
@@ -76,18 +78,18 @@ pub data TableFault (s : List ℕ) : ℕ → ℕ → Type 0 where
   badTaskCount : baseRecording .taskCountWidth ≤ length s →
       (numberAt (baseRecording .taskCountWidth) s 0 ≡ 0) ⊎ (baseRecording .tasks < numberAt (baseRecording .taskCountWidth) s 0) → TableFault s 2 0
   -- a task: 1 "the bytes end inside a .. record"
-  cutTask : {T p : ℕ} {ds : List ℕ} → TasksBegun s T ds p → length ds < T → length s < p + baseRecording .valueWidth → TableFault s 1 p
+  cutTask : {T p : ℕ} {ds : List Task} → TasksBegun s T ds p → length ds < T → length s < p + baseRecording .valueWidth → TableFault s 1 p
   -- L: 1, 3 "L is above 32"
-  cutLinkCount : {p : ℕ} {ds : List ℕ} → TasksBegun s (length ds) ds p → length s < p + baseRecording .linkCountWidth → TableFault s 1 p
-  badLinkCount : {p : ℕ} {ds : List ℕ} → TasksBegun s (length ds) ds p → p + baseRecording .linkCountWidth ≤ length s →
+  cutLinkCount : {p : ℕ} {ds : List Task} → TasksBegun s (length ds) ds p → length s < p + baseRecording .linkCountWidth → TableFault s 1 p
+  badLinkCount : {p : ℕ} {ds : List Task} → TasksBegun s (length ds) ds p → p + baseRecording .linkCountWidth ≤ length s →
       baseRecording .links < numberAt (baseRecording .linkCountWidth) s p → TableFault s 3 p
   -- a link: "any byte missing (1), then rising order", 4 to 9
-  cutLink : {L p : ℕ} {ds : List ℕ} {ls : List Link} → LinksBegun s ds L ls p → length ls < L → length s < p + linkSize baseRecording → TableFault s 1 p
-  badLink : {L p r : ℕ} {ds : List ℕ} {ls : List Link} → LinksBegun s ds L ls p → length ls < L → p + linkSize baseRecording ≤ length s →
+  cutLink : {L p : ℕ} {ds : List Task} {ls : List Link} → LinksBegun s ds L ls p → length ls < L → length s < p + linkSize baseRecording → TableFault s 1 p
+  badLink : {L p r : ℕ} {ds : List Task} {ls : List Link} → LinksBegun s ds L ls p → length ls < L → p + linkSize baseRecording ≤ length s →
       Earns (LinkBreaks ds ls (linkAt s p)) r → r ≢ 0 → TableFault s r p
   -- E: 1, 10 "E is above 10,000"
-  cutEventCount : {p : ℕ} {ds : List ℕ} {ls : List Link} → LinksBegun s ds (length ls) ls p → length s < p + baseRecording .eventCountWidth → TableFault s 1 p
-  badEventCount : {p : ℕ} {ds : List ℕ} {ls : List Link} → LinksBegun s ds (length ls) ls p → p + baseRecording .eventCountWidth ≤ length s →
+  cutEventCount : {p : ℕ} {ds : List Task} {ls : List Link} → LinksBegun s ds (length ls) ls p → length s < p + baseRecording .eventCountWidth → TableFault s 1 p
+  badEventCount : {p : ℕ} {ds : List Task} {ls : List Link} → LinksBegun s ds (length ls) ls p → p + baseRecording .eventCountWidth ≤ length s →
       baseRecording .events < numberAt (baseRecording .eventCountWidth) s p → TableFault s 10 p
 
 -- the four counts of an answer
@@ -106,10 +108,10 @@ pub record AtTable (s out : List ℕ) (a : Answer) (list : List ℕ) : Type 0 wh
 
 -- how many bytes a record has that begins with this byte; a byte with no line here is no kind
 pub data KindOf : ℕ → ℕ → Type 0 where
-  anArrival : KindOf 1 3
-  aStart : KindOf 2 2
-  aRead : KindOf 3 2
-  aFinish : KindOf 4 6
+  anArrival : KindOf 1 (sizeOf baseRecording event.anArrival)
+  aStart : KindOf 2 (sizeOf baseRecording event.aStart)
+  aRead : KindOf 3 (sizeOf baseRecording event.aRead)
+  aFinish : KindOf 4 (sizeOf baseRecording event.aFinish)
 
 -- what the bytes s have at the place p after the events es, of E in all, and its number
 pub data Ending (T : Table ℕ) (s out : List ℕ) (E : ℕ) (es : List (Event ℕ)) (p : ℕ) : ℕ → Type 0 where
@@ -134,7 +136,7 @@ pub record Listed (ns out list : List ℕ) : Type 0 where
 -- before the place stand the table and the events es; the state is the one of calls in which just these were accepted, the numbers are those that the calls
 -- read, the counts are counted from these events
 pub record AtEvents (s out : List ℕ) (a : Answer) (list : List ℕ) : Type 0 where
-  pub ds : List ℕ
+  pub ds : List Task
   pub ls : List Link
   pub es : List (Event ℕ)
   pub ns : List ℕ

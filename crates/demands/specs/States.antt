@@ -6,7 +6,8 @@ use Rattle.protocol.specs.Table.{Table}
 use Rattle.protocol.specs.Published.{Boxes}
 use Rattle.protocol_state.specs.Saved.{base, at, aheadIn, busy, table, boxes}
 use Rattle.protocol_state.specs.Sound.{StandsSound}
-use Rattle.mailbox.specs.States.{saved, Whole}
+use Rattle.mailbox.specs.States.{saved}
+pub use Rattle.mailbox.specs.States.{IsWhole}
 use Rattle.mailbox.specs.declared.State.{State}
 use Rattle.demands.specs.Refusals.{Standing}
 
@@ -14,10 +15,6 @@ use Rattle.demands.specs.Refusals.{Standing}
 -- an active reader is absent, and every pointer from a writer ahead of an idle reader is absent."; and each phase is one of the three, for there is no other
 abbrev pub IsSound : State → Type 0
 IsSound q = StandsSound base (saved q)
-
--- its two arrays have their lengths, as in every state that the code holds: an array's length is its type
-abbrev pub IsWhole : State → Type 0
-IsWhole q = Whole q
 
 -- the table that it holds, with the order of its own tasks
 abbrev pub tableIn : State → Table ℕ

@@ -19,7 +19,7 @@ use Rattle.protocol_state.specs.Records.{firstTasks, firstLinks}
 use Rattle.byte_format.specs.Number.{Bytes}
 use Rattle.recording_format.specs.Words.{Words}
 use Rattle.mailbox_layout.specs.Layout.{stateOf}
-use Rattle.mailbox.specs.States.{saved, Whole}
+use Rattle.mailbox.specs.States.{saved, IsWhole}
 use Rattle.mailbox.specs.declared.State.{State}
 use Rattle.recording.specs.declared.Answer.{Answer}
 use Rattle.recording_demands.specs.Ensured.{Replays}
@@ -95,7 +95,7 @@ abbrev pub stateIn : Parts → Saved
 stateIn (T, (L, arrays)) = stateWith (now T) (now L) arrays
 
 -- arrays that hold what they held, to the last byte
-pub record Kept (before after : Arrays) : Type 0 where
+pub record Untouched (before after : Arrays) : Type 0 where
   pub control : now (after .0) ≡ now (before .0)
   pub values : now (after .1 .0) ≡ now (before .1 .0)
 
@@ -110,7 +110,7 @@ pub record HostTells : Type 0 where
       let state = stateWith (lent .1 .1 .1 .1 .0) (lent .1 .1 .1 .1 .1 .0) in
       let before = lent .1 .1 .1 .1 .1 .1 in
       let after = left .1 .1 .1 .1 .1 .1 in
-      HostGives (state before) (lent .0) (lent .1 .0) (lent .1 .1 .0) r (now (left .1 .1 .1 .0)) (state after) × (r ≢ 0 → Kept before after)
+      HostGives (state before) (lent .0) (lent .1 .0) (lent .1 .1 .0) r (now (left .1 .1 .1 .0)) (state after) × (r ≢ 0 → Untouched before after)
   pub replay : (κs : Lfts 8) (lent : Dens κs of-replay.ps) (r : resT of-replay.r κs .Denot) (left : AtExit (endedOf 8 of-replay.ps of-replay.r) κs) →
       on-replay.Learnt κs lent r left →
       HostReplays (now (lent .0)) (now (lent .1 .0)) r (now (left .1 .1 .0)) (now (left .1 .1 .1 .0)) (stateIn (left .1 .1 .1 .1)) (now (left .1 .0))
@@ -132,7 +132,7 @@ pub data HostSays : ℕ → ℕ → ℕ → Event ℕ → Type 0 where
 -- the code's state that holds what a host's arrays do: those have their lengths, which is what a host promises by its types
 pub record Holds (p : State) (q : Saved) : Type 0 where
   pub same : saved p ≡ q
-  pub whole : Whole p
+  pub whole : IsWhole p
 
 -- the answer that a replay's parts are; the counts stand in their order
 abbrev pub hostAnswer : ℕ → ℕ → List ℕ → State → Answer

@@ -9,8 +9,8 @@ use Rattle.lists.proofs.Lists.{at-bound, upto-none, upto-more}
 use Rattle.protocol_state.specs.Saved.{base, at, positions}
 use Rattle.protocol_state.specs.Fresh.{copied, filled}
 use Rattle.regions.specs.Regions.{regions, region}
-use Rattle.mailbox_layout.specs.Layout.{valueSize, cutValues, defaultsIn, cellsIn}
-use Rattle.mailbox_layout.specs.Fresh.{noColumn, freshControl, withByte, columnsPut, eachDefault}
+use Rattle.mailbox_layout.specs.Layout.{cellRegion, defaultRegion, valueSize, cutValues, defaultsIn, cellsIn}
+use Rattle.mailbox_layout.specs.Fresh.{noColumn, freshControl, withNumber, columnsPut, eachDefault}
 
 -- the first l links of the columns W, R and K
 module _ (W R K : List ℕ) where
@@ -45,15 +45,15 @@ module _ (D : List ℕ) where
   unfolding regions firstDefaults upto
   defaults-none = refl
 
-  pub defaults-more : (t : ℕ) {v v′ : List (List ℕ)} → v ≡ firstDefaults t → v′ ≡ withByte 0 t (at D t) v → v′ ≡ firstDefaults (t + 1)
+  pub defaults-more : (t : ℕ) {v v′ : List (List ℕ)} → v ≡ firstDefaults t → v′ ≡ withNumber defaultRegion t (at D t) v → v′ ≡ firstDefaults (t + 1)
   unfolding firstDefaults
   defaults-more t e p =
-      p ∙ ap (withByte 0 t (at D t)) e
+      p ∙ ap (withNumber defaultRegion t (at D t)) e
       ∙ ap (λ (ys : List ℕ). ys ∷ replicate {A = ℕ} (base .tasks * positions) 0 ∷ []) (upto-more (λ i x. at D i) t (replicate (base .tasks) 0) 0 refl refl)
 
   -- then each cell has its task's default
   pub defaults-end : (i n : ℕ) (v v′ : List ℕ) → cutValues v ≡ firstDefaults i → i ≤ n → n ≤ i →
-      cutValues v′ ≡ set (cutValues v) 1 (eachDefault (defaultsIn v) (cellsIn v)) →
+      cutValues v′ ≡ set (cutValues v) cellRegion (eachDefault (defaultsIn v) (cellsIn v)) →
       cutValues v′ ≡ copied (base .tasks) n D ∷ filled (base .tasks) (copied (base .tasks) n D) ∷ []
   unfolding firstDefaults
   defaults-end i n v v′ e l h p = p ∙ ap all (at-bound firstDefaults i n e l h)

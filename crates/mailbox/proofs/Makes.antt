@@ -23,7 +23,7 @@ use Rattle.mailbox_layout.specs.Layout.{cut, cutValues, linkHeld, stateOf, fiel
 use Rattle.mailbox_layout.specs.Fresh.{freshControl}
 use Rattle.mailbox_layout.proofs.Whole.{filled-shape}
 use Rattle.regions.specs.Regions.{region}
-use Rattle.mailbox.specs.States.{saved, madeOf, Given, passing, StaysSound}
+use Rattle.mailbox.specs.States.{saved, madeOf, Gives, passing, StaysSound}
 use Rattle.mailbox.specs.declared.State.{State}
 use Rattle.mailbox.specs.declared.Step.{Step}
 use Rattle.mailbox.specs.declared.Made.{Made}
@@ -76,7 +76,7 @@ pub same-reply : (p q : State) {k x : ℕ} {a : Reply} → p ≡ q → reply (sa
 same-reply p q {k} {x} i e = ap (λ (s : State). reply (saved s) k x) i ∙ e
 
 -- whatever is handed back as the protocol's reply
-pub stays : (q : State) (e : Event ℕ) {r : Step} → Given q e r → StaysSound q r
+pub stays : (q : State) (e : Event ℕ) {r : Step} → Gives q e r → StaysSound q r
 stays q e g s =
     ap (λ (a : Reply). testedSound base (a .state)) (g .answer)
     ∙ give-sound earlier base (saved q) e (filled-shape (q .tasks) (q .links) (q .control) (q .values) (g .lent)) s .1

@@ -1,7 +1,7 @@
 -- A saved state put into the arrays of the code's state, and that nothing of such a state lies outside what it holds.
 -- Assumes nothing.
 use mathlib.Core.Path.{_≡_, sym, ap, subst, _∙_}
-use mathlib.Core.List.{List, [], _∷_}
+use mathlib.Core.List.{List}
 use Prim.Native.Nat.{ℕ}
 use Rattle.protocol.specs.Event.{Event}
 use Rattle.protocol_state.specs.Records.{firstTasks, firstLinks}
@@ -12,20 +12,13 @@ use Rattle.protocol_state.proofs.Freshes.{made-shape}
 use Rattle.protocol_state.proofs.Give.{give-shape}
 use Rattle.regions.specs.Regions.{joined, Widths}
 use Rattle.regions.proofs.Regions.{regions-joined, joined-length}
-use Rattle.mailbox_layout.specs.Layout.{controlWidths, valueWidths, cutValues, fieldsOf}
+use Rattle.mailbox_layout.specs.Layout.{controlOf, valuesOf, controlWidths, valueWidths, cutValues, fieldsOf}
 use Rattle.mailbox_layout.proofs.Places.{control-extent, value-extent}
 use Rattle.mailbox_layout.proofs.Whole.{filled-shape, same-control, same-values}
-use Rattle.mailbox.specs.States.{saved, Whole, Given, MadeFrom}
+use Rattle.mailbox.specs.States.{saved, IsWhole, Gives, Makes}
 use Rattle.mailbox.specs.declared.State.{State}
 use Rattle.mailbox.specs.declared.Step.{Step}
 use Rattle.mailbox.specs.declared.Made.{Made}
-
--- the regions of the two arrays
-abbrev controlOf : Saved → List (List ℕ)
-controlOf q = q .phase ∷ q .newest ∷ q .previous ∷ q .pointer ∷ q .writer ∷ q .reader ∷ q .kind ∷ []
-
-abbrev valuesOf : Saved → List (List ℕ)
-valuesOf q = q .defaults ∷ q .cells ∷ []
 
 -- a saved state in the code's arrays
 pub packed : Saved → State
@@ -47,7 +40,7 @@ module _ (q : Saved) (S : Shape base q) where
       ap (λ (c : List (List ℕ)). fieldsOf (q .tasks) (q .links) c (cutValues (joined (valuesOf q)))) (regions-joined controlWidths (controlOf q) control-widths)
       ∙ ap (λ (v : List (List ℕ)). fieldsOf (q .tasks) (q .links) (controlOf q) v) (regions-joined valueWidths (valuesOf q) value-widths)
 
-  pub packed-whole : Whole (packed q)
+  pub packed-whole : IsWhole (packed q)
   unfolding packed
   packed-whole = record {
     control = joined-length controlWidths (controlOf q) control-widths ∙ control-extent;
@@ -55,18 +48,18 @@ module _ (q : Saved) (S : Shape base q) where
   }
 
 -- states with all their arrays are equal where they hold the same
-pub saved-same : (p q : State) → Whole p → Whole q → saved p ≡ saved q → p ≡ q
+pub saved-same : (p q : State) → IsWhole p → IsWhole q → saved p ≡ saved q → p ≡ q
 saved-same p q w w′ e =
     let c : p .control ≡ q .control = same-control (p .tasks) (p .links) (q .tasks) (q .links) (p .control) (p .values) (q .control) (q .values) e w w′ in
     let v : p .values ≡ q .values = same-values (p .tasks) (p .links) (q .tasks) (q .links) (p .control) (p .values) (q .control) (q .values) e w w′ in
     λ i. record { tasks = e i .tasks; links = e i .links; control = c i; values = v i }
 
 -- its parts have their lengths
-pub whole-shape : (q : State) → Whole q → Shape base (saved q)
+pub whole-shape : (q : State) → IsWhole q → Shape base (saved q)
 whole-shape q w = filled-shape (q .tasks) (q .links) (q .control) (q .values) w
 
 -- so a state with all its arrays is the packing of what it holds
-pub packed-is : (p : State) (q : Saved) → Whole p → saved p ≡ q → p ≡ packed q
+pub packed-is : (p : State) (q : Saved) → IsWhole p → saved p ≡ q → p ≡ packed q
 packed-is p q w e =
     let S : Shape base q = subst (λ (x : Saved). Shape base x) e (whole-shape p w) in
     saved-same p (packed q) w (packed-whole q S) (e ∙ sym (saved-packed q S))
@@ -75,7 +68,7 @@ packed-is p q w e =
 abbrev pub stepTo : Reply → Step
 stepTo a = record { state = packed (a .state); answer = record { refusal = a .refusal; value = a .value } }
 
-pub given-to : (q : State) (e : Event ℕ) → Whole q → Given q e (stepTo (givenTo base (saved q) e))
+pub given-to : (q : State) (e : Event ℕ) → IsWhole q → Gives q e (stepTo (givenTo base (saved q) e))
 given-to q e w =
     let a = givenTo base (saved q) e in
     let S : Shape base (givenTo base (saved q) e .state) = give-shape _ base (saved q) e (whole-shape q w) in
@@ -86,13 +79,13 @@ given-to q e w =
     }
 
 -- of a packed state
-pub given-packed : (q : Saved) (e : Event ℕ) → Shape base q → Given (packed q) e (stepTo (givenTo base q e))
-given-packed q e S = subst (λ (x : Saved). Given (packed q) e (stepTo (givenTo base x e))) (saved-packed q S) (given-to (packed q) e (packed-whole q S))
+pub given-packed : (q : Saved) (e : Event ℕ) → Shape base q → Gives (packed q) e (stepTo (givenTo base q e))
+given-packed q e S = subst (λ (x : Saved). Gives (packed q) e (stepTo (givenTo base x e))) (saved-packed q S) (given-to (packed q) e (packed-whole q S))
 
 abbrev pub madeTo : fresh.Made → Made
 madeTo m = record { refusal = m .refusal; state = packed (m .state) }
 
-pub made-to : (T L : ℕ) (D W R K : List ℕ) → MadeFrom T L D W R K (madeTo (fresh.made base (firstTasks T D) (firstLinks L W R K)))
+pub made-to : (T L : ℕ) (D W R K : List ℕ) → Makes T L D W R K (madeTo (fresh.made base (firstTasks T D) (firstLinks L W R K)))
 made-to T L D W R K =
     let m = fresh.made base (firstTasks T D) (firstLinks L W R K) in
     let S : Shape base (fresh.made base (firstTasks T D) (firstLinks L W R K) .state) = made-shape base (firstTasks T D) (firstLinks L W R K) in

@@ -10,7 +10,7 @@ use Rattle.protocol_state.specs.Saved.{Saved, base}
 use Rattle.protocol_state.specs.Sound.{testedSound}
 use Rattle.protocol_state.specs.Give.{Reply, reply, givenTo}
 use Rattle.protocol_state.specs.Fresh as fresh
-use Rattle.mailbox_layout.specs.Layout.{stateOf, Filled}
+use Rattle.mailbox_layout.specs.Layout.{stateOf, HasLengths}
 use Rattle.mailbox.specs.declared.State.{State}
 use Rattle.mailbox.specs.declared.Step.{Step}
 use Rattle.mailbox.specs.declared.Made.{Made}
@@ -19,9 +19,9 @@ use Rattle.mailbox.specs.declared.Made.{Made}
 abbrev pub saved : State → Saved
 saved q = stateOf (q .tasks) (q .links) (q .control) (q .values)
 
--- its arrays have their lengths, which is part of its type: so nothing of it lies outside what `saved` sees
-abbrev pub Whole : State → Type 0
-Whole q = Filled (q .control) (q .values)
+-- its arrays have their lengths, as in every state that the code holds, for an array's length is its type: so nothing of it lies outside what `saved` sees
+abbrev pub IsWhole : State → Type 0
+IsWhole q = HasLengths (q .control) (q .values)
 
 -- what an event hands back, as the protocol's reply
 abbrev pub replyOf : Step → Reply
@@ -31,16 +31,16 @@ replyOf r = reply (saved (r .state)) (r .answer .refusal) (r .answer .value)
 abbrev pub madeOf : Made → fresh.Made
 madeOf m = record { refusal = m .refusal; state = saved (m .state) }
 
--- the answer to an event, with room for 16 tasks and 32 links
-pub record Given (q : State) (e : Event ℕ) (r : Step) : Type 0 where
+-- an event e given to the state q by `arrival`, `start`, `read`, `finish` or `event` is answered r; q is any state whose arrays have their lengths
+pub record Gives (q : State) (e : Event ℕ) (r : Step) : Type 0 where
   pub answer : replyOf r ≡ givenTo base (saved q) e
-  pub lent : Whole q
-  pub whole : Whole (r .state)
+  pub lent : IsWhole q
+  pub whole : IsWhole (r .state)
 
--- the answer to T tasks with the defaults D and L links with the writers W, the readers R and the kinds K
-pub record MadeFrom (T L : ℕ) (D W R K : List ℕ) (m : Made) : Type 0 where
+-- `State::fresh` answers m to T tasks with the defaults D and L links with the writers W, the readers R and the kinds K
+pub record Makes (T L : ℕ) (D W R K : List ℕ) (m : Made) : Type 0 where
   pub answer : madeOf m ≡ fresh.made base (firstTasks T D) (firstLinks L W R K)
-  pub whole : Whole (m .state)
+  pub whole : IsWhole (m .state)
 
 -- whether it passes the test of soundness
 abbrev pub passing : State → Bool

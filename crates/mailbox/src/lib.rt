@@ -9,7 +9,7 @@ ghost use Rattle.protocol.specs.Event.{arrival, start, read, finish};
 ghost use Rattle.protocol_state.specs.Saved.{at, base};
 ghost use Rattle.protocol_state.specs.Fresh.{single};
 ghost use Rattle.mailbox_parts.specs.Plain.{plain};
-ghost use Rattle.mailbox.specs.States.{saved, Whole, MadeFrom, Given, passing, StaysSound};
+ghost use Rattle.mailbox.specs.States.{saved, IsWhole, Makes, Gives, passing, StaysSound};
 use crate::tables::control_of;
 use crate::tables::values_of;
 use mailbox_base::numbers::EVENTS;
@@ -81,7 +81,7 @@ impl State {
         reader: [u8; LINKS],
         kind: [u8; LINKS],
     ) -> Made
-        ensures answer { λ r. ⌜ MadeFrom tasks links defaults writer reader kind r ⌝ }
+        ensures answer { λ r. ⌜ Makes tasks links defaults writer reader kind r ⌝ }
         ensures sound { λ r. ⌜ passing (r .state) ≡ true ⌝ }
     {
         let control = control_of(links, &writer, &reader, &kind);
@@ -107,7 +107,7 @@ impl State {
     // The arrival of a set of tasks, bit t for task t.
     // Refusals: 19; 12 an empty set or a task not in the table; 13 an active task.
     pub fn arrival(self, set: u32) -> Step
-        ensures answer { λ r. ⌜ Given self (arrival set) r ⌝ }
+        ensures answer { λ r. ⌜ Gives self (arrival set) r ⌝ }
         ensures sound { λ r. ⌜ StaysSound self r ⌝ }
     {
         self.event(Event::Arrival(set))
@@ -116,7 +116,7 @@ impl State {
     // The start of a task.
     // Refusals: 19; 12 no such task; 14 it isn't waiting; 16 a more urgent task is active.
     pub fn start(self, t: u8) -> Step
-        ensures answer { λ r. ⌜ Given self (start t) r ⌝ }
+        ensures answer { λ r. ⌜ Gives self (start t) r ⌝ }
         ensures sound { λ r. ⌜ StaysSound self r ⌝ }
     {
         self.event(Event::Start(t))
@@ -125,7 +125,7 @@ impl State {
     // The number that a link's reader reads by it.
     // Refusals: 19; 12 no such link; 15 its reader isn't running; 16 a more urgent task is active.
     pub fn read(self, l: u8) -> Step
-        ensures answer { λ r. ⌜ Given self (read l) r ⌝ }
+        ensures answer { λ r. ⌜ Gives self (read l) r ⌝ }
         ensures sound { λ r. ⌜ StaysSound self r ⌝ }
     {
         self.event(Event::Read(l))
@@ -134,7 +134,7 @@ impl State {
     // The finish of a task with a value.
     // Refusals: 19; 12 no such task; 15 it isn't running; 16 a more urgent task is active.
     pub fn finish(self, t: u8, value: u32) -> Step
-        ensures answer { λ r. ⌜ Given self (finish t value) r ⌝ }
+        ensures answer { λ r. ⌜ Gives self (finish t value) r ⌝ }
         ensures sound { λ r. ⌜ StaysSound self r ⌝ }
     {
         self.event(Event::Finish(t, value))
@@ -142,7 +142,7 @@ impl State {
 
     // Any event, already read: 19 if the state isn't sound, else 12 to 16 in rising order, else it is done.
     pub fn event(mut self, e: Event) -> Step
-        ensures answer { λ r. ⌜ Given self (plain e) r ⌝ }
+        ensures answer { λ r. ⌜ Gives self (plain e) r ⌝ }
         ensures sound { λ r. ⌜ StaysSound self r ⌝ }
     {
         let tasks = self.tasks;
@@ -163,7 +163,7 @@ impl State {
     // `whole` hands the fact on.
     pub fn itself(self) -> State
         ensures same { λ r. ⌜ r ≡ self ⌝ }
-        ensures whole { λ r. ⌜ Whole r ⌝ }
+        ensures whole { λ r. ⌜ IsWhole r ⌝ }
     {
         self
     }
@@ -178,7 +178,7 @@ impl State {
 
     // The fresh state of a single task with default 0 and no links.
     pub fn single() -> State
-        ensures { λ r. ⌜ (saved r ≡ single base) × Whole r ⌝ }
+        ensures { λ r. ⌜ (saved r ≡ single base) × IsWhole r ⌝ }
     {
         let control = fresh_control();
         State {

@@ -17,7 +17,7 @@ use mailbox_layout::fresh::fresh_control;
 use mailbox_layout::fresh::put_link;
 use mailbox_layout::put_value;
 
-// The control of the first `n` links, of which there are at most 32; the slots past them hold 0.
+// The control of the first `n` links, no more than there is room for; the slots past them hold 0.
 pub(crate) fn control_of(
     n: usize,
     writer: &[u8; LINKS],
@@ -36,7 +36,7 @@ pub(crate) fn control_of(
     control
 }
 
-// The values of the first `n` defaults, of which there are at most 16: the slots past them hold 0, and each position its task's default.
+// The values of the first `n` defaults, no more than there is room for: the slots past them hold 0, and each position its task's default.
 pub(crate) fn values_of(n: usize, defaults: &[u32; TASKS]) -> [u32; VALUES]
     ensures { λ r. ⌜ cutValues r ≡ copied (base .tasks) (min n (base .tasks)) (now (defaults .entry)) ∷ filled (base .tasks) (copied (base .tasks) (min n (base .tasks)) (now (defaults .entry))) ∷ [] ⌝ }
 {

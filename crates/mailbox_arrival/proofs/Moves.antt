@@ -12,9 +12,8 @@ use Rattle.protocol.specs.Event.{has}
 use Rattle.protocol.specs.Free.{lowestFree}
 use Rattle.protocol_state.specs.Saved.{Saved, at}
 use Rattle.protocol_state.specs.Decision.{decided}
-use Rattle.protocol_state.specs.Next.{phaseAt, arrived, newestAfter, previousAfter, pointerAfter, phaseAfter}
+use Rattle.protocol_state.specs.Next.{withPhase, withNewest, withPrevious, phaseAt, arrived, newestAfter, previousAfter, pointerAfter, phaseAfter}
 use Rattle.protocol_state.specs.Records.{earlier}
-use Rattle.mailbox_layout.specs.Layout.{withPhase, withNewest, withPrevious}
 use Rattle.mailbox_arrival.specs.Arrives.{movedAt, moved, pointedAt, pointed, newestOn, previousOn, pointerOn}
 
 module _ (s t : ℕ) (q : Saved) where

@@ -4,11 +4,10 @@ use Prim.Native.Nat.{ℕ}
 use lib.ListN.{set}
 use Rattle.lists.specs.Lists.{upto}
 use Rattle.protocol_state.specs.Saved.{Saved, at}
-use Rattle.protocol_state.specs.Next.{withParts, previousAt, newestAt, pointerAt, phaseAt}
+use Rattle.protocol_state.specs.Next.{withPhase, withNewest, withPrevious, withPointer, previousAt, newestAt, pointerAt, phaseAt}
 use Rattle.protocol_state.specs.Records.{earlier}
-use Rattle.mailbox_layout.specs.Layout.{withPointer}
 
--- what the arrival of the set s makes of task t's phase x, newest x and previous x, in the state q
+-- what the arrival of the set s makes of task t's newest x and previous x, in the state q
 abbrev pub newestOn : ℕ → Saved → ℕ → ℕ → ℕ
 newestOn s q = newestAt earlier s (at (q .writer)) (at (q .reader)) (at (q .pointer)) (q .links)
 
@@ -22,13 +21,13 @@ pointerOn s q = pointerAt s (at (q .writer)) (at (q .reader)) (at (q .kind)) (at
 -- the writers' part for task t
 abbrev pub movedAt : ℕ → ℕ → Saved → Saved
 movedAt s t q =
-    withParts q (set (q .phase) t (phaseAt s t (at (q .phase) t))) (set (q .newest) t (newestOn s q t (at (q .newest) t)))
-    (set (q .previous) t (previousOn s q t (at (q .previous) t))) (q .cells) (q .pointer)
+    withPhase (set (q .phase) t (phaseAt s t (at (q .phase) t)))
+    (withNewest (set (q .newest) t (newestOn s q t (at (q .newest) t))) (withPrevious (set (q .previous) t (previousOn s q t (at (q .previous) t))) q))
 
 -- and for the first T tasks
 abbrev pub moved : ℕ → ℕ → Saved → Saved
 moved s T q =
-    withParts q (upto (phaseAt s) T (q .phase)) (upto (newestOn s q) T (q .newest)) (upto (previousOn s q) T (q .previous)) (q .cells) (q .pointer)
+    withPhase (upto (phaseAt s) T (q .phase)) (withNewest (upto (newestOn s q) T (q .newest)) (withPrevious (upto (previousOn s q) T (q .previous)) q))
 
 -- the readers' part for link l
 abbrev pub pointedAt : ℕ → ℕ → Saved → Saved

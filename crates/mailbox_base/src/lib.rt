@@ -1,3 +1,3 @@
-// What judging and doing share: numbers in lent arrays, and the table of decisions.
+// What judging and doing share: limits, numbers, and the table of decisions.
 pub mod decision;
 pub mod numbers;

@@ -1,4 +1,4 @@
-// Numbers, and what stands in lent arrays of them.
+// Limits, and numbers.
 ghost use mathlib.Core.Path.{_≡_};
 ghost use mathlib.Core.Bool.{cond};
 ghost use Prim.Native.Nat.{_+_, _-_, _*_};

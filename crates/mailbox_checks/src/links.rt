@@ -1,4 +1,4 @@
-// What the first links of a table, of which there are at most 32, say of one link more, and of a task.
+// What the first links of a table, no more than there is room for, say of one link more, and of a task.
 ghost use mathlib.Core.Path.{_≡_};
 ghost use mathlib.Core.Bool.{_&&_};
 ghost use Prim.Native.Nat.{_≤_, min};

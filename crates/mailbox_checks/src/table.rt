@@ -31,7 +31,7 @@ fn fault_of(tasks: usize, w: u8, r: u8, k: u8, twice: bool, n: usize) -> u8
     pick((tasks <= w as usize) | (tasks <= r as usize), 4, five)
 }
 
-// The refusal that a link from `w` to `r` of kind `k` earns after the first `n` links, of which there are at most 32.
+// The refusal that a link from `w` to `r` of kind `k` earns after the first `n` links, no more than there is room for.
 pub fn fault_after(tasks: usize, control: &[u8; CONTROL], n: usize, w: u8, r: u8, k: u8) -> u8
     ensures { λ res. ⌜ res ≡ faultAfter earlier tasks (linkHeld (now (control .entry))) (min n (base .links)) (record { writer = w; reader = r; kind = k }) ⌝ }
 {

@@ -4,7 +4,6 @@ use mathlib.Core.Path.{_≡_, sym, ap, _∙_}
 use mathlib.Core.Bool.{Bool, true, false, not}
 use mathlib.Core.List.{List}
 use Prim.Native.Nat.{ℕ, _≤_}
-use native.Mathlib.Nat.{min-eq-left}
 use borrow.Author.Tests.{not-true}
 use Rattle.lists.proofs.Bools.{passed}
 use Rattle.protocol.specs.Event.{Event}
@@ -17,10 +16,7 @@ use Rattle.protocol_state.proofs.Give.{give-unsound, give-refused, give-done}
 use Rattle.protocol_state.proofs.Sound.{sound-room}
 use Rattle.protocol_state.specs.Records.{earlier}
 use Rattle.mailbox_layout.specs.Layout.{stateOf, viewOf}
-
--- counts that are within the room are taken as they are
-within : (T L : ℕ) (c v : List ℕ) → (T ≤ base .tasks) × (L ≤ base .links) → viewOf T L c v ≡ stateOf T L c v
-within T L c v room = rw (min-eq-left (room .0), min-eq-left (room .1))
+use Rattle.mailbox_layout.proofs.Room.{view-within}
 
 module _ (T L : ℕ) (c v : List ℕ) (e : Event ℕ) {b : Bool} (test : b ≡ testedSound base (stateOf T L c v)) where
   pub given-unsound : not b ≡ true → reply (stateOf T L c v) 19 0 ≡ givenTo base (stateOf T L c v) e
@@ -31,8 +27,11 @@ module _ (T L : ℕ) (c v : List ℕ) (e : Event ℕ) {b : Bool} (test : b ≡ t
     sound : testedSound base (stateOf T L c v) ≡ true
     sound = passed test h
 
+    room : (T ≤ base .tasks) × (L ≤ base .links)
+    room = sound-room earlier base (stateOf T L c v) sound
+
     here : viewOf T L c v ≡ stateOf T L c v
-    here = within T L c v (sound-room earlier base (stateOf T L c v) sound)
+    here = view-within T L c v (room .0) (room .1)
 
     pub given-refused : (k ≡ 0 → ⊥) → reply (stateOf T L c v) k 0 ≡ givenTo base (stateOf T L c v) e
     given-refused z =
@@ -45,5 +44,5 @@ module _ (T L : ℕ) (c v : List ℕ) (e : Event ℕ) {b : Bool} (test : b ≡ t
         let j : k ≡ judgedOn earlier (stateOf T L c v) e = judged ∙ ap (λ (q : Saved). judgedOn earlier q e) here in
         let x-is : x ≡ valueOf (stateOf T L c v) e = value ∙ ap (λ (q : Saved). valueOf q e) here in
         let after : stateOf T L c′ v′ ≡ next earlier (stateOf T L c v) e =
-        sym (within T L c′ v′ (sound-room earlier base (stateOf T L c v) sound)) ∙ done ∙ ap (λ (q : Saved). next earlier q e) here in
+        sym (view-within T L c′ v′ (room .0) (room .1)) ∙ done ∙ ap (λ (q : Saved). next earlier q e) here in
         rw (after, x-is) (sym (give-done earlier base (stateOf T L c v) e sound (sym j ∙ z)))

@@ -30,11 +30,11 @@ pub fn give(
     if !is_sound(tasks, links, control) {
         return 19;
     }
-    let refusal = judge(e, tasks, links, control, values);
+    let refusal = judge(e, tasks, links, control);
     if refusal != 0 {
         return refusal;
     }
-    *number = value_of(e, tasks, links, control, values);
+    *number = value_of(e, control, values);
     let lowest = lowest_table();
     do_event(&lowest, e, tasks, links, control, values);
     0

@@ -5,29 +5,30 @@ use mathlib.Core.List.{List}
 use Prim.Native.Nat.{ℕ}
 use lib.ListN.{set}
 use Rattle.regions.specs.Regions.{regions}
-use Rattle.mailbox_layout.specs.Layout.{cut, cutValues, fieldsOf, stateOf, withPhase, withNewest, withPrevious, withPointer, withCells}
+use Rattle.protocol_state.specs.Next.{withPhase, withNewest, withPrevious, withCells, withPointer}
+use Rattle.mailbox_layout.specs.Layout.{phaseRegion, newestRegion, previousRegion, pointerRegion, cellRegion, cut, cutValues, fieldsOf, stateOf}
 
 module _ (T L : ℕ) (c c′ v : List ℕ) where
   same : (k : ℕ) (y : List ℕ) → cut c′ ≡ set (cut c) k y → stateOf T L c′ v ≡ fieldsOf T L (set (cut c) k y) (cutValues v)
   same k y e = ap (λ (B : List (List ℕ)). fieldsOf T L B (cutValues v)) e
 
-  pub phase-put : {y : List ℕ} → cut c′ ≡ set (cut c) 0 y → stateOf T L c′ v ≡ withPhase y (stateOf T L c v)
+  pub phase-put : {y : List ℕ} → cut c′ ≡ set (cut c) phaseRegion y → stateOf T L c′ v ≡ withPhase y (stateOf T L c v)
   unfolding regions
-  phase-put {y} e = same 0 y e
+  phase-put {y} e = same phaseRegion y e
 
-  pub newest-put : {y : List ℕ} → cut c′ ≡ set (cut c) 1 y → stateOf T L c′ v ≡ withNewest y (stateOf T L c v)
+  pub newest-put : {y : List ℕ} → cut c′ ≡ set (cut c) newestRegion y → stateOf T L c′ v ≡ withNewest y (stateOf T L c v)
   unfolding regions
-  newest-put {y} e = same 1 y e
+  newest-put {y} e = same newestRegion y e
 
-  pub previous-put : {y : List ℕ} → cut c′ ≡ set (cut c) 2 y → stateOf T L c′ v ≡ withPrevious y (stateOf T L c v)
+  pub previous-put : {y : List ℕ} → cut c′ ≡ set (cut c) previousRegion y → stateOf T L c′ v ≡ withPrevious y (stateOf T L c v)
   unfolding regions
-  previous-put {y} e = same 2 y e
+  previous-put {y} e = same previousRegion y e
 
-  pub pointer-put : {y : List ℕ} → cut c′ ≡ set (cut c) 3 y → stateOf T L c′ v ≡ withPointer y (stateOf T L c v)
+  pub pointer-put : {y : List ℕ} → cut c′ ≡ set (cut c) pointerRegion y → stateOf T L c′ v ≡ withPointer y (stateOf T L c v)
   unfolding regions
-  pointer-put {y} e = same 3 y e
+  pointer-put {y} e = same pointerRegion y e
 
 module _ (T L : ℕ) (c v v′ : List ℕ) where
-  pub cells-put : {y : List ℕ} → cutValues v′ ≡ set (cutValues v) 1 y → stateOf T L c v′ ≡ withCells y (stateOf T L c v)
+  pub cells-put : {y : List ℕ} → cutValues v′ ≡ set (cutValues v) cellRegion y → stateOf T L c v′ ≡ withCells y (stateOf T L c v)
   unfolding regions
   cells-put e = ap (λ (N : List (List ℕ)). fieldsOf T L (cut c) N) e

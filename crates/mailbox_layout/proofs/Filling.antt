@@ -8,8 +8,8 @@ use Rattle.lists.specs.Lists.{upto}
 use Rattle.lists.proofs.Lists.{at-bound, upto-none, upto-more}
 use Rattle.protocol_state.specs.Saved.{base, at, positions}
 use Rattle.regions.specs.Regions.{regions, region}
-use Rattle.mailbox_layout.specs.Layout.{controlSize, cut, cutValues, defaultsIn, cellsIn}
-use Rattle.mailbox_layout.specs.Fresh.{noColumn, freshControl, withByte, eachDefault}
+use Rattle.mailbox_layout.specs.Layout.{cellRegion, previousRegion, newestRegion, defaultRegion, controlSize, cut, cutValues, defaultsIn, cellsIn}
+use Rattle.mailbox_layout.specs.Fresh.{noColumn, freshControl, withNumber, eachDefault}
 
 -- the first t tasks have the position 1
 ones : ℕ → List ℕ
@@ -23,10 +23,10 @@ pub ones-none : cut (replicate controlSize 0) ≡ firstOnes 0
 unfolding regions firstOnes ones upto
 ones-none = refl
 
-pub ones-more : (t : ℕ) {c c₁ c₂ : List (List ℕ)} → c ≡ firstOnes t → c₁ ≡ withByte 1 t 1 c → c₂ ≡ withByte 2 t 1 c₁ → c₂ ≡ firstOnes (t + 1)
+pub ones-more : (t : ℕ) {c c₁ c₂ : List (List ℕ)} → c ≡ firstOnes t → c₁ ≡ withNumber newestRegion t 1 c → c₂ ≡ withNumber previousRegion t 1 c₁ → c₂ ≡ firstOnes (t + 1)
 unfolding firstOnes ones
 ones-more t e e₁ e₂ =
-    e₂ ∙ ap (withByte 2 t 1) (e₁ ∙ ap (withByte 1 t 1) e) ∙ rw (upto-more {A = ℕ} (λ i x. 1) t (replicate (base .tasks) 0) 0 refl refl)
+    e₂ ∙ ap (withNumber previousRegion t 1) (e₁ ∙ ap (withNumber newestRegion t 1) e) ∙ rw (upto-more {A = ℕ} (λ i x. 1) t (replicate (base .tasks) 0) 0 refl refl)
 
 pub ones-end : (i : ℕ) {c : List (List ℕ)} → c ≡ firstOnes i → i ≤ base .tasks → base .tasks ≤ i → c ≡ freshControl noColumn noColumn noColumn
 unfolding firstOnes ones upto
@@ -42,14 +42,14 @@ module _ (v : List ℕ) where
   cells-none = rw (upto-none (λ k x. at (defaultsIn v) (k / positions)) (cellsIn v))
 
   pub cells-end : (i : ℕ) {n : List (List ℕ)} → n ≡ firstCells i (defaultsIn v) (cellsIn v) → i ≤ base .tasks * positions → base .tasks * positions ≤ i →
-      n ≡ set (cutValues v) 1 (eachDefault (defaultsIn v) (cellsIn v))
+      n ≡ set (cutValues v) cellRegion (eachDefault (defaultsIn v) (cellsIn v))
   unfolding regions firstCells
   cells-end i e l h = at-bound (λ (k : ℕ). firstCells k (defaultsIn v) (cellsIn v)) i (base .tasks * positions) e l h
 
-pub cells-more : (i : ℕ) (D C : List ℕ) {n n′ : List (List ℕ)} {x : ℕ} → n ≡ firstCells i D C → x ≡ at (region n 0) (i / positions) → n′ ≡ withByte 1 i x n →
+pub cells-more : (i : ℕ) (D C : List ℕ) {n n′ : List (List ℕ)} {x : ℕ} → n ≡ firstCells i D C → x ≡ at (region n defaultRegion) (i / positions) → n′ ≡ withNumber cellRegion i x n →
     n′ ≡ firstCells (i + 1) D C
 unfolding firstCells
 cells-more i D C {n} {n′} {x} e d p =
     let f : ℕ → ℕ → ℕ = λ k y. at D (k / positions) in
     let o : x ≡ at D (i / positions) = d ∙ ap (λ (rs : List (List ℕ)). at (region rs 0) (i / positions)) e in
-    p ∙ ap (withByte 1 i x) e ∙ ap (λ (ys : List ℕ). D ∷ ys ∷ []) (upto-more f i C 0 refl o)
+    p ∙ ap (withNumber cellRegion i x) e ∙ ap (λ (ys : List ℕ). D ∷ ys ∷ []) (upto-more f i C 0 refl o)

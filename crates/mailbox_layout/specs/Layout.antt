@@ -6,7 +6,6 @@ use Prim.Native.Nat.{ℕ, _+_, _*_, min}
 use lib.ListN.{length, replicate}
 use Rattle.protocol_state.specs.Records.{Link}
 use Rattle.protocol_state.specs.Saved.{Saved, base, positions, at}
-use Rattle.protocol_state.specs.Next.{withParts}
 use Rattle.regions.specs.Regions.{regions, region}
 
 -- so many regions of the control are by task: phase, newest, previous
@@ -31,6 +30,35 @@ controlSize = byTask * base .tasks + byLink * base .links
 abbrev pub valueSize : ℕ
 valueSize = base .tasks + base .tasks * positions
 
+-- the number of each region: of the control
+abbrev pub phaseRegion : ℕ
+phaseRegion = 0
+
+abbrev pub newestRegion : ℕ
+newestRegion = 1
+
+abbrev pub previousRegion : ℕ
+previousRegion = 2
+
+abbrev pub pointerRegion : ℕ
+pointerRegion = 3
+
+abbrev pub writerRegion : ℕ
+writerRegion = 4
+
+abbrev pub readerRegion : ℕ
+readerRegion = 5
+
+abbrev pub kindRegion : ℕ
+kindRegion = 6
+
+-- and of the values
+abbrev pub defaultRegion : ℕ
+defaultRegion = 0
+
+abbrev pub cellRegion : ℕ
+cellRegion = 1
+
 -- the control and the values, cut
 abbrev pub cut : List ℕ → List (List ℕ)
 cut c = regions controlWidths c
@@ -40,25 +68,25 @@ cutValues v = regions valueWidths v
 
 -- the fields of the control
 abbrev pub phaseIn : List ℕ → List ℕ
-phaseIn c = region (cut c) 0
+phaseIn c = region (cut c) phaseRegion
 
 abbrev pub newestIn : List ℕ → List ℕ
-newestIn c = region (cut c) 1
+newestIn c = region (cut c) newestRegion
 
 abbrev pub previousIn : List ℕ → List ℕ
-previousIn c = region (cut c) 2
+previousIn c = region (cut c) previousRegion
 
 abbrev pub pointerIn : List ℕ → List ℕ
-pointerIn c = region (cut c) 3
+pointerIn c = region (cut c) pointerRegion
 
 abbrev pub writerIn : List ℕ → List ℕ
-writerIn c = region (cut c) 4
+writerIn c = region (cut c) writerRegion
 
 abbrev pub readerIn : List ℕ → List ℕ
-readerIn c = region (cut c) 5
+readerIn c = region (cut c) readerRegion
 
 abbrev pub kindIn : List ℕ → List ℕ
-kindIn c = region (cut c) 6
+kindIn c = region (cut c) kindRegion
 
 -- its link l
 abbrev pub linkHeld : List ℕ → ℕ → Link
@@ -66,28 +94,35 @@ linkHeld c l = record { writer = at (writerIn c) l; reader = at (readerIn c) l; 
 
 -- and of the values
 abbrev pub defaultsIn : List ℕ → List ℕ
-defaultsIn v = region (cutValues v) 0
+defaultsIn v = region (cutValues v) defaultRegion
 
 abbrev pub cellsIn : List ℕ → List ℕ
-cellsIn v = region (cutValues v) 1
+cellsIn v = region (cutValues v) cellRegion
 
 -- the saved state of T tasks and L links with these regions of control and of values
 abbrev pub fieldsOf : ℕ → ℕ → List (List ℕ) → List (List ℕ) → Saved
 fieldsOf T L c v = record {
   tasks = T;
   links = L;
-  defaults = region v 0;
-  phase = region c 0;
-  newest = region c 1;
-  previous = region c 2;
-  cells = region v 1;
-  writer = region c 4;
-  reader = region c 5;
-  kind = region c 6;
-  pointer = region c 3;
+  defaults = region v defaultRegion;
+  phase = region c phaseRegion;
+  newest = region c newestRegion;
+  previous = region c previousRegion;
+  cells = region v cellRegion;
+  writer = region c writerRegion;
+  reader = region c readerRegion;
+  kind = region c kindRegion;
+  pointer = region c pointerRegion;
 }
 
--- the one that the control c and the values v are
+-- the regions of the control and of the values, from the fields of a state
+abbrev pub controlOf : Saved → List (List ℕ)
+controlOf q = q .phase ∷ q .newest ∷ q .previous ∷ q .pointer ∷ q .writer ∷ q .reader ∷ q .kind ∷ []
+
+abbrev pub valuesOf : Saved → List (List ℕ)
+valuesOf q = q .defaults ∷ q .cells ∷ []
+
+-- the saved state that the control c and the values v are
 abbrev pub stateOf : ℕ → ℕ → List ℕ → List ℕ → Saved
 stateOf T L c v = fieldsOf T L (cut c) (cutValues v)
 
@@ -96,25 +131,9 @@ abbrev pub viewOf : ℕ → ℕ → List ℕ → List ℕ → Saved
 viewOf T L c v = stateOf (min T (base .tasks)) (min L (base .links)) c v
 
 -- arrays of a state have these lengths: an array's length is its type
-pub record Filled (c v : List ℕ) : Type 0 where
+pub record HasLengths (c v : List ℕ) : Type 0 where
   pub control : length c ≡ controlSize
   pub values : length v ≡ valueSize
-
--- a state with one field anew
-abbrev pub withPhase : List ℕ → Saved → Saved
-withPhase x q = withParts q x (q .newest) (q .previous) (q .cells) (q .pointer)
-
-abbrev pub withNewest : List ℕ → Saved → Saved
-withNewest x q = withParts q (q .phase) x (q .previous) (q .cells) (q .pointer)
-
-abbrev pub withPrevious : List ℕ → Saved → Saved
-withPrevious x q = withParts q (q .phase) (q .newest) x (q .cells) (q .pointer)
-
-abbrev pub withCells : List ℕ → Saved → Saved
-withCells x q = withParts q (q .phase) (q .newest) (q .previous) x (q .pointer)
-
-abbrev pub withPointer : List ℕ → Saved → Saved
-withPointer x q = withParts q (q .phase) (q .newest) (q .previous) (q .cells) x
 
 -- with the control after, whatever the values are, the state is `f` of the state with the control before
 abbrev pub Becomes : (Saved → Saved) → ℕ → ℕ → List ℕ → List ℕ → Type 0

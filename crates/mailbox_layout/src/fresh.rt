@@ -1,7 +1,7 @@
 // The arrays of a fresh state: no link yet, and every position of a task holding its default.
 ghost use mathlib.Core.Path.{_≡_};
 ghost use lib.ListN.{set};
-ghost use Rattle.mailbox_layout.specs.Layout.{cut, cutValues, cellsIn, defaultsIn};
+ghost use Rattle.mailbox_layout.specs.Layout.{cellRegion, cut, cutValues, cellsIn, defaultsIn};
 ghost use Rattle.mailbox_layout.specs.Fresh.{freshControl, noColumn, columnsPut, eachDefault};
 use crate::CELL;
 use crate::CONTROL;
@@ -44,7 +44,7 @@ pub fn put_link(control: &mut [u8; CONTROL], l: usize, w: u8, r: u8, k: u8)
 
 // Each position of a task holds its default.
 pub fn fill_cells(values: &mut [u32; VALUES])
-    ensures { λ _. ⌜ cutValues (now (values .exit)) ≡ set (cutValues (now (values .entry))) 1 (eachDefault (defaultsIn (now (values .entry))) (cellsIn (now (values .entry)))) ⌝ }
+    ensures { λ _. ⌜ cutValues (now (values .exit)) ≡ set (cutValues (now (values .entry))) cellRegion (eachDefault (defaultsIn (now (values .entry))) (cellsIn (now (values .entry)))) ⌝ }
 {
     let mut i = 0;
     while i < CELLS {

@@ -1,11 +1,11 @@
 // The state of the mailboxes in two lent arrays, each cut into regions: bytes (control: phases, positions, pointers, links) and numbers of
 // 32 bits (values: defaults, mailboxes). Every access to them goes through these functions; what is above speaks of the fields of a state.
-// A field more is one region here, one field of the view in specs/Layout, and one accessor of the state.
+// A field more is one region here and in specs/Layout, one field of the view there, and one accessor of the state.
 ghost use mathlib.Core.Path.{_≡_};
 ghost use lib.ListN.{set};
 ghost use Rattle.protocol_state.specs.Saved.{at, cellOf};
 ghost use Rattle.regions.specs.Regions.{region, place};
-ghost use Rattle.mailbox_layout.specs.Layout.{controlWidths, valueWidths, cut, cutValues, cellsIn};
+ghost use Rattle.mailbox_layout.specs.Layout.{controlWidths, valueWidths, cellRegion, cut, cutValues, cellsIn};
 use mailbox_base::numbers::CELLS;
 use mailbox_base::numbers::LINKS;
 use mailbox_base::numbers::TASKS;
@@ -130,7 +130,7 @@ pub fn cell_at(values: &[u32; VALUES], t: u8, p: u8) -> u32
 
 // Puts a number at position `p` of task `t`, where there is such a position.
 pub fn put_cell(values: &mut [u32; VALUES], t: u8, p: u8, x: u32)
-    ensures { λ _. ⌜ cutValues (now (values .exit)) ≡ set (cutValues (now (values .entry))) 1 (set (cellsIn (now (values .entry))) (cellOf t p) x) ⌝ }
+    ensures { λ _. ⌜ cutValues (now (values .exit)) ≡ set (cutValues (now (values .entry))) cellRegion (set (cellsIn (now (values .entry))) (cellOf t p) x) ⌝ }
 {
     put_value(values, CELL, cell_of(t, p), x);
 }

@@ -5,9 +5,8 @@ use Prim.Native.Nat.{ℕ, _+_, _≤_}
 use lib.ListN.{set}
 use Rattle.lists.proofs.Lists.{at-bound, upto-none, upto-more}
 use Rattle.protocol_state.specs.Saved.{Saved, at, cellOf}
-use Rattle.protocol_state.specs.Next.{finished}
+use Rattle.protocol_state.specs.Next.{withCells, released, finished}
 use Rattle.protocol_state.specs.Records.{earlier}
-use Rattle.mailbox_layout.specs.Layout.{withCells}
 use Rattle.mailbox_parts.specs.Frees.{freedOn, freedOne, freedFirst, advanced}
 
 module _ (t : ℕ) (q₀ : Saved) where
@@ -21,8 +20,12 @@ module _ (t : ℕ) (q₀ : Saved) where
   pub freed-end : (i n : ℕ) {q : Saved} → q ≡ freedFirst t i q₀ → i ≤ n → n ≤ i → q ≡ freedFirst t n q₀
   freed-end = at-bound (λ (k : ℕ). freedFirst t k q₀)
 
-  -- the three steps of a finish
-  pub all-three :
-      (v : ℕ) {q₁ q₂ q₃ : Saved} → q₁ ≡ withCells (set (q₀ .cells) (cellOf t (at (q₀ .newest) t)) v) q₀ → q₂ ≡ freedFirst t (q₀ .links) q₁ →
-      q₃ ≡ advanced 3 t q₂ → q₃ ≡ finished earlier t v q₀
-  all-three v e₁ e₂ e₃ = e₃ ∙ ap (advanced 3 t) (e₂ ∙ ap (freedFirst t (q₀ .links)) e₁)
+  -- the two steps of a release
+  pub release-both : {q₁ q₂ : Saved} → q₁ ≡ freedFirst t (q₀ .links) q₀ → q₂ ≡ advanced 3 t q₁ → q₂ ≡ released earlier t q₀
+  release-both e₁ e₂ = e₂ ∙ ap (advanced 3 t) e₁
+
+  -- and of a finish
+  pub finish-both :
+      (v : ℕ) {q₁ q₂ : Saved} → q₁ ≡ withCells (set (q₀ .cells) (cellOf t (at (q₀ .newest) t)) v) q₀ → q₂ ≡ released earlier t q₁ →
+      q₂ ≡ finished earlier t v q₀
+  finish-both v e₁ e₂ = e₂ ∙ ap (released earlier t) e₁

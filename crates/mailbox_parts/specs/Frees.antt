@@ -4,9 +4,8 @@ use Prim.Native.Nat.{ℕ}
 use lib.ListN.{set}
 use Rattle.lists.specs.Lists.{upto}
 use Rattle.protocol_state.specs.Saved.{Saved, at}
-use Rattle.protocol_state.specs.Next.{freedAt, phasesAfter}
+use Rattle.protocol_state.specs.Next.{withPhase, withPointer, freedAt, phasesAfter}
 use Rattle.protocol_state.specs.Records.{earlier}
-use Rattle.mailbox_layout.specs.Layout.{withPhase, withPointer}
 
 -- as t finishes: what becomes of the pointer x of link l
 abbrev pub freedOn : ℕ → Saved → ℕ → ℕ → ℕ

@@ -1,5 +1,7 @@
 // One event of any kind on the lent state: judged, and done. Counts above the room are taken as the room.
 ghost use mathlib.Core.Path.{_≡_};
+ghost use mathlib.Core.List.{List};
+ghost use Prim.Native.Nat.{ℕ};
 ghost use Rattle.protocol_state.specs.Judge.{judgedOn};
 ghost use Rattle.protocol_state.specs.Next.{next, valueOf};
 ghost use Rattle.protocol_state.specs.Records.{earlier};
@@ -27,15 +29,9 @@ pub enum Event {
     Finish(u8, u32),
 }
 
-// The refusal that an event earns on a sound state, 0 for none.
-pub fn judge(
-    e: Event,
-    tasks: usize,
-    links: usize,
-    control: &[u8; CONTROL],
-    values: &[u32; VALUES],
-) -> u8
-    ensures { λ r. ⌜ r ≡ judgedOn earlier (viewOf tasks links (now (control .entry)) (now (values .entry))) (plain e) ⌝ }
+// The refusal that an event earns on a sound state, whatever its values are, 0 for none.
+pub fn judge(e: Event, tasks: usize, links: usize, control: &[u8; CONTROL]) -> u8
+    ensures { λ r. ⌜ ((v : List ℕ) → r ≡ judgedOn earlier (viewOf tasks links (now (control .entry)) v) (plain e)) ⌝ }
 {
     match e {
         Event::Arrival(set) => judge_arrival(set, tasks, control),
@@ -46,14 +42,8 @@ pub fn judge(
 }
 
 // The value of an event that is allowed: the number of a read, else 0.
-pub fn value_of(
-    e: Event,
-    tasks: usize,
-    links: usize,
-    control: &[u8; CONTROL],
-    values: &[u32; VALUES],
-) -> u32
-    ensures { λ r. ⌜ r ≡ valueOf (viewOf tasks links (now (control .entry)) (now (values .entry))) (plain e) ⌝ }
+pub fn value_of(e: Event, control: &[u8; CONTROL], values: &[u32; VALUES]) -> u32
+    ensures { λ r. ⌜ ((T L : ℕ) → r ≡ valueOf (viewOf T L (now (control .entry)) (now (values .entry))) (plain e)) ⌝ }
 {
     match e {
         Event::Arrival(_) => 0,

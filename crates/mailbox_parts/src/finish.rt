@@ -1,8 +1,8 @@
 // What a start, a read and a finish do.
 ghost use mathlib.Core.Path.{_≡_};
-ghost use Prim.Native.Nat.{ℕ, _<_, min};
+ghost use Prim.Native.Nat.{ℕ, min};
 ghost use Rattle.protocol_state.specs.Saved.{at, base};
-ghost use Rattle.protocol_state.specs.Next.{numberRead, freed, finished};
+ghost use Rattle.protocol_state.specs.Next.{numberRead, freed, released, finished};
 ghost use Rattle.protocol_state.specs.Records.{earlier};
 ghost use Rattle.mailbox_layout.specs.Layout.{Becomes, stateOf, writerIn, pointerIn, cellsIn};
 ghost use Rattle.mailbox_parts.specs.Frees.{freedOne, freedFirst, advanced};
@@ -75,11 +75,18 @@ fn free_pointers(t: u8, links: usize, control: &mut [u8; CONTROL])
     }
 }
 
-// A finish that is allowed: the value goes to the newest position. A count above the room is taken as the room.
+// What a finish that is allowed does to the control: pointers become absent, and `t` is idle. A count above the room is taken as the room.
+pub fn release(t: u8, links: usize, control: &mut [u8; CONTROL])
+    ensures { λ _. ⌜ ((T : ℕ) → Becomes (released earlier t) T (min links (base .links)) (now (control .entry)) (now (control .exit))) ⌝ }
+{
+    free_pointers(t, few(links, LINKS), control);
+    advance(FINISH, t, control);
+}
+
+// A finish that is allowed: the value goes to the newest position besides.
 pub fn finish(t: u8, v: u32, links: usize, control: &mut [u8; CONTROL], values: &mut [u32; VALUES])
     ensures { λ _. ⌜ ((T : ℕ) → stateOf T (min links (base .links)) (now (control .exit)) (now (values .exit)) ≡ finished earlier t v (stateOf T (min links (base .links)) (now (control .entry)) (now (values .entry)))) ⌝ }
 {
     put_cell(values, t, control_at(control, NEWEST, t as usize), v);
-    free_pointers(t, few(links, LINKS), control);
-    advance(FINISH, t, control);
+    release(t, links, control);
 }

@@ -23,7 +23,8 @@ use Rattle.protocol_state.specs.Saved.{Saved}
 use Rattle.protocol_state.specs.Give.{Reply}
 use Rattle.protocol_state.specs.Fresh as fresh
 use Rattle.byte_format.specs.Play.{Verdict}
-use Rattle.mailbox.specs.States.{Given, MadeFrom}
+use Rattle.mailbox.specs.States.{Gives, Makes}
+use Rattle.mailbox_layout.specs.Layout.{controlOf, valuesOf, fieldsOf}
 use Rattle.mailbox.specs.declared.State.{State}
 use Rattle.mailbox.specs.declared.Step.{Step}
 use Rattle.mailbox.specs.declared.Made.{Made}
@@ -90,7 +91,7 @@ one-found f g e = sym (found-back f) ∙ ap foundFrom e ∙ found-back g
 
 -- ---- what a state holds fixes it, where its arrays have their lengths
 
-one-step : {q : State} {e : protocol.Event ℕ} {a b : Step} → Given q e a → Given q e b → a ≡ b
+one-step : {q : State} {e : protocol.Event ℕ} {a b : Step} → Gives q e a → Gives q e b → a ≡ b
 one-step {q} {e} {a} {b} x y =
     let r = same (x .answer) (y .answer) in
     λ i. record {
@@ -98,7 +99,7 @@ one-step {q} {e} {a} {b} x y =
       answer = record { refusal = r i .refusal; value = r i .value };
     }
 
-one-made : {T L : ℕ} {D W R K : List ℕ} (a b : Made) → MadeFrom T L D W R K a → MadeFrom T L D W R K b → a ≡ b
+one-made : {T L : ℕ} {D W R K : List ℕ} (a b : Made) → Makes T L D W R K a → Makes T L D W R K b → a ≡ b
 one-made a b x y =
     let m = same (x .answer) (y .answer) in
     λ i. record { refusal = m i .refusal; state = saved-same (a .state) (b .state) (x .whole) (y .whole) (ap (λ (s : fresh.Made). s .state) m) i }
@@ -113,19 +114,7 @@ one-table a b x y = λ i. record {
 
 -- what two arrays hold, without the counts
 abbrev uncounted : Saved → Saved
-uncounted q = record {
-  tasks = 0;
-  links = 0;
-  defaults = q .defaults;
-  phase = q .phase;
-  newest = q .newest;
-  previous = q .previous;
-  cells = q .cells;
-  writer = q .writer;
-  reader = q .reader;
-  kind = q .kind;
-  pointer = q .pointer;
-}
+uncounted q = fieldsOf 0 0 (controlOf q) (valuesOf q)
 
 -- ---- the theorem
 pub one-answer : OneAnswer

@@ -86,7 +86,7 @@ module _ {Val : Type 0} (T : Table Val) where
   Step choice (read l) s s′ = s′ ≡ s
   Step choice (finish t v) s s′ = Finished t v s s′
 
-  -- the boxes that a history leads to, from fresh ones. Whether its events could happen is another question, and no policy stands here (`AllPossible`)
+  -- boxes that a history can lead to, from fresh ones. Whether its events could happen is another question, and no policy stands here (`AllPossible`)
   pub data Run (choice : Choice Val) : Boxes Val → List (Event Val) → Type 0 where
     fresh : {s : Boxes Val} → Fresh s → Run choice s []
     next : {s s′ : Boxes Val} {h : List (Event Val)} (e : Event Val) → Run choice s h → Step choice e s s′ → Run choice s′ (e ∷ h)

@@ -8,7 +8,7 @@ use borrow.Author.Tests.{eqb-true, eqb-false}
 use lib.Dec.{eqb}
 use Rattle.protocol.specs.Event.{Event, arrival, start, read, finish}
 use Rattle.protocol.specs.Table.{Table, Lawful}
-use Rattle.protocol.specs.Schedule.{urgent, Possible, AllPossible}
+use Rattle.protocol.specs.Schedule.{policyOf, Possible, AllPossible}
 use Rattle.protocol.specs.Published.{Same}
 use Rattle.protocol.specs.Answering.{Answerer, ReadsNothing, boxesAfter, RefusesRightly, FollowsProtocol}
 use Rattle.protocol.proofs.Schedule.{judged-possible}
@@ -26,7 +26,7 @@ use Rattle.protocol_state.proofs.History.{reached-sound, reached-refusa
 use Rattle.protocol_state.proofs.Numbers.{table-lawful}
 
 module _ {ahead : ℕ → ℕ → Bool} (ranks : Ranks ahead) {size : Size} {q₀ : Saved} {o : Progress} (r : Reached ahead size q₀ o)
-    (B : Answerer ℕ) (D1 : RefusesRightly B urgent 0) (D2 : FollowsProtocol B urgent) where
+    (B : Answerer ℕ) (D1 : RefusesRightly B policyOf 0) (D2 : FollowsProtocol B policyOf) where
   abbrev T : Table ℕ
   T = table ahead q₀
 
@@ -36,15 +36,15 @@ module _ {ahead : ℕ → ℕ → Bool} (ranks : Ranks ahead) {size : Size} {q�
   L : Lawful T
   L = table-lawful ranks r
 
-  P : AllPossible T (urgent T) h
+  P : AllPossible T (policyOf T) h
   P = r .possible
 
   -- before the event the boxes are the same
   same-before : Same (boxes (o .state)) (boxesAfter B T h)
-  same-before = runs-same T (r .run) (answers-run urgent B D2 T L h P)
+  same-before = runs-same T (r .run) (answers-run policyOf B D2 T L h P)
 
   -- the value of an accepted event
-  value-same : (e : Event ℕ) → judgedOn ahead (o .state) e ≡ 0 → Possible T (urgent T) h e → valueOf (o .state) e ≡ B .reply T h e .value
+  value-same : (e : Event ℕ) → judgedOn ahead (o .state) e ≡ 0 → Possible T (policyOf T) h e → valueOf (o .state) e ≡ B .reply T h e .value
   unfolding ReadsNothing
   value-same (arrival m) ok p = sym (D1 .silent T L h P (arrival m) tt)
   value-same (start t) ok p = sym (D1 .silent T L h P (start t) tt)
@@ -65,7 +65,7 @@ module _ {ahead : ℕ → ℕ → Bool} (ranks : Ranks ahead) {size : Size} {q�
         go : (b : Bool) → eqb (answer .refusal) 0 ≡ b → Alike answer (B .reply T h e)
         go true i =
             let ok : judgedOn ahead (o .state) e ≡ 0 = sym (give-refusal ahead size (o .state) e (reached-sound r)) ∙ eqb-true _ 0 i in
-            let p : Possible T (urgent T) h e = judged-possible T (urgent T) h e (sym (reached-refusal r e) ∙ eqb-true _ 0 i) in
+            let p : Possible T (policyOf T) h e = judged-possible T (policyOf T) h e (sym (reached-refusal r e) ∙ eqb-true _ 0 i) in
             let d = give-done ahead size (o .state) e (reached-sound r) ok in
             record {
               refusal = refusal-same;

@@ -105,11 +105,6 @@ module _ (size : Size) (ts : List Task) (ls : List Link) where
     kind = column-whole (size .links) (λ (x : Link). x .kind) refl ls h l i;
   }
 
-  -- and so are its counts
-  pub fresh-counts : (freshOf size ts ls .tasks ≡ length ts) × (freshOf size ts ls .links ≡ length ls)
-  unfolding freshOf
-  fresh-counts = (refl, refl)
-
   module _ (ahead : ℕ → ℕ → Bool) (ok : judgedTable ahead (length ts) (linkOf ls) size (length ls) ≡ 0) where
     fits : (length ts ≤ size .tasks) × (length ls ≤ size .links)
     fits = rules.room ahead (length ts) (linkOf ls) size (length ls) ok

@@ -11,7 +11,7 @@ use lib.Dec.{eqb}
 use lib.ListN.{length}
 use Rattle.protocol.specs.Event.{Event, arrival, start, read, finish}
 use Rattle.protocol.specs.Table.{Table}
-use Rattle.protocol.specs.Schedule.{urgent, Possible, AllPossible, judged}
+use Rattle.protocol.specs.Schedule.{policyOf, Possible, AllPossible, judged}
 use Rattle.protocol.specs.Published.{Lowest, Step, number, numbers}
 use Rattle.protocol.specs.Published as published
 use Rattle.protocol.proofs.Schedule.{judged-possible}
@@ -37,12 +37,12 @@ module _ {ahead : ℕ → ℕ → Bool} {size : Size} {q₀ : Saved} {o : Progre
   reached-sound = says-sound ahead size (o .state) (r .sound)
 
   -- 12 to 16, as the state judges them, are what the table and the history say
-  pub judged-history : (e : Event ℕ) → judgedOn ahead (o .state) e ≡ judged (table ahead q₀) (urgent (table ahead q₀)) (o .history) e
+  pub judged-history : (e : Event ℕ) → judgedOn ahead (o .state) e ≡ judged (table ahead q₀) (policyOf (table ahead q₀)) (o .history) e
   judged-history e =
-      judged-by-history (o .state) (r .sound) (o .history) (r .agrees) e ∙ ap (λ (T : Table ℕ). judged T (urgent T) (o .history) e) (r .same)
+      judged-by-history (o .state) (r .sound) (o .history) (r .agrees) e ∙ ap (λ (T : Table ℕ). judged T (policyOf T) (o .history) e) (r .same)
 
   -- the refusal of the next event is what the table and the history say
-  pub reached-refusal : (e : Event ℕ) → give ahead size (o .state) e .refusal ≡ judged (table ahead q₀) (urgent (table ahead q₀)) (o .history) e
+  pub reached-refusal : (e : Event ℕ) → give ahead size (o .state) e .refusal ≡ judged (table ahead q₀) (policyOf (table ahead q₀)) (o .history) e
   reached-refusal e = give-refusal ahead size (o .state) e reached-sound ∙ judged-history e
 
   -- an allowed event is a step of the published protocol
@@ -83,8 +83,8 @@ reached-after {ahead} {size} {q₀} {o} r e = go (give-ways ahead size (o .state
       → Reached ahead size q₀ (afterEvent ahead size o e)
   go (inr w) = rw (after-refused ahead size o e (w .1)) r
   go (inl w) =
-      let p : Possible (table ahead q₀) (urgent (table ahead q₀)) (o .history) e =
-      judged-possible (table ahead q₀) (urgent (table ahead q₀)) (o .history) e (sym (judged-history r e) ∙ w .1) in
+      let p : Possible (table ahead q₀) (policyOf (table ahead q₀)) (o .history) e =
+      judged-possible (table ahead q₀) (policyOf (table ahead q₀)) (o .history) e (sym (judged-history r e) ∙ w .1) in
       let t = reached-step r e (w .1) in
       rw (after-done ahead size o e (next ahead (o .state) e) (valueOf (o .state) e) (w .2))
       (record {

@@ -7,10 +7,10 @@ use Prim.Native.Nat.{ℕ}
 use lib.ListN.{length}
 use Rattle.protocol.specs.Table.{Table, Lawful}
 use Rattle.protocol.specs.History.{reads}
-use Rattle.protocol.specs.Schedule.{urgent}
+use Rattle.protocol.specs.Schedule.{policyOf}
 use Rattle.protocol.specs.ZeroTime.{ideals, Settled}
 use Rattle.protocol.specs.Instant.{Order, zeroRun, looked, theres}
-use Rattle.protocol.proofs.Schedule.{urgent-fair}
+use Rattle.protocol.proofs.Schedule.{policy-fair}
 use Rattle.protocol.proofs.Theorem.{lowest-only, numbers-ideal, settled, ideals-count}
 use Rattle.protocol.proofs.ZeroRun.{ideals-read}
 use Rattle.protocol_state.specs.Saved.{Size, Saved, linkIn, table}
@@ -27,21 +27,21 @@ module _ {ahead : ℕ → ℕ → Bool} (ranks : Ranks ahead) {size : Size} {q�
 
   -- the numbers read are the closed form's
   pub reached-ideals : o .numbers ≡ ideals (table ahead q₀) (o .history)
-  reached-ideals = r .read ∙ numbers-ideal (table ahead q₀) (urgent (table ahead q₀)) table-lawful (urgent-fair (table ahead q₀)) (lowest-only (table ahead q₀)) (r .run) (r .possible)
+  reached-ideals = r .read ∙ numbers-ideal (table ahead q₀) (policyOf (table ahead q₀)) table-lawful (policy-fair (table ahead q₀)) (lowest-only (table ahead q₀)) (r .run) (r .possible)
 
   -- one for each read
   pub reached-count : length (o .numbers) ≡ reads (o .history)
   reached-count =
       ap length reached-ideals
-      ∙ ideals-count (table ahead q₀) (urgent (table ahead q₀)) table-lawful (urgent-fair (table ahead q₀)) (o .history) (r .possible)
+      ∙ ideals-count (table ahead q₀) (policyOf (table ahead q₀)) table-lawful (policy-fair (table ahead q₀)) (o .history) (r .possible)
 
   -- the output of an unfinished run is never read
   pub reached-settled : Settled (table ahead q₀) (o .history)
-  reached-settled = settled (table ahead q₀) (urgent (table ahead q₀)) table-lawful (urgent-fair (table ahead q₀)) (o .history) (r .possible)
+  reached-settled = settled (table ahead q₀) (policyOf (table ahead q₀)) table-lawful (policy-fair (table ahead q₀)) (o .history) (r .possible)
 
   -- and they are those of the run where tasks take no time, carried out
   pub reached-zero-run : (order : List ℕ) → Order (table ahead q₀) order
       → theres (o .numbers) ≡ looked (table ahead q₀) (zeroRun (table ahead q₀) order (o .history)) (o .history)
   reached-zero-run order O =
       ap theres reached-ideals
-      ∙ ideals-read (table ahead q₀) (urgent (table ahead q₀)) table-lawful (urgent-fair (table ahead q₀)) order O (o .history) (r .possible)
+      ∙ ideals-read (table ahead q₀) (policyOf (table ahead q₀)) table-lawful (policy-fair (table ahead q₀)) order O (o .history) (r .possible)

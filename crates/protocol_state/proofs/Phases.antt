@@ -13,7 +13,7 @@ use Rattle.lists.specs.Lists.{some}
 use Rattle.protocol.specs.Event.{Event, arrival, start, read, finish, has}
 use Rattle.protocol.specs.History.{arrivals, starts, finishes, active}
 use Rattle.protocol.specs.History as history
-use Rattle.protocol.specs.Schedule.{urgent, judged}
+use Rattle.protocol.specs.Schedule.{policyOf, judged}
 use Rattle.protocol.proofs.Counts.{arrivals-in, arrivals-out, starts-same, starts-other, finishes-same, finishes-other}
 use Rattle.protocol_state.specs.Saved.{Size, Saved, Shape, at, table}
 use Rattle.protocol_state.specs.Decision.{decided}
@@ -94,7 +94,7 @@ module _ {ahead : ℕ → ℕ → Bool} {size : Size} (q : Saved) (G : Sound ahe
   -- a start, a read or a finish by task t, of kind k, which needs the phase a
   in-turn : (k t a y z : ℕ) (fits : Bool) → fits ≡ eqb (at (q .phase) t) a → decided k (at (q .phase) t) ≡ cond (eqb (at (q .phase) t) a) y z → allows y ≡ true → allows z ≡ false
       → cond (allows (decided k (at (q .phase) t))) (cond (preempted ahead t (q .tasks) (at (q .phase))) 16 0) (decided k (at (q .phase) t))
-      ≡ cond fits (cond (urgent (table ahead q) h t) 0 16) z
+      ≡ cond fits (cond (policyOf (table ahead q) h t) 0 16) z
   in-turn k t a y z fits ef ed ly lz = rw (preempted-is t, ed, ef) (go (eqb (at (q .phase) t) a)) where
     go : (b : Bool) → cond (allows (cond b y z)) (cond (some (λ u. ahead u t && active h u) (q .tasks)) 16 0) (cond b y z)
         ≡ cond b (cond (not (some (λ u. ahead u t && active h u) (q .tasks))) 0 16) z
@@ -103,7 +103,7 @@ module _ {ahead : ℕ → ℕ → Bool} {size : Size} (q : Saved) (G : Sound ahe
 
   running-turn : (k t y : ℕ) → decided k (at (q .phase) t) ≡ cond (eqb (at (q .phase) t) 2) y 15 → allows y ≡ true
       → cond (allows (decided k (at (q .phase) t))) (cond (preempted ahead t (q .tasks) (at (q .phase))) 16 0) (decided k (at (q .phase) t))
-      ≡ cond (history.running h t) (cond (urgent (table ahead q) h t) 0 16) 15
+      ≡ cond (history.running h t) (cond (policyOf (table ahead q) h t) 0 16) 15
   running-turn k t y d ok = in-turn k t 2 y 15 (history.running h t) (running-is (A t)) d ok refl
 
   -- an arrival: who may arrive is not active
@@ -115,7 +115,7 @@ module _ {ahead : ℕ → ℕ → Bool} {size : Size} (q : Saved) (G : Sound ahe
     two false c = refl
 
   -- the refusal is what the table and the history say
-  pub judged-by-history : (e : Event ℕ) → judgedOn ahead q e ≡ judged (table ahead q) (urgent (table ahead q)) h e
+  pub judged-by-history : (e : Event ℕ) → judgedOn ahead q e ≡ judged (table ahead q) (policyOf (table ahead q)) h e
   unfolding judged judgedArrival judgedTask judgedRead
   judged-by-history (arrival m) = guarded (eqb m 0 || leb (2 ^ (q .tasks)) m) _ _ (λ e.
       rw (every-none-fails (mayArrive m (at (q .phase))) (λ t. has m t && active h t) (q .tasks) (may-arrive m)) (swap 0 13 (some (λ t. has m t && active h t) (q .tasks))))

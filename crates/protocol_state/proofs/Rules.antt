@@ -14,7 +14,7 @@ use Rattle.lists.proofs.Lists.{some-not, some-of-none, leading-zero}
 use Rattle.protocol.specs.Table.{Lawful, toBehind}
 use Rattle.protocol_state.specs.Records.{Task, Link, aheadOf}
 use Rattle.protocol_state.specs.Saved.{Size, Saved, at, linkIn, table}
-use Rattle.protocol_state.specs.Rules.{Ranks, alike, linksBehind, faultAfter, fault, Obeys, judgedTable, KeepsRules}
+use Rattle.protocol_state.specs.Rules.{Ranks, samePair, linksBehind, faultAfter, fault, Obeys, judgedTable, KeepsRules}
 use Rattle.protocol_state.proofs.Places.{some-same, count-same, leading-none-other}
 
 -- the order of any table's tasks is an order: nobody is ahead of himself, and of two tasks the earlier is ahead
@@ -30,7 +30,7 @@ pub fault-agrees : (ahead : ℕ → ℕ → Bool) (T : ℕ) {link link′ : ℕ 
     → faultAfter ahead T link n x ≡ faultAfter ahead T link′ n x
 fault-agrees ahead T {link} {link′} n x e =
     rw (
-      some-same (λ j. alike x (link j)) (λ j. alike x (link′ j)) n (λ j h. rw (e j h)),
+      some-same (λ j. samePair x (link j)) (λ j. samePair x (link′ j)) n (λ j h. rw (e j h)),
       count-same (toBehind ahead (λ l. link l .writer) (λ l. link l .reader) (x .writer)) (toBehind ahead (λ l. link′ l .writer) (λ l. link′ l .reader) (x .writer)) n (λ j h. rw (e j h)),
     )
 
@@ -43,7 +43,7 @@ module _ (ahead : ℕ → ℕ → Bool) (T : ℕ) (link : ℕ → Link) where
       let five = cond-zero (eqb (link l .writer) (link l .reader)) 5 _ (λ z. omega arith) (four .1) in
       let six = cond-zero (ltb 1 (link l .kind)) 6 _ (λ z. omega arith) (five .1) in
       let seven = cond-zero (eqb (link l .kind) 0 && ahead (link l .reader) (link l .writer)) 7 _ (λ z. omega arith) (six .1) in
-      let eight = cond-zero (some (λ j. alike (link l) (link j)) l) 8 _ (λ z. omega arith) (seven .1) in
+      let eight = cond-zero (some (λ j. samePair (link l) (link j)) l) 8 _ (λ z. omega arith) (seven .1) in
       let nine = cond-zero (ahead (link l .writer) (link l .reader) && leb 8 (linksBehind ahead link (link l .writer) l)) 9 0 (λ z. omega arith) (eight .1) in
       record {
         writer = leb-false T (link l .writer) (or-left (leb T (link l .writer)) _ (four .0));
@@ -51,7 +51,7 @@ module _ (ahead : ℕ → ℕ → Bool) (T : ℕ) (link : ℕ → Link) where
         apart = eqb-false (link l .writer) (link l .reader) (five .0);
         kind = ltb-false 1 (link l .kind) (six .0);
         direct = λ z. and-not (eqb (link l .kind) 0) _ (seven .0) (eq-eqb (link l .kind) 0 z);
-        single = λ j h a b. eqb-false (link j .reader) (link l .reader) (and-not (eqb (link j .writer) (link l .writer)) _ (some-not (λ j. alike (link l) (link j)) l j (eight .0) h) (eq-eqb (link j .writer) (link l .writer) a)) b;
+        single = λ j h a b. eqb-false (link j .reader) (link l .reader) (and-not (eqb (link j .writer) (link l .writer)) _ (some-not (λ j. samePair (link l) (link j)) l j (eight .0) h) (eq-eqb (link j .writer) (link l .writer) a)) b;
         few = λ a. leb-false 8 (linksBehind ahead link (link l .writer) l) (and-not (ahead (link l .writer) (link l .reader)) _ (nine .0) a);
       }
 
@@ -60,8 +60,8 @@ module _ (ahead : ℕ → ℕ → Bool) (T : ℕ) (link : ℕ → Link) where
   unfolding fault
   no-fault l o =
       let seventh : (eqb (link l .kind) 0 && ahead (link l .reader) (link l .writer)) ≡ false = and-if (eqb (link l .kind) 0) _ (λ e. o .direct (eqb-true (link l .kind) 0 e)) in
-      let eighth : some (λ j. alike (link l) (link j)) l ≡ false =
-      some-of-none (λ j. alike (link l) (link j)) l (λ j h. and-if (eqb (link j .writer) (link l .writer)) _ (λ a. ne-eqb (link j .reader) (link l .reader) (o .single j h (eqb-true _ _ a)))) in
+      let eighth : some (λ j. samePair (link l) (link j)) l ≡ false =
+      some-of-none (λ j. samePair (link l) (link j)) l (λ j h. and-if (eqb (link j .writer) (link l .writer)) _ (λ a. ne-eqb (link j .reader) (link l .reader) (o .single j h (eqb-true _ _ a)))) in
       let ninth : (ahead (link l .writer) (link l .reader) && leb 8 (linksBehind ahead link (link l .writer) l)) ≡ false = and-if (ahead (link l .writer) (link l .reader)) _ (λ a. lt-leb 8 _ (o .few a)) in
       rw (lt-leb T (link l .writer) (o .writer), lt-leb T (link l .reader) (o .reader), ne-eqb (link l .writer) (link l .reader) (o .apart), le-ltb 1 (link l .kind) (o .kind), seventh, eighth, ninth)
 

@@ -5,7 +5,7 @@ use mathlib.Core.Bool.{Bool}
 use Prim.Native.Nat.{ℕ, _+_}
 use Rattle.lists.specs.Lists.{count}
 use Rattle.protocol.specs.History.{arrivals, finishes, active, counts}
-use Rattle.protocol.specs.Schedule.{urgent}
+use Rattle.protocol.specs.Schedule.{policyOf}
 use Rattle.protocol.proofs.Totals.{totals}
 use Rattle.protocol_state.specs.Saved.{busy}
 use Rattle.protocol_state.specs.Saved.{Size, Saved, table}
@@ -17,6 +17,6 @@ use Rattle.protocol_state.specs.Reached.{Reached}
 pub reached-totals : {ahead : ℕ → ℕ → Bool} {size : Size} {q₀ : Saved} {o : Progress} → Reached ahead size q₀ o
     → counts (table ahead q₀) (o .history) .arrivals ≡ counts (table ahead q₀) (o .history) .finishes + count (busy (o .state)) (q₀ .tasks)
 reached-totals {ahead} {size} {q₀} {o} r =
-    totals (table ahead q₀) (urgent (table ahead q₀)) (o .history) (r .possible)
+    totals (table ahead q₀) (policyOf (table ahead q₀)) (o .history) (r .possible)
     ∙ ap (λ (n : ℕ). counts (table ahead q₀) (o .history) .finishes + n)
     (count-same (active (o .history)) (busy (o .state)) (q₀ .tasks) (λ t l. active-is (r .agrees t)))

@@ -11,8 +11,8 @@ use Rattle.protocol_state.specs.Saved.{Saved, at, cellOf, delayedKind}
 use Rattle.protocol.specs.Free.{lowestFree}
 use Rattle.protocol_state.specs.Decision.{decided}
 
--- the state with these parts, and the others as they are
-abbrev pub withParts : Saved → List ℕ → List ℕ → List ℕ → List ℕ → List ℕ → Saved
+-- the state with these parts, and the others as they are: what the fields below are put anew by, and nothing else
+abbrev withParts : Saved → List ℕ → List ℕ → List ℕ → List ℕ → List ℕ → Saved
 withParts q ph n p C x = record {
   tasks = q .tasks;
   links = q .links;
@@ -26,6 +26,22 @@ withParts q ph n p C x = record {
   kind = q .kind;
   pointer = x;
 }
+
+-- the state with one field anew
+abbrev pub withPhase : List ℕ → Saved → Saved
+withPhase x q = withParts q x (q .newest) (q .previous) (q .cells) (q .pointer)
+
+abbrev pub withNewest : List ℕ → Saved → Saved
+withNewest x q = withParts q (q .phase) x (q .previous) (q .cells) (q .pointer)
+
+abbrev pub withPrevious : List ℕ → Saved → Saved
+withPrevious x q = withParts q (q .phase) (q .newest) x (q .cells) (q .pointer)
+
+abbrev pub withCells : List ℕ → Saved → Saved
+withCells x q = withParts q (q .phase) (q .newest) (q .previous) x (q .pointer)
+
+abbrev pub withPointer : List ℕ → Saved → Saved
+withPointer x q = withParts q (q .phase) (q .newest) (q .previous) (q .cells) x
 
 -- arrival of the set s, the writers' part: task t's previous y becomes its newest
 abbrev pub previousAt : ℕ → (ℕ → ℕ) → ℕ → ℕ → ℕ
@@ -57,7 +73,7 @@ phasesAfter k t ph = set ph t (decided k (at ph t))
 
 -- start: the task is running, and nothing else changes
 abbrev pub started : ℕ → Saved → Saved
-started t q = withParts q (phasesAfter 1 t (q .phase)) (q .newest) (q .previous) (q .cells) (q .pointer)
+started t q = withPhase (phasesAfter 1 t (q .phase)) q
 
 -- the number that link l reads: the one at its pointer in its writer's positions
 abbrev pub numberRead : ℕ → (ℕ → ℕ) → (ℕ → ℕ) → (ℕ → ℕ) → ℕ
@@ -87,13 +103,16 @@ module _ (ahead : ℕ → ℕ → Bool) where
 
   -- arrival of the set s: no mailbox changes
   abbrev pub arrived : ℕ → Saved → Saved
-  arrived s q = withParts q (phaseAfter s q) (newestAfter s q) (previousAfter s q) (q .cells) (pointerAfter s q)
+  arrived s q = withPointer (pointerAfter s q) (withPhase (phaseAfter s q) (withNewest (newestAfter s q) (withPrevious (previousAfter s q) q)))
 
-  -- finish: the value goes to the newest position, pointers from writers ahead become absent, the task is idle
+  -- finish, of all but the mailboxes: pointers from writers ahead become absent, the task is idle
+  abbrev pub released : ℕ → Saved → Saved
+  released t q =
+      withPhase (phasesAfter 3 t (q .phase)) (withPointer (upto (freedAt t (at (q .writer)) (at (q .reader))) (q .links) (q .pointer)) q)
+
+  -- finish: and the value goes to the newest position
   abbrev pub finished : ℕ → ℕ → Saved → Saved
-  finished t v q =
-      withParts q (phasesAfter 3 t (q .phase)) (q .newest) (q .previous) (set (q .cells) (cellOf t (at (q .newest) t)) v)
-      (upto (freedAt t (at (q .writer)) (at (q .reader))) (q .links) (q .pointer))
+  finished t v q = released t (withCells (set (q .cells) (cellOf t (at (q .newest) t)) v) q)
 
   -- what an accepted event makes of the state; a read leaves it
   abbrev pub next : Saved → Event ℕ → Saved

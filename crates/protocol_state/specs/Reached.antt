@@ -6,7 +6,7 @@ use mathlib.Core.List.{List}
 use Prim.Native.Nat.{ℕ, suc}
 use Rattle.protocol.specs.Event.{Event}
 use Rattle.protocol.specs.History.{arrivals, starts, finishes}
-use Rattle.protocol.specs.Schedule.{urgent, AllPossible}
+use Rattle.protocol.specs.Schedule.{policyOf, AllPossible}
 use Rattle.protocol.specs.Published.{Lowest, Run, numbers}
 use Rattle.protocol_state.specs.Saved.{Size, Saved, Shape, at, table, boxes}
 use Rattle.protocol_state.specs.Sound.{Sound}
@@ -29,6 +29,6 @@ pub record Reached (ahead : ℕ → ℕ → Bool) (size : Size) (q₀ : Saved) (
   pub sound : Sound ahead size (o .state)
   pub same : table ahead (o .state) ≡ table ahead q₀
   pub agrees : Agrees (o .history) (o .state)
-  pub possible : AllPossible (table ahead q₀) (urgent (table ahead q₀)) (o .history)
+  pub possible : AllPossible (table ahead q₀) (policyOf (table ahead q₀)) (o .history)
   pub run : Run (table ahead q₀) (Lowest (table ahead q₀)) (boxes (o .state)) (o .history)
   pub read : o .numbers ≡ numbers (table ahead q₀) run

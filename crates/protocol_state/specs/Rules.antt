@@ -17,8 +17,8 @@ pub record Ranks (ahead : ℕ → ℕ → Bool) : Type 0 where
   pub onward : (u t s : ℕ) → ahead u t ≡ true → ahead t s ≡ true → ahead u s ≡ true
 
 -- two links with the same writer and the same reader
-abbrev pub alike : Link → Link → Bool
-alike x y = eqb (y .writer) (x .writer) && eqb (y .reader) (x .reader)
+abbrev pub samePair : Link → Link → Bool
+samePair x y = eqb (y .writer) (x .writer) && eqb (y .reader) (x .reader)
 
 module _ (ahead : ℕ → ℕ → Bool) where
   -- the link x of a table of T tasks; twice: its writer has an earlier link to its reader; n: its writer's earlier links to readers behind
@@ -37,7 +37,7 @@ module _ (ahead : ℕ → ℕ → Bool) where
 
   -- the fault of the link x after the first n links
   abbrev pub faultAfter : ℕ → (ℕ → Link) → ℕ → Link → ℕ
-  faultAfter T link n x = faultOf T x (some (λ j. alike x (link j)) n) (linksBehind link (x .writer) n)
+  faultAfter T link n x = faultOf T x (some (λ j. samePair x (link j)) n) (linksBehind link (x .writer) n)
 
   module _ (T : ℕ) (link : ℕ → Link) where
     -- the refusal that link l earns, in rising order; 0 is none

@@ -13,7 +13,7 @@ use Rattle.protocol.specs.Given.{values}
 use Rattle.protocol.specs.Event.{Event, arrival, start, read, finish}
 use Rattle.protocol.specs.Table.{Table}
 use Rattle.protocol.specs.History.{Counts, reads, past}
-use Rattle.protocol.specs.Schedule.{Policy, urgent, Possible, AllPossible, judged}
+use Rattle.protocol.specs.Schedule.{Policy, policyOf, Possible, AllPossible, judged}
 use Rattle.protocol.specs.ZeroTime.{dues, ideals}
 use Rattle.protocol.proofs.Schedule.{judged-possible, possible-judged}
 use Rattle.protocol_state.specs.Records.{Task, Link, aheadOf}
@@ -90,15 +90,15 @@ module _ {size : Size} {q₀ : Saved} {out : List ℕ} {h : List (Event ℕ)} {q
   refused-by e = rw (judged-history (R .reached) e, list-length, reads-is)
 
   -- an event is accepted only if it could happen and there is room
-  allowed-could : (e : Event ℕ) → judgedIn q e ≡ 0 → Possible (table (aheadIn q₀) q₀) (urgent (table (aheadIn q₀) q₀)) h e × (reads (e ∷ h) ≤ length out)
+  allowed-could : (e : Event ℕ) → judgedIn q e ≡ 0 → Possible (table (aheadIn q₀) q₀) (policyOf (table (aheadIn q₀) q₀)) h e × (reads (e ∷ h) ≤ length out)
   allowed-could e z =
-      let b = both-zero (judged (table (aheadIn q₀) q₀) (urgent (table (aheadIn q₀) q₀)) h e) _ (sym (refused-by e) ∙ z) in
-      (judged-possible (table (aheadIn q₀) q₀) (urgent (table (aheadIn q₀) q₀)) h e (b .0), room-left e h out (R .room) (b .1))
+      let b = both-zero (judged (table (aheadIn q₀) q₀) (policyOf (table (aheadIn q₀) q₀)) h e) _ (sym (refused-by e) ∙ z) in
+      (judged-possible (table (aheadIn q₀) q₀) (policyOf (table (aheadIn q₀) q₀)) h e (b .0), room-left e h out (R .room) (b .1))
 
   -- and always if it could, and there is
-  could-allowed : (e : Event ℕ) → Possible (table (aheadIn q₀) q₀) (urgent (table (aheadIn q₀) q₀)) h e → reads (e ∷ h) ≤ length out → judgedIn q e ≡ 0
+  could-allowed : (e : Event ℕ) → Possible (table (aheadIn q₀) q₀) (policyOf (table (aheadIn q₀) q₀)) h e → reads (e ∷ h) ≤ length out → judgedIn q e ≡ 0
   could-allowed e p r =
-      refused-by e ∙ rw (eq-eqb _ 0 (possible-judged (table (aheadIn q₀) q₀) (urgent (table (aheadIn q₀) q₀)) h e p)) (room-enough e h out r)
+      refused-by e ∙ rw (eq-eqb _ 0 (possible-judged (table (aheadIn q₀) q₀) (policyOf (table (aheadIn q₀) q₀)) h e p)) (room-enough e h out r)
 
   -- one accepted event more
   module _ (e : Event ℕ) (z : judgedIn q e ≡ 0) where
@@ -133,7 +133,7 @@ module _ {size : Size} {q₀ : Saved} {out : List ℕ} {h : List (Event ℕ)} {q
         let n : q .state .tasks ≡ q₀ .tasks = ap (λ (t : Table ℕ). t .tasks) (R .reached .same) in
         record {
           reached = subst (λ (ns : List ℕ). Reached (aheadIn q₀) size q₀ (record { state = steppedAlone (q .state) e; history = e ∷ h; numbers = ns })) noted-ideals noted-reached;
-          counts = rw (n, R .counts) (counts-next (table (aheadIn q₀) q₀) (urgent (table (aheadIn q₀) q₀)) h e (c .0));
+          counts = rw (n, R .counts) (counts-next (table (aheadIn q₀) q₀) (policyOf (table (aheadIn q₀) q₀)) h e (c .0));
           list = listed-next e (valueOf (q .state) e) noted-ideals;
           room = c .1;
         }
@@ -147,13 +147,13 @@ module _ {size : Size} {q₀ : Saved} {out : List ℕ} where
   right-finally (e ∷ es) R A = right-finally es (right-next R e (A .0)) (A .1)
 
   -- events are accepted if they could happen, each in its turn, and there is room for their numbers
-  pub happens-allowed : (es : List (Event ℕ)) {h : List (Event ℕ)} {q : Playing} → Right size q₀ out h q → AllPossible (table (aheadIn q₀) q₀) (urgent (table (aheadIn q₀) q₀)) (past h es)
+  pub happens-allowed : (es : List (Event ℕ)) {h : List (Event ℕ)} {q : Playing} → Right size q₀ out h q → AllPossible (table (aheadIn q₀) q₀) (policyOf (table (aheadIn q₀) q₀)) (past h es)
       → reads (past h es) ≤ length out → Allowed judgedIn steppedIn q es
   unfolding Allowed AllPossible past
   happens-allowed [] R A r = tt
   happens-allowed (e ∷ es) {h} R A r =
       let m : reads (e ∷ h) ≤ reads (past (e ∷ h) es) = reads-past (e ∷ h) es in
-      let z = could-allowed R e (past-possible (table (aheadIn q₀) q₀) (urgent (table (aheadIn q₀) q₀)) (e ∷ h) es A .0) (omega arith) in
+      let z = could-allowed R e (past-possible (table (aheadIn q₀) q₀) (policyOf (table (aheadIn q₀) q₀)) (e ∷ h) es A .0) (omega arith) in
       (z, happens-allowed es (right-next R e z) A r)
 
 -- the fresh state of a table that earns no refusal

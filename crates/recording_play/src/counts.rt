@@ -31,7 +31,7 @@ pub fn none() -> Counts
     }
 }
 
-// How many tasks of the table, which has at most 16, are in a set.
+// How many tasks of the table are in a set.
 pub fn tasks_in(set: u32, tasks: usize) -> usize
     ensures { λ r. ⌜ (r ≡ count (has set) (min tasks (base .tasks))) × (r ≤ base .tasks) ⌝ }
 {

@@ -44,10 +44,14 @@ firstFault (f ∷ fs) = cond (eqb (numberFault f) 0) (firstFault fs) (numberFaul
 unfoldable pub fieldValues : List (List ℕ) → List ℕ
 fieldValues fs = map value fs
 
--- a set and the tasks of these numbers: bit t is task t; no table has a task 31, which stands for all above
+-- the last bit of a set: no table has a task of this number, so it stands for it and all above
+abbrev pub lastBit : ℕ
+lastBit = 31
+
+-- a set and the tasks of these numbers: bit t is task t
 unfoldable pub setWith : ℕ → List ℕ → ℕ
 setWith set [] = set
-setWith set (n ∷ ns) = setWith (bitOr set (2 ^ min n 31)) ns
+setWith set (n ∷ ns) = setWith (bitOr set (2 ^ min n lastBit)) ns
 
 -- the set of tasks of these numbers
 abbrev pub setOf : List ℕ → ℕ

@@ -5,11 +5,14 @@ ghost use mathlib.Core.List.{List, [], _∷_, _++_};
 ghost use Prim.Native.Nat.{ℕ, _+_, _-_, _*_, _^_, _≤_, _<_, min};
 ghost use lib.ListN.{drop};
 ghost use Rattle.recording_text_fields.specs.Pieces.{fields};
-ghost use Rattle.recording_text_fields.specs.Numeral.{isDigit, fieldNumber, gathered, noNumbers, numbersWith};
+ghost use Rattle.recording_text_fields.specs.Numeral.{isDigit, fieldNumber, lastBit, gathered, noNumbers, numbersWith};
 use crate::piece::piece_end;
 
 // One more than the largest number: a number that is no smaller counts as this.
 const ABOVE: u64 = 4294967296;
+
+// The last bit of a set: no table has a task of this number, so it stands for it and all above.
+const LAST_BIT: u32 = 31;
 
 // A field as a number, or why it is none.
 pub struct Number {
@@ -66,18 +69,18 @@ fn number_of(field: &[u8]) -> Number
     }
 }
 
-// A task, or 31 for all above.
-fn at_most_31(task: u32) -> u32
-    ensures { λ r. ⌜ r ≡ min task 31 ⌝ }
+// The number of the bit that stands for a task.
+fn bit_number(task: u32) -> u32
+    ensures { λ r. ⌜ r ≡ min task lastBit ⌝ }
 {
-    if task < 31 { task } else { 31 }
+    if task < LAST_BIT { task } else { LAST_BIT }
 }
 
 // The bit of a task.
 fn bit(task: u32) -> u32
-    ensures { λ r. ⌜ r ≡ 2 ^ min task 31 ⌝ }
+    ensures { λ r. ⌜ r ≡ 2 ^ min task lastBit ⌝ }
 {
-    1u32 << at_most_31(task)
+    1u32 << bit_number(task)
 }
 
 // No numbers yet.

@@ -5,6 +5,7 @@ use mathlib.Core.List.{List, [], _∷_}
 use Prim.Native.Nat.{ℕ, suc, _+_, _-_}
 use lib.Dec.{eqb, leb}
 use lib.ListN.{length}
+use Rattle.recording_format.specs.RecordingKind.{baseRecording}
 use Rattle.recording_text_fields.specs.Pieces.{lines}
 use Rattle.recording_text_line.specs.Line.{says, sort}
 
@@ -52,14 +53,14 @@ afterLast ls = suc (length ls)
 abbrev pub oneOf : ℕ → ℕ → ℕ → Bool
 oneOf low high n = leb low n && leb n high
 
--- the line of a refusal: 4 to 9 the link and 12 to 16 the event at the place, 2 the 17th task, 3 the 33rd link, 10 the 10001st event
+-- the line of a refusal: 4 to 9 the link and 12 to 16 the event at the place, 2, 3 and 10 the first task, link or event past the limit
 unfoldable pub refusalLine : ℕ → ℕ → List (List ℕ) → ℕ
 refusalLine refusal place ls =
     cond (oneOf 4 9 refusal) (placed 2 (place - linksAt ls) ls)
     (cond (oneOf 12 16 refusal) (placed 3 (place - eventsAt ls) ls)
-    (cond (eqb refusal 2) (numbered 1 16 ls)
-    (cond (eqb refusal 3) (numbered 2 32 ls)
-    (cond (eqb refusal 10) (numbered 3 10000 ls)
+    (cond (eqb refusal 2) (numbered 1 (baseRecording .tasks) ls)
+    (cond (eqb refusal 3) (numbered 2 (baseRecording .links) ls)
+    (cond (eqb refusal 10) (numbered 3 (baseRecording .events) ls)
     (afterLast ls)))))
 
 -- in a text

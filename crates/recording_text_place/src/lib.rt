@@ -4,6 +4,9 @@ ghost use Prim.Native.Nat.{_-_};
 ghost use Rattle.recording_text_fields.specs.Pieces.{lines};
 ghost use Rattle.recording_text_place.specs.Place.{bytesOf, allBytes, step, lineAfter, oneOf, lineOf};
 use lent_bytes::place::left;
+use mailbox_base::numbers::EVENTS;
+use mailbox_base::numbers::LINKS;
+use mailbox_base::numbers::TASKS;
 use recording_text_fields::piece::piece_end;
 use recording_text_line::line_says;
 use recording_text_line::sort_of;
@@ -89,9 +92,9 @@ pub fn refusal_line(text: &[u8], refusal: u8, place: usize) -> usize
         );
     }
     match refusal {
-        2 => line_after(text, false, 1, 16),
-        3 => line_after(text, false, 2, 32),
-        10 => line_after(text, false, 3, 10000),
+        2 => line_after(text, false, 1, TASKS),
+        3 => line_after(text, false, 2, LINKS),
+        10 => line_after(text, false, 3, EVENTS),
         _ => line_after(text, false, 4, 0),
     }
 }

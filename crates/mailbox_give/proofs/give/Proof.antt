@@ -22,10 +22,10 @@ judge-requires c κs = search needs
 
 returns-2 : tie.Need-returns-2
 returns-2 c =
-    let t = c .before .before .before .before in
+    let t = c .before .before .before in
     let a = t .before .before .before .args in (
       given-refused (a .tasks) (a .links) (a .control .now) (a .values .now) (plain (a .e)) (t .before .is-sound .ensures (a .values .now)) (t .if1 .left)
-          (c .before .judge .ensures) (c .if2 .taken),
+          (c .before .judge .ensures (a .values .now)) (c .if2 .taken),
       λ z. (refl, refl),
     )
 
@@ -43,10 +43,10 @@ returns-3 c =
     let l = c .before .before .before .before in
     let x = l .before in
     let j = x .before .before .before in
-    let t = j .before .before .before .before in
+    let t = j .before .before .before in
     let a = t .before .before .before .args in (
       given-done (a .tasks) (a .links) (a .control .now) (a .values .now) (plain (a .e)) (t .before .is-sound .ensures (a .values .now)) (t .if1 .left)
-          (j .before .judge .ensures) _ _ (j .if2 .left) (x .value-of .ensures) (c .do-event .ensures (l .lowest-table .ensures)),
+          (j .before .judge .ensures (a .values .now)) _ _ (j .if2 .left) (x .value-of .ensures (a .tasks) (a .links)) (c .do-event .ensures (l .lowest-table .ensures)),
       λ z. absurd (z refl),
     )
 

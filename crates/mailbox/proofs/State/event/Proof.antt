@@ -3,7 +3,7 @@
 use borrow.Author.Needs.{needs}
 use Rattle.mailbox_give.proofs.give.Reads as give
 use Rattle.mailbox_parts.specs.Plain.{plain}
-use Rattle.mailbox.specs.States.{Whole, Given}
+use Rattle.mailbox.specs.States.{IsWhole, Gives}
 use Rattle.mailbox.proofs.Makes.{same-reply, stays}
 use Rattle.mailbox.proofs.State.itself.Reads as itself
 use Rattle.mailbox.proofs.State.event.Statement.{statement}
@@ -18,14 +18,14 @@ itself-requires : tie.Need-itself-requires
 itself-requires c κs = search needs
 
 -- the arrays have their sizes, by their types
-shape : (c : lts.Start (give.Asked, give.Learnt, itself.Asked, itself.Learnt) reads.Pre reads.Post) → Whole (c .args .self)
+shape : (c : lts.Start (give.Asked, give.Learnt, itself.Asked, itself.Learnt) reads.Pre reads.Post) → IsWhole (c .args .self)
 shape c = search needs
 
 returns : tie.Need-returns
 returns c =
     let g = c .before in
     let a = g .before .before .before .before .before .before in
-    let d : Given (a .args .self) (plain (a .args .e)) _ = record {
+    let d : Gives (a .args .self) (plain (a .args .e)) _ = record {
       answer = same-reply (c .itself .result) _ (c .itself .ensures .0) (g .give .ensures .0);
       lent = shape a;
       whole = c .itself .ensures .1;

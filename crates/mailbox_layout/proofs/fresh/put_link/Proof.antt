@@ -2,7 +2,8 @@
 -- Assumes nothing.
 use mathlib.Core.Path.{ap, _∙_}
 use borrow.Author.Needs.{needs}
-use Rattle.mailbox_layout.specs.Fresh.{withByte}
+use Rattle.mailbox_layout.specs.Layout.{readerRegion, kindRegion}
+use Rattle.mailbox_layout.specs.Fresh.{withNumber}
 use Rattle.mailbox_layout.proofs.fresh.put_link.Statement.{statement}
 use Rattle.mailbox_layout.proofs.fresh.put_link.Tie as tie
 
@@ -20,7 +21,7 @@ returns c =
     let p = c .before .before in
     let a = p .before .before .before .before .args in
     c .put-control3 .ensures
-    ∙ ap (withByte 6 (a .l) (a .k)) (p .put-control2 .ensures ∙ ap (withByte 5 (a .l) (a .r)) (p .before .before .put-control .ensures))
+    ∙ ap (withNumber kindRegion (a .l) (a .k)) (p .put-control2 .ensures ∙ ap (withNumber readerRegion (a .l) (a .r)) (p .before .before .put-control .ensures))
 
 pub put-link-spec : {M : Type 1} → statement M
 put-link-spec =

@@ -29,16 +29,16 @@ judge-task-requires-2 : tie.Need-judge-task-requires-2
 judge-task-requires-2 c κs = search needs
 
 returns : tie.Need-returns
-returns c = rw (c .before .before .e .given .1) (c .judge-arrival .ensures)
+returns c v = rw (c .before .before .e .given .1) (c .judge-arrival .ensures)
 
 returns-2 : tie.Need-returns-2
-returns-2 c = rw (c .before .before .e2 .given .1) (c .judge-task .ensures)
+returns-2 c v = rw (c .before .before .e2 .given .1) (c .judge-task .ensures)
 
 returns-3 : tie.Need-returns-3
-returns-3 c = rw (c .before .before .e3 .given .1) (c .judge-read .ensures)
+returns-3 c v = rw (c .before .before .e3 .given .1) (c .judge-read .ensures)
 
 returns-4 : tie.Need-returns-4
-returns-4 c = rw (c .before .before .e4 .given .1) (c .judge-task2 .ensures)
+returns-4 c v = rw (c .before .before .e4 .given .1) (c .judge-task2 .ensures)
 
 pub judge-spec : {M : Type 1} → statement M
 judge-spec =

@@ -10,16 +10,16 @@ use borrow.Author.Needs.{needs}
 use Rattle.recording_text_fields.proofs.number.bit.Statement.{statement}
 use Rattle.recording_text_fields.proofs.number.bit.Tie as tie
 
-at-most-31-requires : tie.Need-at-most-31-requires
-at-most-31-requires c κs = search needs
+bit-number-requires : tie.Need-bit-number-requires
+bit-number-requires c κs = search needs
 
 shl-result : tie.Need-shl-result
 shl-result c = omega arith
 
 returns : tie.Need-returns
 returns c =
-    let k = c .at-most-31 .result in
-    shl-exact 1 k 32 (lit< tt) (omega arith) ∙ one-mul (2 ^ k) ∙ ap (λ (n : ℕ). 2 ^ n) (c .at-most-31 .ensures)
+    let k = c .bit-number .result in
+    shl-exact 1 k 32 (lit< tt) (omega arith) ∙ one-mul (2 ^ k) ∙ ap (λ (n : ℕ). 2 ^ n) (c .bit-number .ensures)
 
 pub bit-spec : {M : Type 1} → statement M
-bit-spec = tie.close (tie.spec at-most-31-requires shl-result returns)
+bit-spec = tie.close (tie.spec bit-number-requires shl-result returns)
