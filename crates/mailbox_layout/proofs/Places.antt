@@ -1,4 +1,4 @@
--- Where the regions of the control begin and how wide they are, as the code computes it; and that they fill the arrays.
+-- Where the regions of the control and of the values begin and how wide they are, as the code computes it; and that they fill the arrays.
 -- Assumes nothing.
 use mathlib.Core.Path.{_≡_, refl, sym, ap, _∙_}
 use mathlib.Core.Logic.{_≢_}

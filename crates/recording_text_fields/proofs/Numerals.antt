@@ -14,7 +14,7 @@ use Rattle.recording_format.specs.RecordingKind.{baseRecording}
 use Rattle.recording_text_fields.specs.declared.number.Number.{Number}
 use Rattle.recording_text_fields.specs.declared.number.Numbers.{Numbers}
 use Rattle.recording_text_fields.specs.Pieces.{separator, fields, between, Ends}
-use Rattle.recording_text_fields.specs.Numeral.{isDigit, allDigits, valueFrom, value, numberFault, fieldNumber, firstFault, fieldValues, lastBit, setWith, setOf, gathered, noNumbers, numbersWith}
+use Rattle.recording_text_fields.specs.Numeral.{isDigit, allDigits, valueFrom, value, numberFault, fieldNumber, firstFault, fieldValues, lastOfSet, setWith, setOf, gathered, noNumbers, numbersWith}
 use Rattle.recording_text_fields.proofs.Splits.{fields-some, fields-past}
 
 -- a digit more
@@ -51,14 +51,14 @@ unfolding numberFault
 number-good f e h = rw (e, le-ltb 4294967295 (value f) h)
 
 -- no table has a task of the last bit's number
-pub last-bit-free : baseRecording .tasks ≤ lastBit
-last-bit-free = lit≤ tt
+pub last-of-set-free : baseRecording .tasks ≤ lastOfSet
+last-of-set-free = lit≤ tt
 
 -- one number more
-set-more : (set : ℕ) (ns : List ℕ) (n : ℕ) → bitOr (setWith set ns) (2 ^ min n lastBit) ≡ setWith set (ns ++ (n ∷ []))
+set-more : (set : ℕ) (ns : List ℕ) (n : ℕ) → bitOr (setWith set ns) (2 ^ min n lastOfSet) ≡ setWith set (ns ++ (n ∷ []))
 unfolding setWith
 set-more set [] n = refl
-set-more set (a ∷ ns) n = set-more (bitOr set (2 ^ min a lastBit)) ns n
+set-more set (a ∷ ns) n = set-more (bitOr set (2 ^ min a lastOfSet)) ns n
 
 place-more : (ns : List ℕ) (n i : ℕ) → cond (eqb (length ns) i) n (getD ns i 0) ≡ getD (ns ++ (n ∷ [])) i 0
 place-more [] n zero = refl
@@ -74,7 +74,7 @@ pub gathered-more :
       first = cond (eqb (length ns) 0) n (getD ns 0 0);
       second = cond (eqb (length ns) 1) n (getD ns 1 0);
       third = cond (eqb (length ns) 2) n (getD ns 2 0);
-      set = bitOr (setOf ns) (2 ^ min n lastBit);
+      set = bitOr (setOf ns) (2 ^ min n lastOfSet);
     } ≡ gathered (ns ++ (n ∷ []))
 gathered-more ns n = rw (place-more ns n 0, place-more ns n 1, place-more ns n 2, set-more 0 ns n, length-append ns (n ∷ []))
 
@@ -90,7 +90,7 @@ numbers-stop ns f fs e = let k = ne-eqb (numberFault f) 0 e in rw (k, k)
 -- the same, part by part
 pub gathered-next :
     (ns : List ℕ) (n : ℕ) {m : Numbers} → m ≡ gathered ns → {a b d e : ℕ} → a ≡ cond (eqb (m .count) 0) n (m .first) → b ≡ cond (eqb (m .count) 1) n (m .second) →
-    d ≡ cond (eqb (m .count) 2) n (m .third) → e ≡ 2 ^ min n lastBit →
+    d ≡ cond (eqb (m .count) 2) n (m .third) → e ≡ 2 ^ min n lastOfSet →
     record { fault = 0; count = m .count + 1; first = a; second = b; third = d; set = bitOr (m .set) e } ≡ gathered (ns ++ (n ∷ []))
 gathered-next ns n g p q r s = rw (p, q, r, s, g) (gathered-more ns n)
 

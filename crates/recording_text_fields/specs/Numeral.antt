@@ -45,13 +45,13 @@ unfoldable pub fieldValues : List (List ℕ) → List ℕ
 fieldValues fs = map value fs
 
 -- the last bit of a set: no table has a task of this number, so it stands for it and all above
-abbrev pub lastBit : ℕ
-lastBit = 31
+abbrev pub lastOfSet : ℕ
+lastOfSet = 31
 
 -- a set and the tasks of these numbers: bit t is task t
 unfoldable pub setWith : ℕ → List ℕ → ℕ
 setWith set [] = set
-setWith set (n ∷ ns) = setWith (bitOr set (2 ^ min n lastBit)) ns
+setWith set (n ∷ ns) = setWith (bitOr set (2 ^ min n lastOfSet)) ns
 
 -- the set of tasks of these numbers
 abbrev pub setOf : List ℕ → ℕ

@@ -5,14 +5,14 @@ ghost use mathlib.Core.List.{List, [], _∷_, _++_};
 ghost use Prim.Native.Nat.{ℕ, _+_, _-_, _*_, _^_, _≤_, _<_, min};
 ghost use lib.ListN.{drop};
 ghost use Rattle.recording_text_fields.specs.Pieces.{fields};
-ghost use Rattle.recording_text_fields.specs.Numeral.{isDigit, fieldNumber, lastBit, gathered, noNumbers, numbersWith};
+ghost use Rattle.recording_text_fields.specs.Numeral.{isDigit, fieldNumber, lastOfSet, gathered, noNumbers, numbersWith};
 use crate::piece::piece_end;
 
 // One more than the largest number: a number that is no smaller counts as this.
 const ABOVE: u64 = 4294967296;
 
 // The last bit of a set: no table has a task of this number, so it stands for it and all above.
-const LAST_BIT: u32 = 31;
+const LAST_OF_SET: u32 = 31;
 
 // A field as a number, or why it is none.
 pub struct Number {
@@ -71,14 +71,18 @@ fn number_of(field: &[u8]) -> Number
 
 // The number of the bit that stands for a task.
 fn bit_number(task: u32) -> u32
-    ensures { λ r. ⌜ r ≡ min task lastBit ⌝ }
+    ensures { λ r. ⌜ r ≡ min task lastOfSet ⌝ }
 {
-    if task < LAST_BIT { task } else { LAST_BIT }
+    if task < LAST_OF_SET {
+        task
+    } else {
+        LAST_OF_SET
+    }
 }
 
 // The bit of a task.
 fn bit(task: u32) -> u32
-    ensures { λ r. ⌜ r ≡ 2 ^ min task lastBit ⌝ }
+    ensures { λ r. ⌜ r ≡ 2 ^ min task lastOfSet ⌝ }
 {
     1u32 << bit_number(task)
 }
