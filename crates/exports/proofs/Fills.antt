@@ -11,7 +11,7 @@ use Rattle.byte_format.specs.Play.{Verdict}
 use Rattle.recording_core.specs.Playing.{Playing}
 use Rattle.recording.specs.Answers.{replied}
 use Rattle.recording.specs.declared.Answer.{Answer}
-use Rattle.exports.specs.Replies.{madeAs}
+use Rattle.exports.specs.Made.{madeAs}
 use Rattle.exports.specs.Replayed.{hostReply, countsIn, Replayed}
 
 pub made-filled : (m : Made) {k : fresh.Made} {q : Saved} → madeOf m ≡ k → q ≡ saved (m .state) → madeAs (m .refusal) q ≡ k

@@ -1,3 +1,2 @@
-pub mod Far
 pub mod Ways
 pub mod Fills

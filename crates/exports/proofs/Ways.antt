@@ -16,11 +16,11 @@ use Rattle.protocol_state.proofs.Give.{unsound, refused, give-unsound}
 use Rattle.protocol_state.specs.Sound.{testedSound}
 use Rattle.mailbox_parts.specs.Plain.{plain}
 use Rattle.mailbox_parts.specs.declared.event.Event.{Event}
-use Rattle.exports.specs.Calls.{Call, known, unknown, called, callReply}
-use Rattle.exports.specs.Replies.{heard, askedNumber}
-use Rattle.exports.specs.declared.call.Asked.{Asked}
-use Rattle.exports.specs.declared.call.Asked.the-variants as asked
-use Rattle.exports.proofs.call.Asked as A
+use Rattle.mailbox_call.specs.Calls.{Call, known, unknown, called, callReply}
+use Rattle.mailbox_call.specs.Replies.{heard, askedNumber}
+use Rattle.mailbox_call.specs.declared.Asked.{Asked}
+use Rattle.mailbox_call.specs.declared.Asked.the-variants as asked
+use Rattle.mailbox_call.proofs.Asked as A
 
 -- an unsound state is answered 19, whatever is called
 never : (q : Saved) (c : Call) → testedSound base q ≡ false → callReply q c ≡ reply q 19 0

@@ -1,5 +1,4 @@
 -- What the calls of a host answer.
-pub mod Calls
-pub mod Replies
+pub mod Made
 pub mod Replayed
 pub mod Wrote

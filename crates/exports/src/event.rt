@@ -3,14 +3,14 @@ ghost use mathlib.Core.Path.{_≡_};
 ghost use mathlib.Core.Logic.{_≢_};
 ghost use Rattle.protocol_state.specs.Give.{reply};
 ghost use Rattle.mailbox_layout.specs.Layout.{stateOf};
-ghost use Rattle.exports.specs.Calls.{called, callReply};
-use crate::call::Asked;
-use crate::call::ask;
-use crate::call::number_of;
-use mailbox_checks::sound::is_sound;
+ghost use Rattle.mailbox_call.specs.Calls.{called, callReply};
+use mailbox_call::Asked;
+use mailbox_call::ask;
+use mailbox_call::number_of;
 use mailbox_give::give;
 use mailbox_layout::CONTROL;
 use mailbox_layout::VALUES;
+use mailbox_sound::is_sound;
 
 // One event given to a state: 19 where the state isn't sound, then 11 for an unknown kind, then 12 to 16, else it is done. A refusal leaves
 // both arrays as they were lent.

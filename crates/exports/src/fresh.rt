@@ -4,7 +4,7 @@ ghost use Rattle.protocol_state.specs.Records.{firstTasks, firstLinks};
 ghost use Rattle.protocol_state.specs.Saved.{base};
 ghost use Rattle.protocol_state.specs.Fresh.{made};
 ghost use Rattle.mailbox_layout.specs.Layout.{stateOf};
-ghost use Rattle.exports.specs.Replies.{madeAs};
+ghost use Rattle.exports.specs.Made.{madeAs};
 use crate::parts::put_state;
 use mailbox::State;
 use mailbox_base::numbers::LINKS;

@@ -2,7 +2,6 @@
 //
 // Nothing is asked of the caller but that what is lent is there, and that nothing is lent twice. `include/parnusild.h` has the same
 // calls on a struct.
-mod call;
 pub mod event;
 pub mod fresh;
 mod parts;

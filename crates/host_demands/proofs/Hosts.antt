@@ -13,7 +13,7 @@ use Rattle.protocol_state.specs.Give.{reply, settled, givenTo}
 use Rattle.protocol_state.proofs.Sound.{says-sound}
 use Rattle.protocol_state.proofs.Give.{unsound, refused}
 use Rattle.mailbox.specs.declared.State.{State}
-use Rattle.exports.specs.Replies.{madeAs}
+use Rattle.exports.specs.Made.{madeAs}
 use Rattle.recording.specs.declared.Answer.{Answer}
 use Rattle.recording_demands.specs.Ensured.{Replays}
 use Rattle.recording_demands.specs.Rest.{Unread}
@@ -21,7 +21,7 @@ use Rattle.recording_demands.proofs.Rest.{unread}
 use Rattle.recording_write_demands.specs.Ensured.{Writes}
 use Rattle.demands.specs.Calls.{Gives}
 use Rattle.demands.proofs.Demands.{not-sound}
-use Rattle.exports.specs.Calls.{Call, known, unknown, called, callReply}
+use Rattle.mailbox_call.specs.Calls.{Call, known, unknown, called, callReply}
 use Rattle.host_demands.specs.Hosts.{HostGives, HostReplays, HostWrites, HostRests, HostAsksNothing, HostTells, HostSays, anArrival, aStart, aRead, aFinish, Holds, hostAnswer, lastOf, Hosts}
 
 host-asks : HostAsksNothing

@@ -26,8 +26,8 @@ use Rattle.recording_demands.specs.Ensured.{Replays}
 use Rattle.recording_demands.specs.Rest.{Unread}
 use Rattle.recording_write_demands.specs.Ensured.{Writes}
 use Rattle.demands.specs.Calls.{Makes, Gives}
-use Rattle.exports.specs.Calls.{called, callReply}
-use Rattle.exports.specs.Replies.{madeAs}
+use Rattle.mailbox_call.specs.Calls.{called, callReply}
+use Rattle.exports.specs.Made.{madeAs}
 use Rattle.exports.specs.Replayed.{Replayed}
 use Rattle.exports.specs.Wrote.{Wrote}
 use Rattle.exports.proofs.fresh.parnusild_fresh.Kinds as of-fresh

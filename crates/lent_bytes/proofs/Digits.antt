@@ -34,7 +34,7 @@ module _ (s : List ℕ) (at w i : ℕ) (p : 0 < i) (h : i ≤ w) where
   byte-below l {n} e =
       let a : at + (i - 1) + 1 ≡ at + i = omega arith in
       let b : w - (i - 1) ≡ suc (w - i) = omega arith in
-      let c : numberAt (suc (w - i)) s (at + (i - 1)) ≡ getD s (at + (i - 1)) 0 + 256 * numberAt (w - i) s (at + (i - 1) + 1) = number-more (w - i) s (at + (i - 1)) (omega arith) in
+      let c : numberAt (suc (w - i)) s (at + (i - 1)) ≡ getD s (at + (i - 1)) 0 + 256 * numberAt (w - i) s (at + (i - 1) + 1) = number-more (w - i) s (at + (i - 1)) in
       rw (b, c, a, ← e) (omega arith)
 
   -- and what is read so far leaves room for it in eight bytes

@@ -15,8 +15,6 @@ use crate::tables::values_of;
 use mailbox_base::numbers::EVENTS;
 use mailbox_base::numbers::LINKS;
 use mailbox_base::numbers::TASKS;
-use mailbox_checks::sound::is_sound;
-use mailbox_checks::table::judge_table;
 use mailbox_give::give;
 use mailbox_layout::CELL;
 use mailbox_layout::CONTROL;
@@ -33,6 +31,8 @@ use mailbox_layout::control_at;
 use mailbox_layout::fresh::fresh_control;
 use mailbox_layout::value_at;
 use mailbox_parts::event::Event;
+use mailbox_rules::table::judge_table;
+use mailbox_sound::is_sound;
 
 mod tables;
 

@@ -2,12 +2,15 @@
 -- Assumes nothing.
 use mathlib.Core.Path.{_≡_, refl, ap, _∙_}
 use mathlib.Core.Bool.{Bool, true, false, cond, not, _&&_, _||_}
-use Prim.Native.Nat.{ℕ, zero, suc, _/_, _^_, _≤_, _<_}
+use mathlib.Core.List.{List}
+use Prim.Native.Nat.{ℕ, zero, suc, _/_, _^_, _≤_, _<_, min}
+use native.Mathlib.Nat.{zero-min, min-eq-left}
 use native.Mathlib.Omega.{arith}
 use borrow.Author.Tests.{le-leb, lt-leb, lt-ltb, le-ltb, leb-true, leb-false}
 use lib.Dec.{eqb, ltb, leb}
+use lib.ListN.{length, List·getD-eq-default}
 use Rattle.lists.specs.Lists.{some, every}
-use Rattle.protocol_state.specs.Saved.{activePhase}
+use Rattle.protocol_state.specs.Saved.{at, activePhase}
 use Rattle.protocol_state.specs.Decision.{decided}
 use Rattle.protocol_state.specs.Judge.{mayArrive, judgedArrival, judgedTask, judgedRead}
 use Rattle.protocol_state.proofs.Places.{some-same}
@@ -29,6 +32,25 @@ some-ahead f t (suc n) l = go (leb t n) refl (some-ahead f t n) refl where
       let h : n < t = leb-false t n e in
       let s : suc n ≡ t = omega arith in
       rw (lt-ltb n t h, some-same (λ u. ltb u t && f u) f n (λ u i. rw (lt-ltb u t (omega arith)))) (one ∙ ap (some f) s)
+
+-- past the last phase there is no active task
+pub idle-past : (xs : List ℕ) (t : ℕ) → some (λ u. activePhase (at xs u)) (min t (length xs)) ≡ some (λ u. activePhase (at xs u)) t
+unfolding some
+idle-past xs zero = rw zero-min
+idle-past xs (suc t) = go (leb (suc t) (length xs)) refl (idle-past xs t)
+  where
+    active : ℕ → Bool
+    active u = activePhase (at xs u)
+
+    go :
+        (b : Bool) → leb (suc t) (length xs) ≡ b → some active (min t (length xs)) ≡ some active t →
+        some active (min (suc t) (length xs)) ≡ some active (suc t)
+    go true e ih = ap (some active) (min-eq-left (leb-true (suc t) (length xs) e))
+    go false e ih =
+        let h : length xs ≤ t = omega (arith, leb-false (suc t) (length xs) e) in
+        let m : min (suc t) (length xs) ≡ min t (length xs) = omega arith in
+        let z : at xs t ≡ 0 = List·getD-eq-default xs 0 h in
+        rw (m, z) ih
 
 -- b says whether each may arrive, u what that means, and a shift by T whether there is a task past the table
 pub arrival-judged :

@@ -5,7 +5,7 @@ ghost use mathlib.Core.Path.{_≡_};
 ghost use lib.ListN.{set};
 ghost use Rattle.protocol_state.specs.Saved.{at, cellOf};
 ghost use Rattle.regions.specs.Regions.{region, place};
-ghost use Rattle.mailbox_layout.specs.Layout.{controlWidths, valueWidths, cellRegion, cut, cutValues, cellsIn};
+ghost use Rattle.mailbox_layout.specs.Layout.{controlWidths, valueWidths, cellRegion, cut, cutValues, phaseIn, cellsIn};
 use mailbox_base::numbers::CELLS;
 use mailbox_base::numbers::LINKS;
 use mailbox_base::numbers::TASKS;
@@ -111,6 +111,14 @@ pub fn put_value(values: &mut [u32; VALUES], k: usize, i: usize, x: u32)
     if p < VALUES {
         values[p] = x;
     }
+}
+
+// The phases of all tasks, lent: a loop over them asks for no place.
+pub fn phases_in(control: &[u8; CONTROL]) -> &[u8]
+    ensures { λ r. ⌜ now r ≡ phaseIn (now (control .entry)) ⌝ }
+{
+    let all: &[u8] = control;
+    &all[0..TASKS]
 }
 
 // The numbers at the positions of all tasks, one task after the other, lent.

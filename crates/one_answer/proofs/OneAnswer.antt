@@ -12,13 +12,13 @@ use Rattle.recording_format.specs.Event as format
 use Rattle.mailbox_parts.specs.declared.event.Event.{Event}
 use Rattle.mailbox_parts.specs.declared.event.Event.the-variants.{Arrival, Start, Read, Finish}
 use Rattle.mailbox_parts.specs.Plain.{plain}
-use Rattle.recording_read.specs.Next.{plainKind, foundOf, gotOf}
-use Rattle.recording_read.specs.declared.event.Kind.{Kind}
-use Rattle.recording_read.specs.declared.event.Kind.the-variants as kind
-use Rattle.recording_read.specs.declared.event.Found.{Found}
-use Rattle.recording_read.specs.declared.event.Found.the-variants as found
-use Rattle.recording_read.specs.declared.event.Next.{Next}
-use Rattle.recording_read.specs.declared.event.Next.the-variants as next
+use Rattle.recording_event.specs.Next.{plainKind, foundOf, gotOf}
+use Rattle.recording_event.specs.declared.Kind.{Kind}
+use Rattle.recording_event.specs.declared.Kind.the-variants as kind
+use Rattle.recording_event.specs.declared.Found.{Found}
+use Rattle.recording_event.specs.declared.Found.the-variants as found
+use Rattle.recording_event.specs.declared.Next.{Next}
+use Rattle.recording_event.specs.declared.Next.the-variants as next
 use Rattle.protocol_state.specs.Saved.{Saved}
 use Rattle.protocol_state.specs.Give.{Reply}
 use Rattle.protocol_state.specs.Fresh as fresh
@@ -29,9 +29,9 @@ use Rattle.mailbox.specs.declared.State.{State}
 use Rattle.mailbox.specs.declared.Step.{Step}
 use Rattle.mailbox.specs.declared.Made.{Made}
 use Rattle.mailbox.proofs.Packed.{saved-same}
-use Rattle.recording_read.specs.Heads.{Heads}
-use Rattle.recording_read.specs.Sections.{HoldsTable}
-use Rattle.recording_read.specs.declared.table.Table.{Table}
+use Rattle.recording_table.specs.Heads.{Heads}
+use Rattle.recording_table.specs.Sections.{HoldsTable}
+use Rattle.recording_table.specs.declared.Table.{Table}
 use Rattle.demands.proofs.Only.{reply-parts}
 use Rattle.one_answer.specs.OneAnswer.{OneAnswer}
 

@@ -13,9 +13,9 @@ use Rattle.mailbox.specs.declared.State.{State}
 use Rattle.mailbox.specs.declared.Step.{Step}
 use Rattle.mailbox.specs.declared.Made.{Made}
 use Rattle.recording.specs.declared.Answer.{Answer}
-use Rattle.recording_read.specs.declared.event.Next.{Next}
-use Rattle.recording_read.specs.declared.event.Found.{Found}
-use Rattle.recording_read.specs.declared.table.Table.{Table}
+use Rattle.recording_event.specs.declared.Next.{Next}
+use Rattle.recording_event.specs.declared.Found.{Found}
+use Rattle.recording_table.specs.declared.Table.{Table}
 use Rattle.recording_write.specs.declared.Written as writer
 use Rattle.settings_list.specs.declared.Migration.{Migration}
 use Rattle.settings.specs.declared.Written as settings
@@ -63,16 +63,16 @@ use Rattle.recording.proofs.replay.Kinds as of-replay
 use Rattle.recording.proofs.replay.Reads as on-replay
 use Rattle.recording.proofs.rest.Kinds as of-rest
 use Rattle.recording.proofs.rest.Reads as on-rest
-use Rattle.recording_read.proofs.event.read_event.Kinds as of-read-event
-use Rattle.recording_read.proofs.event.read_event.Reads as on-read-event
-use Rattle.recording_read.proofs.event.kind_of.Kinds as of-kind-of
-use Rattle.recording_read.proofs.event.kind_of.Reads as on-kind-of
-use Rattle.recording_read.proofs.event.refused.Kinds as of-refused
-use Rattle.recording_read.proofs.event.refused.Reads as on-refused
-use Rattle.recording_read.proofs.event.number_of.Kinds as of-number-of
-use Rattle.recording_read.proofs.event.number_of.Reads as on-number-of
-use Rattle.recording_read.proofs.table.read_table.Kinds as of-read-table
-use Rattle.recording_read.proofs.table.read_table.Reads as on-read-table
+use Rattle.recording_event.proofs.read_event.Kinds as of-read-event
+use Rattle.recording_event.proofs.read_event.Reads as on-read-event
+use Rattle.recording_event.proofs.kind_of.Kinds as of-kind-of
+use Rattle.recording_event.proofs.kind_of.Reads as on-kind-of
+use Rattle.recording_event.proofs.refused.Kinds as of-refused
+use Rattle.recording_event.proofs.refused.Reads as on-refused
+use Rattle.recording_event.proofs.number_of.Kinds as of-number-of
+use Rattle.recording_event.proofs.number_of.Reads as on-number-of
+use Rattle.recording_table.proofs.read_table.Kinds as of-read-table
+use Rattle.recording_table.proofs.read_table.Reads as on-read-table
 use Rattle.recording_walk.proofs.event_at.Kinds as of-event-at
 use Rattle.recording_walk.proofs.event_at.Reads as on-event-at
 use Rattle.recording_write.proofs.write.Kinds as of-write
@@ -128,11 +128,12 @@ pub record OneAnswer : Type 0 where
   -- `recording`: the answer, and the lent list; a part of the recording by its bytes
   pub replay : One 2 of-replay.ps of-replay.r on-replay.Learnt (Answer × List ℕ) (λ κs a left. (a, now (left .1 .0)))
   pub rest : One 1 of-rest.ps of-rest.r on-rest.Learnt (List ℕ) (λ κs part left. now part)
-  -- `recording_read`
+  -- `recording_event`
   pub read-event : One 1 of-read-event.ps of-read-event.r on-read-event.Learnt Next (λ κs n left. n)
   pub kind-of : One 0 of-kind-of.ps of-kind-of.r on-kind-of.Learnt Found (λ κs f left. f)
   pub refused : One 0 of-refused.ps of-refused.r on-refused.Learnt Next (λ κs n left. n)
   pub number-of : One 0 of-number-of.ps of-number-of.r on-number-of.Learnt ℕ (λ κs n left. n)
+  -- `recording_table`
   pub read-table : One 1 of-read-table.ps of-read-table.r on-read-table.Learnt Table (λ κs t left. t)
   -- `recording_walk`; `moved` has the clause of `new`, and a walker is equal with its reference
   pub new : (bytes : RefT (List ℕ)) (at : ℕ) (w w′ : Walker) → WalksFrom bytes at w → WalksFrom bytes at w′ → w ≡ w′

@@ -18,8 +18,8 @@ use denote.Triple.Entry.{Args, Res}
 use denote.Triple.Clauses.{AtExit}
 use Rattle.recording_format.specs.RecordingKind.{baseRecording}
 use Rattle.recording_format.specs.Event.{eventAt}
-use Rattle.recording_read.specs.Next.{gotOf}
-use Rattle.recording_read.specs.declared.event.Next.{Next}
+use Rattle.recording_event.specs.Next.{gotOf}
+use Rattle.recording_event.specs.declared.Next.{Next}
 use Rattle.recording_walk.specs.declared.Walker.{Walker}
 use Rattle.recording_walk.proofs.new as of-new
 use Rattle.recording_walk.proofs.moved as of-moved

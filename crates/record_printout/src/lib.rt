@@ -8,7 +8,7 @@ use record_lines::put_fault;
 use record_lines::put_refused;
 use record_lines::put_too_long;
 use recording_make::make_recording;
-use recording_read::table::RECORDING;
+use recording_table::RECORDING;
 use text_line::ROOM;
 use text_line::show;
 use text_line::show_error;

@@ -33,7 +33,7 @@ no-count s h = sym (count-missing 1 countLimit s 0 refl (omega arith))
 
 module _ (s : List ℕ) (h : length s ≢ 0) where
   is : countAt 1 countLimit s 0 ≡ limited countLimit (getD s 0 0) 1
-  is = count-limited 1 countLimit s 0 refl (omega arith) ∙ rw (number-one s 0 (omega arith))
+  is = count-limited 1 countLimit s 0 refl (omega arith) ∙ rw (number-one s 0)
 
   -- it is 0
   pub count-none : getD s 0 0 ≡ 0 → stop 2 ≡ countAt 1 countLimit s 0

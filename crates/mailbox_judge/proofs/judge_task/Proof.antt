@@ -17,6 +17,9 @@ control-at-requires c κs = search needs
 decide-requires : tie.Need-decide-requires
 decide-requires c κs = search needs
 
+phases-in-requires : tie.Need-phases-in-requires
+phases-in-requires c κs = search needs
+
 some-before-requires : tie.Need-some-before-requires
 some-before-requires c κs = search needs
 
@@ -28,9 +31,13 @@ pick-requires-2 c κs = search needs
 
 returns-2 : tie.Need-returns-2
 returns-2 c =
-    rw (← c .before .before .before .before .before .before .few .ensures)
-    (judged-inside _ _ _ _ (c .before .before .before .before .before .if1 .left) (rw (c .before .before .before .before .control-at .ensures) at (c .before .before .before .decide .ensures))
-    (c .before .before .some-before .ensures) (c .before .pick .ensures) (c .pick2 .ensures))
+    let ahead = c .before .before in
+    let phases = ahead .before in
+    let decision = phases .before in
+    let phase = decision .before in
+    rw (← phase .before .before .few .ensures)
+    (judged-inside _ _ _ _ (phase .before .if1 .left) (rw (phase .control-at .ensures) at (decision .decide .ensures))
+    (rw (phases .phases-in .ensures) at (ahead .some-before .ensures)) (c .before .pick .ensures) (c .pick2 .ensures))
 
 pub judge-task-spec : {M : Type 1} → statement M
 judge-task-spec =
@@ -40,6 +47,7 @@ judge-task-spec =
     returns
     control-at-requires
     decide-requires
+    phases-in-requires
     some-before-requires
     pick-requires
     pick-requires-2

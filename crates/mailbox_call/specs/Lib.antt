@@ -1,0 +1,3 @@
+-- What a host asks for in three numbers, and the answer to it.
+pub mod Calls
+pub mod Replies

@@ -1,0 +1,90 @@
+-- `mailbox_rules::links::readers_behind` meets its contract: after l turns `c` counts those of the first l links, at most l.
+-- Assumes nothing.
+use mathlib.Core.Path.{_≡_}
+use Prim.Native.Nat.{_≤_, _-_}
+use native.Mathlib.Omega.{arith}
+use Rattle.mailbox_layout.specs.Layout.{writerIn, readerIn}
+use borrow.Author.Needs.{needs}
+use Rattle.lists.specs.Lists.{count}
+use Rattle.lists.proofs.Lists.{count-none, count-more, count-end, count-le}
+use Rattle.lists.proofs.Bools.{cond-small}
+use Rattle.protocol.specs.Table.{toBehind}
+use Rattle.protocol_state.specs.Saved.{at}
+use Rattle.protocol_state.specs.Records.{earlier}
+use Rattle.mailbox_rules.proofs.links.readers_behind.Statement.{statement}
+use Rattle.mailbox_rules.proofs.links.readers_behind.Tie as tie
+
+abbrev Inv-loop : tie.InvT-loop
+Inv-loop control n t end c₀ l₀ c l =
+    (l ≤ end) × (c ≡ count (toBehind earlier (at (writerIn control)) (at (readerIn control)) t) l)
+
+abbrev μ-loop : tie.MeasureT-loop
+μ-loop control n t end c₀ l₀ c l = end - l
+
+few-requires : tie.Need-few-requires Inv-loop μ-loop
+few-requires c κs = search needs
+
+loop-holds : tie.Need-loop-holds Inv-loop μ-loop
+loop-holds c = (omega arith, count-none _)
+
+control-at-requires : tie.Need-control-at-requires Inv-loop μ-loop
+control-at-requires c κs = search needs
+
+control-at-requires-2 : tie.Need-control-at-requires-2 Inv-loop μ-loop
+control-at-requires-2 c κs = search needs
+
+is-behind-requires : tie.Need-is-behind-requires Inv-loop μ-loop
+is-behind-requires c κs = search needs
+
+one-if-requires : tie.Need-one-if-requires Inv-loop μ-loop
+one-if-requires c κs = search needs
+
+add-c : tie.Need-add-c Inv-loop μ-loop
+add-c c =
+    let a = c .before .before .before .before .before .before .before .args in
+    let l = c .before .before .before .before .before .loop in
+    omega (
+      arith,
+      count-le (toBehind earlier (at (writerIn (a .control .now))) (at (readerIn (a .control .now))) (a .t)) (l .l),
+      l .inv .1,
+      c .one-if .ensures,
+      cond-small (c .before .is-behind .result) {x = 1} {y = 0} {m = 1} (omega arith) (omega arith),
+    )
+
+add-l : tie.Need-add-l Inv-loop μ-loop
+add-l c = omega arith
+
+loop-less : tie.Need-loop-less Inv-loop μ-loop
+loop-less c = omega arith
+
+loop-again : tie.Need-loop-again Inv-loop μ-loop
+loop-again c =
+    let a = c .before .before .before .before .before .before .before .args in (
+      omega arith,
+      count-more (toBehind earlier (at (writerIn (a .control .now))) (at (readerIn (a .control .now))) (a .t)) _
+          (rw (c .before .before .before .control-at .ensures, c .before .before .control-at2 .ensures) at (c .before .is-behind .ensures)) (c .before .before .before .before .before .loop .inv .1) (c .one-if .ensures),
+    )
+
+returns : tie.Need-returns Inv-loop μ-loop
+returns c =
+    let a = c .before .before .before .args in
+    let e = count-end (toBehind earlier (at (writerIn (a .control .now))) (at (readerIn (a .control .now))) (a .t)) _ _ (c .before .loop .inv .1) (c .before .loop .inv .0) (c .loop-test .left) in
+    (rw (← c .before .before .few .ensures) e, omega (arith, count-le (toBehind earlier (at (writerIn (a .control .now))) (at (readerIn (a .control .now))) (a .t)) (c .before .loop .l), c .before .loop .inv .1))
+
+pub readers-behind-spec : {M : Type 1} → statement M
+readers-behind-spec =
+    tie.close
+    (tie.spec
+    Inv-loop
+    μ-loop
+    few-requires
+    loop-holds
+    control-at-requires
+    control-at-requires-2
+    is-behind-requires
+    one-if-requires
+    add-c
+    add-l
+    loop-less
+    loop-again
+    returns)

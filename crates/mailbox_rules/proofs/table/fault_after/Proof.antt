@@ -1,0 +1,21 @@
+-- `mailbox_rules::table::fault_after` meets its contract: what the three calls ensure, put together.
+-- Assumes nothing.
+use borrow.Author.Needs.{needs}
+use Rattle.mailbox_rules.proofs.table.fault_after.Statement.{statement}
+use Rattle.mailbox_rules.proofs.table.fault_after.Tie as tie
+
+has-pair-requires : tie.Need-has-pair-requires
+has-pair-requires c κs = search needs
+
+readers-behind-requires : tie.Need-readers-behind-requires
+readers-behind-requires c κs = search needs
+
+fault-of-requires : tie.Need-fault-of-requires
+fault-of-requires c κs = search needs
+
+returns : tie.Need-returns
+returns c = rw (c .fault-of .ensures, c .before .readers-behind .ensures .0, c .before .before .has-pair .ensures)
+
+pub fault-after-spec : {M : Type 1} → statement M
+fault-after-spec =
+    tie.close (tie.spec has-pair-requires readers-behind-requires fault-of-requires returns)

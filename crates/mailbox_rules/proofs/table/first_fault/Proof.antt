@@ -1,0 +1,48 @@
+-- `mailbox_rules::table::first_fault` meets its contract: after l turns `found` is the refusal of the first link at fault among the first l.
+-- Assumes nothing.
+use mathlib.Core.Path.{_≡_, refl}
+use Prim.Native.Nat.{_≤_, _-_}
+use native.Mathlib.Omega.{arith}
+use Rattle.mailbox_layout.specs.Layout.{linkHeld}
+use borrow.Author.Needs.{needs}
+use Rattle.lists.specs.Lists.{leading}
+use Rattle.lists.proofs.Lists.{leading-none, leading-more, leading-end}
+use Rattle.protocol_state.specs.Rules.{fault}
+use Rattle.protocol_state.specs.Records.{earlier}
+use Rattle.mailbox_rules.proofs.table.first_fault.Statement.{statement}
+use Rattle.mailbox_rules.proofs.table.first_fault.Tie as tie
+
+abbrev Inv-loop : tie.InvT-loop
+Inv-loop tasks links control found₀ l₀ found l =
+    (l ≤ links) × (found ≡ leading (fault earlier tasks (linkHeld control)) l)
+
+abbrev μ-loop : tie.MeasureT-loop
+μ-loop tasks links control found₀ l₀ found l = links - l
+
+loop-holds : tie.Need-loop-holds Inv-loop μ-loop
+loop-holds c = (omega arith, leading-none _)
+
+fault-or-requires : tie.Need-fault-or-requires Inv-loop μ-loop
+fault-or-requires c κs = search needs
+
+add-l : tie.Need-add-l Inv-loop μ-loop
+add-l c = omega arith
+
+loop-less : tie.Need-loop-less Inv-loop μ-loop
+loop-less c = omega arith
+
+loop-again : tie.Need-loop-again Inv-loop μ-loop
+loop-again c =
+    let a = c .before .before .before .args in (
+      omega arith,
+      leading-more (fault earlier (a .tasks) (linkHeld (a .control .now))) _ refl
+          (c .before .before .loop .inv .1) (c .fault-or .ensures),
+    )
+
+returns : tie.Need-returns Inv-loop μ-loop
+returns c = leading-end _ _ _ (c .before .loop .inv .1) (c .before .loop .inv .0) (c .loop-test .left)
+
+pub first-fault-spec : {M : Type 1} → statement M
+first-fault-spec =
+    tie.close
+    (tie.spec Inv-loop μ-loop loop-holds fault-or-requires add-l loop-less loop-again returns)

@@ -1,0 +1,119 @@
+// Soundness of a state, on its lent control: what refusal 19 tests.
+ghost use mathlib.Core.Path.{_≡_};
+ghost use mathlib.Core.Bool.{cond};
+ghost use mathlib.Core.List.{List};
+ghost use Prim.Native.Nat.{ℕ, _≤_};
+ghost use Rattle.lists.specs.Lists.{every};
+ghost use Rattle.protocol_state.specs.Saved.{base};
+ghost use Rattle.protocol_state.specs.Sound.{within, taskIs, taskOk, pointerIs, pointerOk, isSound};
+ghost use Rattle.protocol_state.specs.Records.{earlier};
+ghost use Rattle.mailbox_layout.specs.Layout.{stateOf};
+use mailbox_layout::CONTROL;
+use mailbox_layout::NEWEST;
+use mailbox_layout::PHASE;
+use mailbox_layout::POINTER;
+use mailbox_layout::PREVIOUS;
+use mailbox_layout::READER;
+use mailbox_layout::WRITER;
+use mailbox_layout::control_at;
+use mailbox_rules::links::readers_behind;
+use mailbox_rules::table::judge_table;
+
+// Whether `y` is one of a task's positions, 1 to `n` + 2.
+fn is_within(n: usize, y: u8) -> bool
+    requires { ⌜ n ≤ base .links ⌝ }
+    ensures { λ r. ⌜ r ≡ within n y ⌝ }
+{
+    (1 <= y) & (y as usize <= n + 2)
+}
+
+// Whether a task with `n` links to readers behind may have this phase and these positions.
+fn task_is(phase: u8, newest: u8, previous: u8, n: usize) -> bool
+    requires { ⌜ n ≤ base .links ⌝ }
+    ensures { λ r. ⌜ r ≡ taskIs phase newest previous n ⌝ }
+{
+    (phase < 3) & (is_within(n, newest) & is_within(n, previous))
+}
+
+// Whether task `t` is as it may be: its links to readers behind are counted.
+fn task_ok(links: usize, control: &[u8; CONTROL], t: usize) -> bool
+    requires { ⌜ links ≤ base .links ⌝ }
+    ensures { λ r. ⌜ ((T : ℕ) (v : List ℕ) → r ≡ taskOk earlier (stateOf T links (now (control .entry)) v) t) ⌝ }
+{
+    let n = readers_behind(control, links, t);
+    task_is(
+        control_at(control, PHASE, t),
+        control_at(control, NEWEST, t),
+        control_at(control, PREVIOUS, t),
+        n,
+    )
+}
+
+// Whether each task is as it may be.
+fn tasks_ok(tasks: usize, links: usize, control: &[u8; CONTROL]) -> bool
+    requires { ⌜ links ≤ base .links ⌝ }
+    ensures { λ r. ⌜ ((T : ℕ) (v : List ℕ) → r ≡ every (taskOk earlier (stateOf T links (now (control .entry)) v)) tasks) ⌝ }
+{
+    let mut ok = true;
+    let mut t = 0;
+    while t < tasks {
+        ok = task_ok(links, control, t) & ok;
+        t += 1;
+    }
+    ok
+}
+
+// One of two tests.
+fn pick_test(b: bool, x: bool, y: bool) -> bool
+    ensures { λ r. ⌜ r ≡ cond b x y ⌝ }
+{
+    if b { x } else { y }
+}
+
+// Whether a link from `w` to `r` may have the pointer `y`, where the reader has this phase and the writer `n` links to readers behind:
+// present where the reader is active, absent where it is idle and the writer ahead of it.
+fn pointer_is(w: u8, r: u8, y: u8, phase: u8, n: usize) -> bool
+    requires { ⌜ n ≤ base .links ⌝ }
+    ensures { λ res. ⌜ res ≡ pointerIs earlier w r y phase n ⌝ }
+{
+    (y as usize <= n + 2) & pick_test(phase == 0, !(w < r) | (y == 0), 1 <= y)
+}
+
+// Whether link `l` has a pointer that it may have: its reader's phase is looked up, its writer's links are counted.
+fn pointer_ok(links: usize, control: &[u8; CONTROL], l: usize) -> bool
+    requires { ⌜ links ≤ base .links ⌝ }
+    ensures { λ r. ⌜ ((T : ℕ) (v : List ℕ) → r ≡ pointerOk earlier (stateOf T links (now (control .entry)) v) l) ⌝ }
+{
+    let w = control_at(control, WRITER, l);
+    let r = control_at(control, READER, l);
+    let phase = control_at(control, PHASE, r as usize);
+    let n = readers_behind(control, links, w as usize);
+    pointer_is(w, r, control_at(control, POINTER, l), phase, n)
+}
+
+// Whether each pointer is as it may be.
+fn pointers_ok(links: usize, control: &[u8; CONTROL]) -> bool
+    requires { ⌜ links ≤ base .links ⌝ }
+    ensures { λ r. ⌜ ((T : ℕ) (v : List ℕ) → r ≡ every (pointerOk earlier (stateOf T links (now (control .entry)) v)) links) ⌝ }
+{
+    let mut ok = true;
+    let mut l = 0;
+    while l < links {
+        ok = pointer_ok(links, control, l) & ok;
+        l += 1;
+    }
+    ok
+}
+
+// Whether a state with this control is sound: its table keeps the rules, and each task and each pointer is as it may be.
+pub fn is_sound(tasks: usize, links: usize, control: &[u8; CONTROL]) -> bool
+    ensures { λ r. ⌜ ((v : List ℕ) → r ≡ isSound earlier base (stateOf tasks links (now (control .entry)) v)) ⌝ }
+{
+    let refusal = judge_table(tasks, links, control);
+    if refusal != 0 {
+        return false;
+    }
+    let a = tasks_ok(tasks, links, control);
+    let b = pointers_ok(links, control);
+    a & b
+}

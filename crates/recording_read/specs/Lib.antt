@@ -1,4 +1,0 @@
--- What the readers' answers say.
-pub mod Next
-pub mod Heads
-pub mod Sections
