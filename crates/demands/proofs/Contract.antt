@@ -10,7 +10,7 @@ use borrow.Fn.Kinds.{Dens, resT, endedOf}
 use Rattle.protocol.specs.Event as protocol
 use Rattle.protocol_state.specs.Saved.{base, aheadIn}
 use Rattle.protocol_state.specs.Sound.{testedSound}
-use Rattle.mailbox_parts.specs.Plain.{plain}
+use Rattle.mailbox_event.specs.Plain.{plain}
 use Rattle.mailbox.specs.States.{saved, StaysSound}
 use Rattle.mailbox.specs.declared.State.{State}
 use Rattle.mailbox.specs.declared.Step.{Step}

@@ -6,7 +6,7 @@ use denote.Ref.{now}
 use denote.Triple.Clauses.{AtExit}
 use borrow.Fn.Kinds.{Dens, resT, endedOf}
 use Rattle.protocol.specs.Event.{arrival, start, read, finish}
-use Rattle.mailbox_parts.specs.Plain.{plain}
+use Rattle.mailbox_event.specs.Plain.{plain}
 use Rattle.recording_demands.specs.Ensured.{Replays}
 use Rattle.recording.proofs.replay.Kinds as of-replay
 use Rattle.recording.proofs.replay.Reads as on-replay

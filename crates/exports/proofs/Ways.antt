@@ -14,8 +14,8 @@ use Rattle.protocol_state.specs.Saved.{Saved, base, aheadIn}
 use Rattle.protocol_state.specs.Give.{Reply, reply, givenTo}
 use Rattle.protocol_state.proofs.Give.{unsound, refused, give-unsound}
 use Rattle.protocol_state.specs.Sound.{testedSound}
-use Rattle.mailbox_parts.specs.Plain.{plain}
-use Rattle.mailbox_parts.specs.declared.event.Event.{Event}
+use Rattle.mailbox_event.specs.Plain.{plain}
+use Rattle.mailbox_event.specs.declared.Event.{Event}
 use Rattle.mailbox_call.specs.Calls.{Call, known, unknown, called, callReply}
 use Rattle.mailbox_call.specs.Replies.{heard, askedNumber}
 use Rattle.mailbox_call.specs.declared.Asked.{Asked}

@@ -4,7 +4,7 @@ use Prim.Native.Nat.{ℕ}
 use Rattle.protocol_state.specs.Saved.{Saved, base}
 use Rattle.protocol_state.specs.Give.{Reply, settled, givenTo}
 use Rattle.protocol_state.specs.Sound.{testedSound}
-use Rattle.mailbox_parts.specs.Plain.{plain}
+use Rattle.mailbox_event.specs.Plain.{plain}
 use Rattle.mailbox_call.specs.declared.Asked.{Asked}
 use Rattle.mailbox_call.specs.declared.Asked.the-variants.{Known, Outside, Unknown}
 

@@ -5,7 +5,7 @@ ghost use Rattle.protocol_state.specs.Saved.{Saved, base};
 ghost use Rattle.protocol_state.specs.Give.{givenTo};
 ghost use Rattle.mailbox_call.specs.Calls.{called, callReply};
 ghost use Rattle.mailbox_call.specs.Replies.{heard, askedNumber};
-use mailbox_parts::event::Event;
+use mailbox_event::Event;
 
 // What a host asks for: an event, one of a task or link whose number is in no table, or one of an unknown kind.
 pub enum Asked {

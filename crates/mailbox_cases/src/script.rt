@@ -7,7 +7,7 @@ use crate::show::past;
 use crate::show::text;
 use mailbox::State;
 use mailbox::Step;
-use mailbox_parts::event::Event;
+use mailbox_event::Event;
 
 // Numbers have at most 19 digits; the remainder only keeps the sum from wrapping.
 const DIGITS: u64 = 1000000000000000000;

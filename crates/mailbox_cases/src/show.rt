@@ -9,7 +9,7 @@ use mailbox::Made;
 use mailbox::State;
 use mailbox::Step;
 use mailbox_base::numbers::POSITIONS;
-use mailbox_parts::event::Event;
+use mailbox_event::Event;
 
 pub(crate) fn text(s: &[u8]) {
     io::write_all(STDOUT_FILENO, s);

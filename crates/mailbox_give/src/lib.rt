@@ -4,14 +4,14 @@ ghost use mathlib.Core.Logic.{_≢_};
 ghost use Rattle.protocol_state.specs.Saved.{base};
 ghost use Rattle.protocol_state.specs.Give.{reply, givenTo};
 ghost use Rattle.mailbox_layout.specs.Layout.{stateOf};
-ghost use Rattle.mailbox_parts.specs.Plain.{plain};
+ghost use Rattle.mailbox_event.specs.Plain.{plain};
+use mailbox_event::Event;
 use mailbox_free::table::lowest_table;
 use mailbox_layout::CONTROL;
 use mailbox_layout::VALUES;
-use mailbox_parts::event::Event;
-use mailbox_parts::event::do_event;
-use mailbox_parts::event::judge;
-use mailbox_parts::event::value_of;
+use mailbox_parts::do_event;
+use mailbox_parts::judge;
+use mailbox_parts::value_of;
 use mailbox_sound::is_sound;
 
 // The refusal, 0 for none. `number` becomes that of an accepted read, else 0; a refusal leaves both arrays as they were lent.

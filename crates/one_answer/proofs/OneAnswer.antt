@@ -9,9 +9,9 @@ use Rattle.protocol.specs.Event as protocol
 use Rattle.protocol.specs.Event.{arrival, start, read, finish}
 use Rattle.byte_format.specs.Format.{Got, got, stop}
 use Rattle.recording_format.specs.Event as format
-use Rattle.mailbox_parts.specs.declared.event.Event.{Event}
-use Rattle.mailbox_parts.specs.declared.event.Event.the-variants.{Arrival, Start, Read, Finish}
-use Rattle.mailbox_parts.specs.Plain.{plain}
+use Rattle.mailbox_event.specs.declared.Event.{Event}
+use Rattle.mailbox_event.specs.declared.Event.the-variants.{Arrival, Start, Read, Finish}
+use Rattle.mailbox_event.specs.Plain.{plain}
 use Rattle.recording_event.specs.Next.{plainKind, foundOf, gotOf}
 use Rattle.recording_event.specs.declared.Kind.{Kind}
 use Rattle.recording_event.specs.declared.Kind.the-variants as kind

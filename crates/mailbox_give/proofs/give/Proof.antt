@@ -1,7 +1,7 @@
 -- `mailbox_give::give` meets its contract: unsound, refused, or done.
 -- Assumes nothing.
 use mathlib.Core.Path.{refl}
-use Rattle.mailbox_parts.specs.Plain.{plain}
+use Rattle.mailbox_event.specs.Plain.{plain}
 use Rattle.mailbox_give.proofs.Ways.{given-unsound, given-refused, given-done}
 use borrow.Author.Needs.{needs}
 use Rattle.mailbox_give.proofs.give.Statement.{statement}

@@ -2,7 +2,7 @@
 -- Assumes nothing.
 use borrow.Author.Needs.{needs}
 use Rattle.mailbox_give.proofs.give.Reads as give
-use Rattle.mailbox_parts.specs.Plain.{plain}
+use Rattle.mailbox_event.specs.Plain.{plain}
 use Rattle.mailbox.specs.States.{IsWhole, Gives}
 use Rattle.mailbox.proofs.Makes.{same-reply, stays}
 use Rattle.mailbox.proofs.State.itself.Reads as itself

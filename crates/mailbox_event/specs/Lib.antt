@@ -1,0 +1,2 @@
+-- What the code's events are in the protocol.
+pub mod Plain

@@ -1,0 +1,26 @@
+-- `mailbox_finish::release` meets its contract: its two steps.
+-- Assumes nothing.
+use Rattle.mailbox_layout.specs.Layout.{stateOf}
+use Rattle.mailbox_finish.proofs.Done.{release-both}
+use borrow.Author.Needs.{needs}
+use Rattle.mailbox_finish.proofs.release.Statement.{statement}
+use Rattle.mailbox_finish.proofs.release.Tie as tie
+
+few-requires : tie.Need-few-requires
+few-requires c κs = search needs
+
+free-pointers-requires : tie.Need-free-pointers-requires
+free-pointers-requires c κs = search needs
+
+advance-requires : tie.Need-advance-requires
+advance-requires c κs = search needs
+
+returns : tie.Need-returns
+returns c T v =
+    let f = c .before .before .before .before in
+    let a = f .before .args in
+    rw (← f .few .ensures)
+    (release-both (a .t) (stateOf T (f .few .result) (a .control .now) v) (c .before .before .free-pointers .ensures T _ v) (c .advance .ensures T _ v))
+
+pub release-spec : {M : Type 1} → statement M
+release-spec = tie.close (tie.spec few-requires free-pointers-requires advance-requires returns)

@@ -1,0 +1,92 @@
+// What a start, a read and a finish do.
+ghost use mathlib.Core.Path.{_≡_};
+ghost use Prim.Native.Nat.{ℕ, min};
+ghost use Rattle.protocol_state.specs.Saved.{at, base};
+ghost use Rattle.protocol_state.specs.Next.{numberRead, freed, released, finished};
+ghost use Rattle.protocol_state.specs.Records.{earlier};
+ghost use Rattle.mailbox_layout.specs.Layout.{Becomes, stateOf, writerIn, pointerIn, cellsIn};
+ghost use Rattle.mailbox_finish.specs.Frees.{freedOne, freedFirst, advanced};
+use lists::few;
+use mailbox_base::decision::FINISH;
+use mailbox_base::decision::decide;
+use mailbox_base::numbers::LINKS;
+use mailbox_base::numbers::pick;
+use mailbox_layout::CONTROL;
+use mailbox_layout::NEWEST;
+use mailbox_layout::PHASE;
+use mailbox_layout::POINTER;
+use mailbox_layout::READER;
+use mailbox_layout::VALUES;
+use mailbox_layout::WRITER;
+use mailbox_layout::cell_at;
+use mailbox_layout::control_at;
+use mailbox_layout::put_cell;
+use mailbox_layout::put_control;
+
+// The next phase of task `t`, at an event of this kind.
+pub fn advance(kind: usize, t: u8, control: &mut [u8; CONTROL])
+    ensures { λ _. ⌜ ((T L : ℕ) → Becomes (advanced kind t) T L (now (control .entry)) (now (control .exit))) ⌝ }
+{
+    let i = t as usize;
+    let next = decide(kind, control_at(control, PHASE, i));
+    put_control(control, PHASE, i, next);
+}
+
+// The number that link `l` reads: the one at its pointer in its writer's positions.
+pub fn number_of(l: u8, control: &[u8; CONTROL], values: &[u32; VALUES]) -> u32
+    ensures { λ r. ⌜ r ≡ numberRead l (at (writerIn (now (control .entry)))) (at (pointerIn (now (control .entry)))) (at (cellsIn (now (values .entry)))) ⌝ }
+{
+    let i = l as usize;
+    cell_at(
+        values,
+        control_at(control, WRITER, i),
+        control_at(control, POINTER, i),
+    )
+}
+
+// What becomes of the pointer `x` of a link from `w` to `r`, as `t` finishes.
+fn freed_at(t: u8, w: u8, r: u8, x: u8) -> u8
+    ensures { λ res. ⌜ res ≡ freed earlier t w r x ⌝ }
+{
+    pick((r == t) & (w < t), 0, x)
+}
+
+// The pointer of link `l` becomes absent, if `t` reads by it from a writer ahead of it.
+fn free_pointer(t: u8, l: usize, control: &mut [u8; CONTROL])
+    ensures { λ _. ⌜ ((T L : ℕ) → Becomes (freedOne t l) T L (now (control .entry)) (now (control .exit))) ⌝ }
+{
+    let x = freed_at(
+        t,
+        control_at(control, WRITER, l),
+        control_at(control, READER, l),
+        control_at(control, POINTER, l),
+    );
+    put_control(control, POINTER, l, x);
+}
+
+// The pointers by which `t` reads from writers ahead of it become absent.
+fn free_pointers(t: u8, links: usize, control: &mut [u8; CONTROL])
+    ensures { λ _. ⌜ ((T L : ℕ) → Becomes (freedFirst t links) T L (now (control .entry)) (now (control .exit))) ⌝ }
+{
+    let mut l = 0;
+    while l < links {
+        free_pointer(t, l, control);
+        l += 1;
+    }
+}
+
+// What a finish that is allowed does to the control: pointers become absent, and `t` is idle. A count above the room is taken as the room.
+pub fn release(t: u8, links: usize, control: &mut [u8; CONTROL])
+    ensures { λ _. ⌜ ((T : ℕ) → Becomes (released earlier t) T (min links (base .links)) (now (control .entry)) (now (control .exit))) ⌝ }
+{
+    free_pointers(t, few(links, LINKS), control);
+    advance(FINISH, t, control);
+}
+
+// A finish that is allowed: the value goes to the newest position besides.
+pub fn finish(t: u8, v: u32, links: usize, control: &mut [u8; CONTROL], values: &mut [u32; VALUES])
+    ensures { λ _. ⌜ ((T : ℕ) → stateOf T (min links (base .links)) (now (control .exit)) (now (values .exit)) ≡ finished earlier t v (stateOf T (min links (base .links)) (now (control .entry)) (now (values .entry)))) ⌝ }
+{
+    put_cell(values, t, control_at(control, NEWEST, t as usize), v);
+    release(t, links, control);
+}
