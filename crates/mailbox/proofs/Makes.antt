@@ -2,48 +2,47 @@
 -- Assumes nothing.
 use mathlib.Core.Path.{_≡_, sym, ap, _∙_}
 use mathlib.Core.Bool.{true, false}
-use mathlib.Core.List.{List, [], _∷_}
+use mathlib.Core.List.{List}
 use Prim.Native.Nat.{ℕ, _≤_, min}
 use native.Mathlib.Nat.{min-eq-left}
 use native.Mathlib.Omega.{arith}
 use borrow.Author.Tests.{eq-eqb, ne-eqb}
 use lib.Dec.{eqb}
+use lib.ListN.{length}
 use Rattle.protocol.specs.Event.{Event}
-use Rattle.protocol_state.specs.Records.{firstTasks, firstLinks, earlier}
-use Rattle.protocol_state.specs.Saved.{base, at}
+use Rattle.protocol_state.specs.Records.{firstTasks, firstLinks, linkOf, earlier}
+use Rattle.protocol_state.specs.Saved.{base}
 use Rattle.protocol_state.specs.Rules.{judgedTable}
-use Rattle.protocol_state.specs.Fresh.{copied, filled, freshOf, single, judgedLists, made}
+use Rattle.protocol_state.specs.Fresh.{freshOf, single, judgedLists, made}
 use Rattle.protocol_state.specs.Sound.{testedSound}
 use Rattle.protocol_state.specs.Give.{Reply, reply}
 use Rattle.protocol_state.proofs.Rules.{room}
 use Rattle.protocol_state.proofs.Records.{first-tasks-length, first-links-length}
-use Rattle.protocol_state.proofs.Freshes.{fresh-arrays, judged-arrays, made-sound}
+use Rattle.protocol_state.proofs.Freshes.{judged-agrees, made-sound}
 use Rattle.protocol_state.proofs.Give.{give-sound}
 use Rattle.mailbox_layout.specs.Layout.{cut, cutValues, linkHeld, stateOf, fieldsOf}
-use Rattle.mailbox_layout.specs.Fresh.{freshControl}
+use Rattle.mailbox_layout.specs.Fresh.{freshControl, freshValues}
 use Rattle.mailbox_layout.proofs.Whole.{filled-shape}
-use Rattle.regions.specs.Regions.{region}
+use Rattle.mailbox_layout.proofs.Tables.{link-held}
 use Rattle.mailbox.specs.States.{saved, madeOf, Gives, passing, StaysSound}
 use Rattle.mailbox.specs.declared.State.{State}
 use Rattle.mailbox.specs.declared.Step.{Step}
 use Rattle.mailbox.specs.declared.Made.{Made}
 
--- the first n of xs in their room
-abbrev pub copiedLinks : ℕ → List ℕ → List ℕ
-copiedLinks n xs = copied (base .links) (min n (base .links)) xs
-
-abbrev pub copiedTasks : ℕ → List ℕ → List ℕ
-copiedTasks n xs = copied (base .tasks) (min n (base .tasks)) xs
-
--- the control c holds the first links of the columns W, R and K; k is what it is judged
-module _ (T L : ℕ) (D W R K c : List ℕ) (held : cut c ≡ freshControl (copiedLinks L W) (copiedLinks L R) (copiedLinks L K))
+-- the control c holds the first links of the arrays W, R and K; k is what it is judged
+module _ (T L : ℕ) (D W R K c : List ℕ) (held : cut c ≡ freshControl (firstLinks (min L (base .links)) W R K))
     {k : ℕ} (judged : k ≡ judgedTable earlier T (linkHeld c) base L) where
+  -- where there is room for them, it holds all of them
+  held-all : L ≤ base .links → cut c ≡ freshControl (firstLinks L W R K)
+  held-all h = held ∙ ap (λ (n : ℕ). freshControl (firstLinks n W R K)) (min-eq-left h)
+
   -- so the table is
   table-judged : k ≡ judgedLists base (firstTasks T D) (firstLinks L W R K)
   table-judged =
       judged
-      ∙ ap (λ (b : List (List ℕ)). judgedTable earlier T (λ l. record { writer = at (region b 4) l; reader = at (region b 5) l; kind = at (region b 6) l }) base L) held
-      ∙ judged-arrays earlier base T L D W R K
+      ∙ judged-agrees earlier base T L (linkHeld c) (linkOf (firstLinks L W R K))
+      (λ h l i. link-held (firstLinks L W R K) c (held-all h) (omega (arith, first-links-length L W R K)) l)
+      ∙ rw (first-tasks-length T D, first-links-length L W R K)
 
   pub made-refused : (q : State) → (k ≡ 0 → ⊥) → saved q ≡ single base → madeOf (record { refusal = k; state = q }) ≡ made base (firstTasks T D) (firstLinks L W R K)
   unfolding made
@@ -51,15 +50,17 @@ module _ (T L : ℕ) (D W R K c : List ℕ) (held : cut c ≡ freshControl (copi
       let z : eqb (judgedLists base (firstTasks T D) (firstLinks L W R K)) 0 ≡ false = ne-eqb _ 0 (λ j. n (table-judged ∙ j)) in
       rw (z, i, table-judged)
 
-  module _ (v : List ℕ) (valued : cutValues v ≡ copiedTasks T D ∷ filled (base .tasks) (copiedTasks T D) ∷ []) where
+  module _ (v : List ℕ) (valued : cutValues v ≡ freshValues (firstTasks (min T (base .tasks)) D)) where
     fresh-here : k ≡ 0 → stateOf T L c v ≡ freshOf base (firstTasks T D) (firstLinks L W R K)
+    unfolding freshOf
     fresh-here e =
         let fits = room _ _ _ base _ (sym table-judged ∙ e) in
         let t : T ≤ base .tasks = rw (first-tasks-length T D) at (fits .0) in
         let l : L ≤ base .links = rw (first-links-length L W R K) at (fits .1) in
-        ap (λ (b : List (List ℕ)). fieldsOf T L b (cutValues v)) held
-        ∙ ap (λ (b : List (List ℕ)). fieldsOf T L (freshControl (copiedLinks L W) (copiedLinks L R) (copiedLinks L K)) b) valued
-        ∙ rw (min-eq-left t, min-eq-left l) (sym (fresh-arrays base T L D W R K))
+        ap (λ (b : List (List ℕ)). fieldsOf T L b (cutValues v)) (held-all l)
+        ∙ ap (λ (b : List (List ℕ)). fieldsOf T L (freshControl (firstLinks L W R K)) b) (valued ∙ ap (λ (n : ℕ). freshValues (firstTasks n D)) (min-eq-left t))
+        ∙ ap (λ (n : ℕ). fieldsOf n L (freshControl (firstLinks L W R K)) (freshValues (firstTasks T D))) (sym (first-tasks-length T D))
+        ∙ ap (λ (n : ℕ). fieldsOf (length (firstTasks T D)) n (freshControl (firstLinks L W R K)) (freshValues (firstTasks T D))) (sym (first-links-length L W R K))
 
     pub made-fresh : k ≡ 0 → madeOf (record { refusal = 0; state = record { tasks = T; links = L; control = c; values = v } }) ≡ made base (firstTasks T D) (firstLinks L W R K)
     unfolding made

@@ -1,11 +1,10 @@
 // The arrays of a table, in a fresh state.
 ghost use mathlib.Core.Path.{_≡_};
-ghost use mathlib.Core.List.{[], _∷_};
 ghost use Prim.Native.Nat.{min};
+ghost use Rattle.protocol_state.specs.Records.{firstTasks, firstLinks};
 ghost use Rattle.protocol_state.specs.Saved.{base};
-ghost use Rattle.protocol_state.specs.Fresh.{copied, filled};
 ghost use Rattle.mailbox_layout.specs.Layout.{cut, cutValues};
-ghost use Rattle.mailbox_layout.specs.Fresh.{freshControl};
+ghost use Rattle.mailbox_layout.specs.Fresh.{freshControl, freshValues};
 use lists::few;
 use mailbox_base::numbers::LINKS;
 use mailbox_base::numbers::TASKS;
@@ -24,7 +23,7 @@ pub(crate) fn control_of(
     reader: &[u8; LINKS],
     kind: &[u8; LINKS],
 ) -> [u8; CONTROL]
-    ensures { λ r. ⌜ cut r ≡ freshControl (copied (base .links) (min n (base .links)) (now (writer .entry))) (copied (base .links) (min n (base .links)) (now (reader .entry))) (copied (base .links) (min n (base .links)) (now (kind .entry))) ⌝ }
+    ensures { λ r. ⌜ cut r ≡ freshControl (firstLinks (min n (base .links)) (now (writer .entry)) (now (reader .entry)) (now (kind .entry))) ⌝ }
 {
     let end = few(n, LINKS);
     let mut control = fresh_control();
@@ -38,7 +37,7 @@ pub(crate) fn control_of(
 
 // The values of the first `n` defaults, no more than there is room for: the slots past them hold 0, and each position its task's default.
 pub(crate) fn values_of(n: usize, defaults: &[u32; TASKS]) -> [u32; VALUES]
-    ensures { λ r. ⌜ cutValues r ≡ copied (base .tasks) (min n (base .tasks)) (now (defaults .entry)) ∷ filled (base .tasks) (copied (base .tasks) (min n (base .tasks)) (now (defaults .entry))) ∷ [] ⌝ }
+    ensures { λ r. ⌜ cutValues r ≡ freshValues (firstTasks (min n (base .tasks)) (now (defaults .entry))) ⌝ }
 {
     let end = few(n, TASKS);
     let mut values = [0u32; VALUES];

@@ -9,7 +9,7 @@ use Rattle.lists.proofs.Lists.{at-bound, upto-none, upto-more}
 use Rattle.protocol_state.specs.Saved.{base, at, positions}
 use Rattle.regions.specs.Regions.{regions, region}
 use Rattle.mailbox_layout.specs.Layout.{cellRegion, previousRegion, newestRegion, defaultRegion, controlSize, cut, cutValues, defaultsIn, cellsIn}
-use Rattle.mailbox_layout.specs.Fresh.{noColumn, freshControl, withNumber, eachDefault}
+use Rattle.mailbox_layout.specs.Fresh.{freshControl, withNumber, eachDefault}
 
 -- the first t tasks have the position 1
 ones : ℕ → List ℕ
@@ -17,7 +17,14 @@ ones t = upto (λ i x. 1) t (replicate (base .tasks) 0)
 
 pub firstOnes : ℕ → List (List ℕ)
 firstOnes t =
-    replicate (base .tasks) 0 ∷ ones t ∷ ones t ∷ replicate (base .links) 0 ∷ noColumn ∷ noColumn ∷ noColumn ∷ []
+    replicate (base .tasks) 0
+    ∷ ones t
+    ∷ ones t
+    ∷ replicate (base .links) 0
+    ∷ replicate (base .links) 0
+    ∷ replicate (base .links) 0
+    ∷ replicate (base .links) 0
+    ∷ []
 
 pub ones-none : cut (replicate controlSize 0) ≡ firstOnes 0
 unfolding regions firstOnes ones upto
@@ -28,7 +35,7 @@ unfolding firstOnes ones
 ones-more t e e₁ e₂ =
     e₂ ∙ ap (withNumber previousRegion t 1) (e₁ ∙ ap (withNumber newestRegion t 1) e) ∙ rw (upto-more {A = ℕ} (λ i x. 1) t (replicate (base .tasks) 0) 0 refl refl)
 
-pub ones-end : (i : ℕ) {c : List (List ℕ)} → c ≡ firstOnes i → i ≤ base .tasks → base .tasks ≤ i → c ≡ freshControl noColumn noColumn noColumn
+pub ones-end : (i : ℕ) {c : List (List ℕ)} → c ≡ firstOnes i → i ≤ base .tasks → base .tasks ≤ i → c ≡ freshControl []
 unfolding firstOnes ones upto
 ones-end i e l h = at-bound firstOnes i (base .tasks) e l h
 

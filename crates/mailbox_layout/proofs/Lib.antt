@@ -4,3 +4,4 @@ pub mod Fields
 pub mod Room
 pub mod Whole
 pub mod Filling
+pub mod Tables

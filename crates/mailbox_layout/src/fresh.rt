@@ -1,8 +1,9 @@
 // The arrays of a fresh state: no link yet, and every position of a task holding its default.
 ghost use mathlib.Core.Path.{_≡_};
+ghost use mathlib.Core.List.{[]};
 ghost use lib.ListN.{set};
 ghost use Rattle.mailbox_layout.specs.Layout.{cellRegion, cut, cutValues, cellsIn, defaultsIn};
-ghost use Rattle.mailbox_layout.specs.Fresh.{freshControl, noColumn, columnsPut, eachDefault};
+ghost use Rattle.mailbox_layout.specs.Fresh.{freshControl, linkPut, eachDefault};
 use crate::CELL;
 use crate::CONTROL;
 use crate::DEFAULT;
@@ -21,7 +22,7 @@ use mailbox_base::numbers::TASKS;
 
 // The control of a fresh state without links: newest and previous at 1, every task idle, every pointer absent.
 pub fn fresh_control() -> [u8; CONTROL]
-    ensures { λ r. ⌜ cut r ≡ freshControl noColumn noColumn noColumn ⌝ }
+    ensures { λ r. ⌜ cut r ≡ freshControl [] ⌝ }
 {
     let mut control = [0u8; CONTROL];
     let mut t = 0;
@@ -35,7 +36,7 @@ pub fn fresh_control() -> [u8; CONTROL]
 
 // Puts link `l`: its writer, its reader and its kind.
 pub fn put_link(control: &mut [u8; CONTROL], l: usize, w: u8, r: u8, k: u8)
-    ensures { λ _. ⌜ cut (now (control .exit)) ≡ columnsPut (cut (now (control .entry))) l w r k ⌝ }
+    ensures { λ _. ⌜ cut (now (control .exit)) ≡ linkPut (cut (now (control .entry))) l (record { writer = w; reader = r; kind = k }) ⌝ }
 {
     put_control(control, WRITER, l, w);
     put_control(control, READER, l, r);

@@ -3,8 +3,7 @@
 use mathlib.Core.Path.{_≡_, refl, sym, ap, _∙_}
 use mathlib.Core.Bool.{Bool, true, false, cond}
 use mathlib.Core.List.{List, [], _∷_, map}
-use Prim.Native.Nat.{ℕ, _*_, _/_, _≤_, _<_, min}
-use native.Mathlib.Nat.{min-eq-left}
+use Prim.Native.Nat.{ℕ, _*_, _/_, _≤_, _<_}
 use native.Mathlib.Omega.{arith}
 use native.Mathlib.Decide.{decLe}
 use borrow.Author.Tests.{lt-ltb, eqb-true, eqb-false}
@@ -13,14 +12,14 @@ use lib.ListN.{length, replicate, length-replicate, List·getD-eq-default}
 use Rattle.lists.proofs.Lists.{upto-at, length-upto}
 use Rattle.protocol.specs.History.{arrivals, starts, finishes}
 use Rattle.protocol.specs.Published.{Fresh}
-use Rattle.protocol_state.specs.Records.{Task, defaultOf, Link, linkOf, writers, readers, kinds, firstTasks, firstLinks, aheadOf}
+use Rattle.protocol_state.specs.Records.{Task, defaultOf, Link, linkOf, writers, readers, kinds, aheadOf}
 use Rattle.protocol_state.specs.Saved.{Size, Shape, at, cellOf, positions, oneTo, linkIn, aheadIn, table, boxes}
 use Rattle.protocol_state.specs.Rules.{fault, judgedTable}
 use Rattle.protocol_state.specs.Sound.{isSound, Sound}
 use Rattle.protocol_state.specs.Fresh.{copied, filled, freshOf, single, Made, judgedLists, made}
 use Rattle.protocol_state.specs.Reached.{idle, Agrees}
 use Rattle.protocol_state.proofs.Places.{replicated, repeated, zeros, between, leading-same}
-use Rattle.protocol_state.proofs.Records.{first-tasks-length, first-links-length, first-link, copied-at, copied-length, column-whole, first-defaults, first-column}
+use Rattle.protocol_state.proofs.Records.{copied-length, column-whole}
 use Rattle.protocol_state.proofs.Rules as rules
 use Rattle.protocol_state.proofs.Sound.{says-sound}
 
@@ -122,54 +121,6 @@ module _ (size : Size) (ts : List Task) (ls : List Link) where
       present = λ l h n. absurd (n (zeros (size .tasks) (at (copied (size .links) (length ls) (readers ls)) l)));
       absent = λ l h a z. zeros (size .links) l;
     }
-
--- the fresh state of a table that is handed over in arrays
-pub fresh-arrays : (size : Size) (T L : ℕ) (D W R K : List ℕ) →
-    freshOf size (firstTasks T D) (firstLinks L W R K)
-    ≡ record {
-      tasks = T;
-      links = L;
-      defaults = copied (size .tasks) T D;
-      phase = replicate (size .tasks) 0;
-      newest = replicate (size .tasks) 1;
-      previous = replicate (size .tasks) 1;
-      cells = filled (size .tasks) (copied (size .tasks) T D);
-      writer = copied (size .links) L W;
-      reader = copied (size .links) L R;
-      kind = copied (size .links) L K;
-      pointer = replicate (size .links) 0;
-    }
-unfolding freshOf
-fresh-arrays size T L D W R K = λ i. record {
-  tasks = first-tasks-length T D i;
-  links = first-links-length L W R K i;
-  defaults = first-defaults (size .tasks) T D i;
-  phase = replicate (size .tasks) 0;
-  newest = replicate (size .tasks) 1;
-  previous = replicate (size .tasks) 1;
-  cells = filled (size .tasks) (first-defaults (size .tasks) T D i);
-  writer = first-column (size .links) L W R K W (λ (l : Link). l .writer) refl (λ l. refl) i;
-  reader = first-column (size .links) L W R K R (λ (l : Link). l .reader) refl (λ l. refl) i;
-  kind = first-column (size .links) L W R K K (λ (l : Link). l .kind) refl (λ l. refl) i;
-  pointer = replicate (size .links) 0;
-}
-
--- what such a table is judged, by its arrays alone: the first links of W, R and K, copied to their room
-pub judged-arrays : (ahead : ℕ → ℕ → Bool) (size : Size) (T L : ℕ) (D W R K : List ℕ) →
-    judgedTable ahead T (λ l. record {
-      writer = at (copied (size .links) (min L (size .links)) W) l;
-      reader = at (copied (size .links) (min L (size .links)) R) l;
-      kind = at (copied (size .links) (min L (size .links)) K) l;
-    }) size L
-    ≡ judgedTable ahead (length (firstTasks T D)) (linkOf (firstLinks L W R K)) size (length (firstLinks L W R K))
-judged-arrays ahead size T L D W R K =
-    judged-agrees ahead size T L _ (linkOf (firstLinks L W R K)) (λ h l k. rw (min-eq-left h) (λ i. record {
-      writer = copied-at (size .links) L W h l k i;
-      reader = copied-at (size .links) L R h l k i;
-      kind = copied-at (size .links) L K h l k i;
-    }) ∙ sym (first-link L W R K l k))
-    ∙ ap (λ (n : ℕ). judgedTable ahead n (linkOf (firstLinks L W R K)) size L) (sym (first-tasks-length T D))
-    ∙ ap (λ (n : ℕ). judgedTable ahead (length (firstTasks T D)) (linkOf (firstLinks L W R K)) size n) (sym (first-links-length L W R K))
 
 -- what a table makes, by whether it earns no refusal
 abbrev makes : Size → List Task → List Link → Bool → Made

@@ -6,8 +6,7 @@ use Prim.Native.Nat.{ℕ, zero, suc, _+_, _≤_, _<_}
 use native.Mathlib.Numerals.{add-one}
 use native.Mathlib.Omega.{arith}
 use native.Mathlib.Decide.{decLe}
-use lib.Seq.{getD-set-same, getD-set-other}
-use lib.ListN.{length, length-map, getD, set, replicate, length-replicate, List·getD-map, List·getD-eq-default}
+use lib.ListN.{length, length-map, getD, replicate, length-replicate, List·getD-map, List·getD-eq-default}
 use Rattle.lists.specs.Lists.{upto}
 use Rattle.lists.proofs.Lists.{upto-at, upto-past, length-upto}
 use Rattle.protocol.specs.Instant.{upward}
@@ -35,17 +34,6 @@ module _ {A : Type 0} (f : ℕ → A) where
   numbered-more k zero = ap (λ (i : ℕ). f i ∷ []) (omega arith)
   numbered-more k (suc n) = ap (λ (xs : List A). f k ∷ xs) (numbered-more (suc k) n ∙ ap (λ (i : ℕ). map f (upward (suc k) n) ++ (f i ∷ [])) (omega arith))
 
--- two such lists that agree number by number
-pub numbered-same : {A : Type 0} (f g : ℕ → A) (k n : ℕ) → ((i : ℕ) → i < n → f (k + i) ≡ g (k + i)) → map f (upward k n) ≡ map g (upward k n)
-unfolding upward
-numbered-same f g k zero e = refl
-numbered-same {A} f g k (suc n) e =
-    let z : k + 0 ≡ k = omega arith in
-    let first : f k ≡ g k = ap f (sym z) ∙ e 0 (omega arith) ∙ ap g z in
-    let more : (i : ℕ) → i < n → f (suc k + i) ≡ g (suc k + i) = λ i h.
-    (let y : suc k + i ≡ k + suc i = omega arith in ap f y ∙ e (suc i) (omega arith) ∙ ap g (sym y)) in
-    ap (λ (x : A). x ∷ map f (upward (suc k) n)) first ∙ ap (λ (xs : List A). g k ∷ xs) (numbered-same f g (suc k) n more)
-
 -- a task is its default
 pub own-defaults : (ts : List Task) → map defaultOf ts ≡ ts
 own-defaults [] = refl
@@ -58,11 +46,13 @@ first-tasks-length T D = length-numbered (λ t. getD D t 0) 0 T
 pub first-task : (T : ℕ) (D : List ℕ) (t : ℕ) → t < T → at (firstTasks T D) t ≡ at D t
 first-task T D t h = numbered-at (λ t. getD D t 0) 0 0 T t h ∙ ap (at D) (omega arith)
 
--- link l of three arrays
-abbrev arrayLink : List ℕ → List ℕ → List ℕ → ℕ → Link
-arrayLink W R K l = record { writer = getD W l 0; reader = getD R l 0; kind = getD K l 0 }
+-- one more
+pub first-tasks-more : (T : ℕ) (D : List ℕ) → firstTasks (T + 1) D ≡ firstTasks T D ++ (at D T ∷ [])
+first-tasks-more T D =
+    let z : 0 + T ≡ T = omega arith in
+    ap (λ (n : ℕ). firstTasks n D) (add-one T) ∙ numbered-more (λ t. getD D t 0) 0 T ∙ ap (λ (t : ℕ). firstTasks T D ++ (at D t ∷ [])) z
 
--- and the first links of three
+-- the first links of three
 module _ (L : ℕ) (W R K : List ℕ) where
   pub first-links-length : length (firstLinks L W R K) ≡ L
   first-links-length = length-numbered (λ (l : ℕ). record { writer = getD W l 0; reader = getD R l 0; kind = getD K l 0 }) 0 L
@@ -72,28 +62,13 @@ module _ (L : ℕ) (W R K : List ℕ) where
       numbered-at (λ (l : ℕ). record { writer = getD W l 0; reader = getD R l 0; kind = getD K l 0 }) noLink 0 L l h
       ∙ ap (λ (l : ℕ). record { writer = getD W l 0; reader = getD R l 0; kind = getD K l 0 }) (omega arith)
 
-  -- one link more is put behind them
-  pub first-links-more : (w r k : ℕ) → L < length W → L < length R → L < length K →
-      firstLinks (L + 1) (set W L w) (set R L r) (set K L k) ≡ firstLinks L W R K ++ (record { writer = w; reader = r; kind = k } ∷ [])
-  first-links-more w r k a b c =
-      ap (λ (n : ℕ). firstLinks n (set W L w) (set R L r) (set K L k)) (add-one L)
-      ∙ numbered-more (arrayLink (set W L w) (set R L r) (set K L k)) 0 L
-      ∙ ap (λ (ls : List Link). ls ++ (arrayLink (set W L w) (set R L r) (set K L k) (0 + L) ∷ []))
-      (numbered-same (arrayLink (set W L w) (set R L r) (set K L k)) (arrayLink W R K) 0 L (λ l h. others l h))
-      ∙ ap (λ (x : Link). firstLinks L W R K ++ (x ∷ [])) last
-    where
-      others : (l : ℕ) → l < L → arrayLink (set W L w) (set R L r) (set K L k) (0 + l) ≡ arrayLink W R K (0 + l)
-      others l h = λ i. record {
-        writer = getD-set-other W L (0 + l) w 0 (λ e. omega arith) i;
-        reader = getD-set-other R L (0 + l) r 0 (λ e. omega arith) i;
-        kind = getD-set-other K L (0 + l) k 0 (λ e. omega arith) i;
-      }
-
-      z : 0 + L ≡ L
-      z = omega arith
-
-      last : arrayLink (set W L w) (set R L r) (set K L k) (0 + L) ≡ record { writer = w; reader = r; kind = k }
-      last = rw z (λ i. record { writer = getD-set-same W L w 0 a i; reader = getD-set-same R L r 0 b i; kind = getD-set-same K L k 0 c i })
+  -- one more
+  pub first-links-more : firstLinks (L + 1) W R K ≡ firstLinks L W R K ++ (record { writer = at W L; reader = at R L; kind = at K L } ∷ [])
+  first-links-more =
+      let z : 0 + L ≡ L = omega arith in
+      ap (λ (n : ℕ). firstLinks n W R K) (add-one L)
+      ∙ numbered-more (λ (l : ℕ). record { writer = getD W l 0; reader = getD R l 0; kind = getD K l 0 }) 0 L
+      ∙ ap (λ (l : ℕ). firstLinks L W R K ++ (record { writer = at W l; reader = at R l; kind = at K l } ∷ [])) z
 
 -- lists changed alike below n are the same
 pub upto-same : {A : Type 0} (f g : ℕ → A → A) (n : ℕ) (xs : List A) → ((i : ℕ) (x : A) → i < n → f i x ≡ g i x) → upto f n xs ≡ upto g n xs
@@ -131,17 +106,3 @@ column-whole size f z ls h l =
     ∙ copied-whole size (map f ls) (omega (arith, length-map ls f)) l
     ∙ ap (λ (d : ℕ). getD (map f ls) l d) (sym z)
     ∙ List·getD-map f ls l noLink
-
--- the first tasks of an array, copied to their room, are copied from the array
-pub first-defaults : (size T : ℕ) (D : List ℕ) → copied size (length (firstTasks T D)) (map defaultOf (firstTasks T D)) ≡ copied size T D
-first-defaults size T D =
-    ap (λ (n : ℕ). copied size n (map defaultOf (firstTasks T D))) (first-tasks-length T D)
-    ∙ copied-same size T (map defaultOf (firstTasks T D)) D (λ t h. List·getD-map defaultOf (firstTasks T D) t 0 ∙ first-task T D t h)
-
--- and so is one field of the first links of three
-pub first-column : (size L : ℕ) (W R K xs : List ℕ) (f : Link → ℕ) → f noLink ≡ 0 → ((l : ℕ) → f (record { writer = at W l; reader = at R l; kind = at K l }) ≡ at xs l)
-    → copied size (length (firstLinks L W R K)) (map f (firstLinks L W R K)) ≡ copied size L xs
-first-column size L W R K xs f z law =
-    ap (λ (n : ℕ). copied size n (map f (firstLinks L W R K))) (first-links-length L W R K)
-    ∙ copied-same size L (map f (firstLinks L W R K)) xs
-    (λ l h. ap (λ (d : ℕ). getD (map f (firstLinks L W R K)) l d) (sym z) ∙ List·getD-map f (firstLinks L W R K) l noLink ∙ ap f (first-link L W R K l h) ∙ law l)

@@ -4,13 +4,16 @@ use mathlib.Core.Path.{_≡_}
 use Prim.Native.Nat.{_≤_, _-_}
 use native.Mathlib.Omega.{arith}
 use borrow.Author.Needs.{needs}
+use Rattle.protocol.specs.Instant.{upward}
+use Rattle.protocol_state.specs.Records.{firstLinks}
 use Rattle.mailbox_layout.specs.Layout.{cut}
-use Rattle.mailbox.proofs.Filling.{firstPut, put-none, put-more, put-end}
+use Rattle.mailbox_layout.specs.Fresh.{freshControl}
+use Rattle.mailbox.proofs.Filling.{links-more, links-end}
 use Rattle.mailbox.proofs.tables.control_of.Statement.{statement}
 use Rattle.mailbox.proofs.tables.control_of.Tie as tie
 
 abbrev Inv-loop : tie.InvT-loop
-Inv-loop n writer reader kind end control₀ l₀ control l = (l ≤ end) × (cut control ≡ firstPut writer reader kind l)
+Inv-loop n writer reader kind end control₀ l₀ control l = (l ≤ end) × (cut control ≡ freshControl (firstLinks l writer reader kind))
 
 abbrev μ-loop : tie.MeasureT-loop
 μ-loop n writer reader kind end control₀ l₀ control l = end - l
@@ -22,7 +25,8 @@ fresh-control-requires : tie.Need-fresh-control-requires Inv-loop μ-loop
 fresh-control-requires c κs = search needs
 
 loop-holds : tie.Need-loop-holds Inv-loop μ-loop
-loop-holds c = (omega arith, put-none _ _ _ (c .fresh-control .ensures))
+unfolding upward
+loop-holds c = (omega arith, c .fresh-control .ensures)
 
 element-copy-out-put-link : tie.Need-element-copy-out-put-link Inv-loop μ-loop
 element-copy-out-put-link c = search needs
@@ -43,10 +47,16 @@ loop-less : tie.Need-loop-less Inv-loop μ-loop
 loop-less c = omega arith
 
 loop-again : tie.Need-loop-again Inv-loop μ-loop
-loop-again c = (omega arith, put-more _ _ _ _ (c .before .before .before .before .before .before .loop .inv .1) (c .put-link .ensures))
+loop-again c =
+    let turn = c .before .before .before .before .before .before in
+    let a = turn .before .before .before .args in
+    (omega arith, links-more (a .writer .now) (a .reader .now) (a .kind .now) _ (turn .loop .inv .1) (c .put-link .ensures))
 
 returns : tie.Need-returns Inv-loop μ-loop
-returns c = rw (← c .before .before .before .few .ensures) (put-end _ _ _ _ _ (c .before .loop .inv .1) (c .before .loop .inv .0) (c .loop-test .left))
+returns c =
+    let a = c .before .before .before .before .args in
+    rw (← c .before .before .before .few .ensures)
+    (links-end (a .writer .now) (a .reader .now) (a .kind .now) _ _ (c .before .loop .inv .1) (c .before .loop .inv .0) (c .loop-test .left))
 
 pub control-of-spec : {M : Type 1} → statement M
 control-of-spec =

@@ -4,13 +4,17 @@ use mathlib.Core.Path.{_≡_}
 use Prim.Native.Nat.{_≤_, _-_}
 use native.Mathlib.Omega.{arith}
 use borrow.Author.Needs.{needs}
+use Rattle.protocol.specs.Instant.{upward}
+use Rattle.protocol_state.specs.Records.{firstTasks}
 use Rattle.mailbox_layout.specs.Layout.{cutValues}
-use Rattle.mailbox.proofs.Filling.{firstDefaults, defaults-none, defaults-more, defaults-end}
+use Rattle.mailbox_layout.specs.Fresh.{emptyValues}
+use Rattle.mailbox_layout.proofs.Tables.{no-tasks, values-filled}
+use Rattle.mailbox.proofs.Filling.{tasks-more, tasks-end}
 use Rattle.mailbox.proofs.tables.values_of.Statement.{statement}
 use Rattle.mailbox.proofs.tables.values_of.Tie as tie
 
 abbrev Inv-loop : tie.InvT-loop
-Inv-loop n defaults end values₀ t₀ values t = (t ≤ end) × (cutValues values ≡ firstDefaults defaults t)
+Inv-loop n defaults end values₀ t₀ values t = (t ≤ end) × (cutValues values ≡ emptyValues (firstTasks t defaults))
 
 abbrev μ-loop : tie.MeasureT-loop
 μ-loop n defaults end values₀ t₀ values t = end - t
@@ -19,7 +23,8 @@ few-requires : tie.Need-few-requires Inv-loop μ-loop
 few-requires c κs = search needs
 
 loop-holds : tie.Need-loop-holds Inv-loop μ-loop
-loop-holds c = (omega arith, defaults-none _)
+unfolding upward
+loop-holds c = (omega arith, no-tasks)
 
 mul-put-value : tie.Need-mul-put-value Inv-loop μ-loop
 mul-put-value c = search needs
@@ -37,7 +42,10 @@ loop-less : tie.Need-loop-less Inv-loop μ-loop
 loop-less c = omega arith
 
 loop-again : tie.Need-loop-again Inv-loop μ-loop
-loop-again c = (omega arith, defaults-more _ _ (c .before .before .before .before .loop .inv .1) (c .put-value .ensures))
+loop-again c =
+    let turn = c .before .before .before .before in
+    let a = turn .before .before .args in
+    (omega arith, tasks-more (a .defaults .now) _ (turn .loop .inv .1) (c .put-value .ensures))
 
 fill-cells-requires : tie.Need-fill-cells-requires Inv-loop μ-loop
 fill-cells-requires c κs = search needs
@@ -45,7 +53,9 @@ fill-cells-requires c κs = search needs
 returns : tie.Need-returns Inv-loop μ-loop
 returns c =
     let l = c .before .before in
-    rw (← l .before .before .few .ensures) (defaults-end _ _ _ _ _ (l .before .loop .inv .1) (l .before .loop .inv .0) (l .loop-test .left) (c .fill-cells .ensures))
+    let a = l .before .before .before .args in
+    rw (← l .before .before .few .ensures)
+    (values-filled (firstTasks (l .before .before .few .result) (a .defaults .now)) _ (tasks-end (a .defaults .now) _ _ (l .before .loop .inv .1) (l .before .loop .inv .0) (l .loop-test .left)) (c .fill-cells .ensures))
 
 pub values-of-spec : {M : Type 1} → statement M
 values-of-spec =

@@ -1,0 +1,69 @@
+-- The tasks and the links of a table in the arrays of a fresh state: one more is put behind them, and each link is the one that was put.
+-- Assumes nothing.
+use mathlib.Core.Path.{_≡_, refl, sym, ap, _∙_}
+use mathlib.Core.List.{List, [], _∷_, _++_, map, map-append}
+use Prim.Native.Nat.{ℕ, _+_, _*_, _≤_}
+use lib.ListN.{length, length-map, length-append, set, replicate, List·getD-append}
+use lib.Seq.{getD-append-seam}
+use Rattle.lists.specs.Lists.{upto}
+use Rattle.lists.proofs.Lists.{upto-more}
+use Rattle.protocol_state.specs.Records.{Task, defaultOf, Link, linkOf}
+use Rattle.protocol_state.specs.Saved.{base, at, positions}
+use Rattle.protocol_state.specs.Fresh.{copied}
+use Rattle.protocol_state.proofs.Records.{copied-same, column-whole}
+use Rattle.regions.specs.Regions.{regions, region}
+use Rattle.mailbox_layout.specs.Layout.{defaultRegion, cellRegion, valueSize, cut, cutValues, defaultsIn, cellsIn, linkHeld}
+use Rattle.mailbox_layout.specs.Fresh.{freshControl, linkPut, emptyValues, freshValues, withNumber, eachDefault}
+
+-- a list copied to its room, and one number more behind it
+copied-more : (size : ℕ) (xs : List ℕ) (v : ℕ) → set (copied size (length xs) xs) (length xs) v ≡ copied size (length xs + 1) (xs ++ (v ∷ []))
+copied-more size xs v =
+    upto-more (λ i x. at (xs ++ (v ∷ [])) i) (length xs) (replicate size 0) 0
+    (copied-same size (length xs) xs (xs ++ (v ∷ [])) (λ i h. sym (List·getD-append xs (v ∷ []) 0 i h)))
+    (sym (getD-append-seam xs v [] 0))
+
+-- one field of records that stand in a region
+field-more : {A : Type 0} (size : ℕ) (f : A → ℕ) (xs : List A) (x : A) →
+    set (copied size (length xs) (map f xs)) (length xs) (f x) ≡ copied size (length (xs ++ (x ∷ []))) (map f (xs ++ (x ∷ [])))
+field-more {A} size f xs x =
+    ap (λ (n : ℕ). set (copied size n (map f xs)) n (f x)) (sym (length-map xs f))
+    ∙ copied-more size (map f xs) (f x)
+    ∙ ap (λ (n : ℕ). copied size n (map f xs ++ (f x ∷ []))) (ap (λ (n : ℕ). n + 1) (length-map xs f) ∙ sym (length-append xs (x ∷ [])))
+    ∙ ap (λ (ys : List ℕ). copied size (length (xs ++ (x ∷ []))) ys) (sym (map-append f xs (x ∷ [])))
+
+-- the task d put behind the tasks ts
+pub task-put : (ts : List Task) (d : Task) {t : ℕ} {rs rs′ : List (List ℕ)} → rs ≡ emptyValues ts → t ≡ length ts → rs′ ≡ withNumber defaultRegion t (defaultOf d) rs →
+    rs′ ≡ emptyValues (ts ++ (d ∷ []))
+task-put ts d {t} e n p =
+    p ∙ ap (withNumber defaultRegion t (defaultOf d)) e ∙ ap (λ (i : ℕ). withNumber defaultRegion i (defaultOf d) (emptyValues ts)) n
+    ∙ ap (λ (ys : List ℕ). ys ∷ replicate {A = ℕ} (base .tasks * positions) 0 ∷ []) (field-more (base .tasks) defaultOf ts d)
+
+-- no task yet
+pub no-tasks : cutValues (replicate valueSize 0) ≡ emptyValues []
+unfolding regions upto
+no-tasks = refl
+
+-- the positions filled
+pub values-filled : (ts : List Task) (v : List ℕ) {rs : List (List ℕ)} → cutValues v ≡ emptyValues ts →
+    rs ≡ set (cutValues v) cellRegion (eachDefault (defaultsIn v) (cellsIn v)) → rs ≡ freshValues ts
+values-filled ts v e p = p ∙ ap (λ (b : List (List ℕ)). set b 1 (eachDefault (region b 0) (region b 1))) e
+
+-- the link k put behind the links ls
+pub link-put : (ls : List Link) (k : Link) {l : ℕ} {rs rs′ : List (List ℕ)} → rs ≡ freshControl ls → l ≡ length ls → rs′ ≡ linkPut rs l k → rs′ ≡ freshControl (ls ++ (k ∷ []))
+link-put ls k {l} e n p =
+    p ∙ ap (λ (b : List (List ℕ)). linkPut b l k) e ∙ ap (λ (i : ℕ). linkPut (freshControl ls) i k) n
+    ∙ rw (
+      field-more (base .links) (λ (k : Link). k .writer) ls k,
+      field-more (base .links) (λ (k : Link). k .reader) ls k,
+      field-more (base .links) (λ (k : Link). k .kind) ls k,
+    )
+
+-- and link l is the one that was put
+pub link-held : (ls : List Link) (c : List ℕ) → cut c ≡ freshControl ls → length ls ≤ base .links → (l : ℕ) → linkHeld c l ≡ linkOf ls l
+link-held ls c e h l =
+    ap (λ (b : List (List ℕ)). record { writer = at (region b 4) l; reader = at (region b 5) l; kind = at (region b 6) l }) e
+    ∙ (λ i. record {
+      writer = column-whole (base .links) (λ (k : Link). k .writer) refl ls h l i;
+      reader = column-whole (base .links) (λ (k : Link). k .reader) refl ls h l i;
+      kind = column-whole (base .links) (λ (k : Link). k .kind) refl ls h l i;
+    })
