@@ -65,7 +65,7 @@ fn is_active(phase: u8) -> bool
 }
 
 // Whether a task before `t`, one ahead of it, is active. It takes the region of the phases: so its loop needs no test whether there is such
-// a place, and the compiler asks sixteen tasks at once.
+// a place, and the compiler asks several tasks at once.
 fn some_before(t: usize, phase: &[u8]) -> bool
     ensures { λ r. ⌜ r ≡ some (λ u. activePhase (at (now (phase .entry)) u)) t ⌝ }
 {

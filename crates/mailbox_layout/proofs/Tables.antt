@@ -13,7 +13,7 @@ use Rattle.protocol_state.specs.Fresh.{copied}
 use Rattle.protocol_state.proofs.Records.{copied-same, column-whole}
 use Rattle.regions.specs.Regions.{regions, region}
 use Rattle.mailbox_layout.specs.Layout.{defaultRegion, cellRegion, valueSize, cut, cutValues, defaultsIn, cellsIn, linkHeld}
-use Rattle.mailbox_layout.specs.Fresh.{freshControl, linkPut, emptyValues, freshValues, withNumber, eachDefault}
+use Rattle.mailbox_layout.specs.Fresh.{column, freshControl, linkPut, emptyValues, freshValues, withNumber, eachDefault}
 
 -- a list copied to its room, and one number more behind it
 copied-more : (size : ℕ) (xs : List ℕ) (v : ℕ) → set (copied size (length xs) xs) (length xs) v ≡ copied size (length xs + 1) (xs ++ (v ∷ []))
@@ -24,7 +24,7 @@ copied-more size xs v =
 
 -- one field of records that stand in a region
 field-more : {A : Type 0} (size : ℕ) (f : A → ℕ) (xs : List A) (x : A) →
-    set (copied size (length xs) (map f xs)) (length xs) (f x) ≡ copied size (length (xs ++ (x ∷ []))) (map f (xs ++ (x ∷ [])))
+    set (column size f xs) (length xs) (f x) ≡ column size f (xs ++ (x ∷ []))
 field-more {A} size f xs x =
     ap (λ (n : ℕ). set (copied size n (map f xs)) n (f x)) (sym (length-map xs f))
     ∙ copied-more size (map f xs) (f x)

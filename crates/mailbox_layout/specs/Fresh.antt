@@ -10,9 +10,9 @@ use Rattle.protocol_state.specs.Fresh.{copied, filled}
 use Rattle.regions.specs.Regions.{region}
 use Rattle.mailbox_layout.specs.Layout.{writerRegion, readerRegion, kindRegion}
 
--- one field of the links ls in its region: 0 past them
-abbrev pub linkColumn : (Link → ℕ) → List Link → List ℕ
-linkColumn f ls = copied (base .links) (length ls) (map f ls)
+-- one field of the records xs in a region of this size: 0 past them
+abbrev pub column : {A : Type 0} → ℕ → (A → ℕ) → List A → List ℕ
+column size f xs = copied size (length xs) (map f xs)
 
 -- the control of a fresh state with the links ls, region by region: every task idle, newest and previous at 1, every pointer absent
 abbrev pub freshControl : List Link → List (List ℕ)
@@ -21,22 +21,18 @@ freshControl ls =
     ∷ replicate (base .tasks) 1
     ∷ replicate (base .tasks) 1
     ∷ replicate (base .links) 0
-    ∷ linkColumn (λ (k : Link). k .writer) ls
-    ∷ linkColumn (λ (k : Link). k .reader) ls
-    ∷ linkColumn (λ (k : Link). k .kind) ls
+    ∷ column (base .links) (λ (k : Link). k .writer) ls
+    ∷ column (base .links) (λ (k : Link). k .reader) ls
+    ∷ column (base .links) (λ (k : Link). k .kind) ls
     ∷ []
-
--- one field of the tasks ts in its region, likewise
-abbrev pub taskColumn : (Task → ℕ) → List Task → List ℕ
-taskColumn f ts = copied (base .tasks) (length ts) (map f ts)
 
 -- the values of the tasks ts before a position is filled
 abbrev pub emptyValues : List Task → List (List ℕ)
-emptyValues ts = taskColumn defaultOf ts ∷ replicate (base .tasks * positions) 0 ∷ []
+emptyValues ts = column (base .tasks) defaultOf ts ∷ replicate (base .tasks * positions) 0 ∷ []
 
 -- and those of a fresh state: each position of a task holds its default
 abbrev pub freshValues : List Task → List (List ℕ)
-freshValues ts = taskColumn defaultOf ts ∷ filled (base .tasks) (taskColumn defaultOf ts) ∷ []
+freshValues ts = column (base .tasks) defaultOf ts ∷ filled (base .tasks) (column (base .tasks) defaultOf ts) ∷ []
 
 -- with the number x at place l of region k
 abbrev pub withNumber : ℕ → ℕ → ℕ → List (List ℕ) → List (List ℕ)
