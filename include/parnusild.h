@@ -8,7 +8,7 @@
  * So the table is not a part of the state, and `number`, the answer and the lists lie outside of it. A call writes to what it is lent
  * and to nothing else, so different threads may have calls under way on different states.
  *
- * Refusals are numbers: 0 is none, 1 to 19 are explained in docs/REFUSALS.md. docs/FORMAT.md has the rules of a table, of events and of
+ * Refusals are numbers: 0 is none, 1 to 20 are explained in docs/REFUSALS.md. docs/FORMAT.md has the rules of a table, of events and of
  * a recording.
  *
  * Link with the library that `tools/native-staticlib exports` writes, for the machine at hand.
@@ -32,8 +32,8 @@ enum {
     PARNUSILD_EVENTS = 10000, /* and so many events in a recording */
     PARNUSILD_POSITIONS = 10, /* a task has N + 2 positions, N at most 8 */
     PARNUSILD_CELLS = PARNUSILD_TASKS * PARNUSILD_POSITIONS,
-    PARNUSILD_CONTROL = 3 * PARNUSILD_TASKS + 4 * PARNUSILD_LINKS, /* so many bytes in a state's control */
-    PARNUSILD_VALUES = PARNUSILD_TASKS + PARNUSILD_CELLS           /* so many numbers in a state's values */
+    PARNUSILD_CONTROL = 4 * PARNUSILD_TASKS + 5 * PARNUSILD_LINKS,         /* so many bytes in a state's control */
+    PARNUSILD_VALUES = PARNUSILD_TASKS + PARNUSILD_LINKS + PARNUSILD_CELLS /* so many numbers in a state's values */
 };
 
 /* The kinds of an event. Any other is unknown, refusal 11. */
@@ -51,7 +51,8 @@ struct parnusild_table {
     uint32_t defaults[PARNUSILD_TASKS];
     uint8_t writer[PARNUSILD_LINKS];
     uint8_t reader[PARNUSILD_LINKS];
-    uint8_t kind[PARNUSILD_LINKS]; /* 0 direct, 1 delayed */
+    uint8_t kind[PARNUSILD_LINKS];         /* 0 direct, 1 delayed */
+    uint32_t start_value[PARNUSILD_LINKS]; /* what a delayed link reads at first; 0 for a direct one */
 };
 
 /* The bytes of a state, by task and then by link, in the library's own order. */
@@ -59,7 +60,9 @@ struct parnusild_control {
     uint8_t phase[PARNUSILD_TASKS];    /* 0 idle, 1 waiting, 2 running */
     uint8_t newest[PARNUSILD_TASKS];   /* a position, from 1 */
     uint8_t previous[PARNUSILD_TASKS]; /* a position, from 1 */
+    uint8_t seen[PARNUSILD_TASKS];     /* 0 no arrival yet, 1 one, 2 more */
     uint8_t pointer[PARNUSILD_LINKS];  /* a position of the writer; 0: absent */
+    uint8_t mark[PARNUSILD_LINKS];     /* 1: the reader's last arrival settled on the start value; 0: none */
     uint8_t writer[PARNUSILD_LINKS];
     uint8_t reader[PARNUSILD_LINKS];
     uint8_t kind[PARNUSILD_LINKS];     /* 0 direct, 1 delayed */
@@ -68,7 +71,8 @@ struct parnusild_control {
 /* The numbers of a state, in the library's own order. */
 struct parnusild_values {
     uint32_t defaults[PARNUSILD_TASKS];
-    uint32_t cells[PARNUSILD_CELLS];   /* position p of task t at t * 10 + p - 1 */
+    uint32_t start_value[PARNUSILD_LINKS];
+    uint32_t cells[PARNUSILD_CELLS]; /* position p of task t at t * 10 + p - 1 */
 };
 
 /* Each struct is lent as one array. Where a compiler would leave gaps in it, this does not compile. */
@@ -86,7 +90,7 @@ struct parnusild_state {
 /* What a replay answers beside the state and the list. */
 struct parnusild_answer {
     uint8_t refusal; /* 0: accepted */
-    size_t place;    /* the first byte of the count or record at fault; for 17 the first extra byte; on acceptance the length */
+    size_t place;    /* the first byte of the recording, count or record at fault; for 17 the first extra byte; on acceptance the length */
     size_t arrivals; /* task by task: each task of an arrival's set counts one */
     size_t starts;
     size_t reads;    /* so many first entries of the list hold the numbers read */
@@ -103,25 +107,27 @@ struct parnusild_answer {
  * that isn't sound, tried before anything else; 11 a kind outside 1 to 4; then in rising order 12 an empty arrival set, or a task or link
  * not in the table; 13 arrival of an active task; 14 start of a task that isn't waiting; 15 read or finish by a task that isn't running;
  * 16 start, read or finish while a more urgent task is active. On a refusal the state is as lent and `number` 0; so is `number` after an
- * accepted arrival, start or finish. After an accepted read it is the number at the link's pointer in its writer's positions. */
+ * accepted arrival, start or finish. After an accepted read it is the link's start value where the link has a mark, else the number at the
+ * link's pointer in its writer's positions. */
 uint8_t parnusild_event(uint8_t kind, uint32_t which, uint32_t value, uint32_t *number, size_t tasks, size_t links,
                         uint8_t *control, uint32_t *values);
 
 /* The fresh state of a table, put into the parts lent from `tasks` on: both `newest` and `previous` at 1, every position holding the
- * task's default, every pointer absent, every task idle. Answers 0, or the refusal that the table earns: 2 the count of tasks is 0 or above
- * 16; 3 the count of links is above 32; else of the first link at fault, in rising order, 4 it names no task of the table; 5 its writer is
- * its reader; 6 its kind is neither 0 nor 1; 7 a direct link to a reader ahead; 8 its writer has an earlier link to its reader; 9 it is
- * the writer's ninth link to a reader behind. On a refusal the state is the fresh one of a single task with default 0 and no links. */
+ * task's default, every pointer absent, no mark, every task idle and without arrivals. Answers 0, or the refusal that the table earns: 2 the
+ * count of tasks is 0 or above 16; 3 the count of links is above 32; else of the first link at fault, in rising order, 4 it names no task of
+ * the table; 5 its writer is its reader; 6 its kind is neither 0 nor 1; 7 a direct link to a reader ahead; 8 its writer has an earlier link
+ * to its reader; 9 it is the writer's ninth link to a reader behind; 20 a direct link whose start value isn't 0. On a refusal the state is
+ * the fresh one of a single task with default 0 and no links. */
 uint8_t parnusild_fresh(size_t table_tasks, size_t table_links, const uint32_t *table_defaults, const uint8_t *table_writer,
-                        const uint8_t *table_reader, const uint8_t *table_kind, size_t *tasks, size_t *links,
-                        uint8_t *control, uint32_t *values);
+                        const uint8_t *table_reader, const uint8_t *table_kind, const uint32_t *table_start_value,
+                        size_t *tasks, size_t *links, uint8_t *control, uint32_t *values);
 
-/* A whole recording, `size` lent bytes, with a lent list of `room` numbers. Bytes are judged from the left and the first fault decides.
- * Answers the refusal, 0 accepted, 1 to 18 (docs/FORMAT.md). `place`: the first byte of the count or record at fault; for 17 the first
- * extra byte; on acceptance the length. `counts`, four of them: arrivals task by task, starts, reads, finishes. At a refusal whose place is
- * in the tasks, the links or one of the three counts, the state (the parts lent from `tasks` on) is the fresh one of a single task with
- * default 0 and no links, all counts are 0, and the list is untouched. Later, state and counts are those after the last accepted event; the
- * list's first entries hold the numbers read, the rest is untouched. */
+/* A whole recording, `size` lent bytes, with a lent list of `room` numbers. Bytes are judged from the left and the first fault decides; the
+ * first one must be 253. Answers the refusal, 0 accepted, 1 to 18 or 20 (docs/FORMAT.md). `place`: the first byte of the recording, count
+ * or record at fault; for 17 the first extra byte; on acceptance the length. `counts`, four of them: arrivals task by task, starts, reads,
+ * finishes. At a refusal whose place is the recording's first byte, in the tasks, in the links or one of the three counts, the state (the
+ * parts lent from `tasks` on) is the fresh one of a single task with default 0 and no links, all counts are 0, and the list is untouched.
+ * Later, state and counts are those after the last accepted event; the list's first entries hold the numbers read, the rest is untouched. */
 uint8_t parnusild_replay(const uint8_t *bytes, size_t size, uint32_t *numbers, size_t room, size_t *place, size_t *counts,
                          size_t *tasks, size_t *links, uint8_t *control, uint32_t *values);
 
@@ -130,24 +136,25 @@ uint8_t parnusild_replay(const uint8_t *bytes, size_t size, uint32_t *numbers, s
 size_t parnusild_rest(const uint8_t *bytes, size_t size, size_t place);
 
 /* A recording, written into a lent buffer of `room` bytes. `defaults`: one for each of `tasks` tasks. `links`, `links_size` numbers:
- * writer, reader and kind of each link. `events`, `events_size` numbers: the kind of each event and what it has, so 1 and a set (bit t is
- * task t); 2 and a task; 3 and a link; 4, a task and a value. Judged from the left as a replay would judge the bytes, and the first fault
- * decides. Answers the refusal, 0 accepted, 1 to 16 (docs/FORMAT.md), at the `place` where a replay would find the fault: the first byte
- * of the count or record. No number is cut to its field: a task 256 is not in the table. A link or an event whose numbers are not all
- * there counts as one, and is 1; a kind outside 1 to 4 counts as one event, is 11, and nothing after it is looked at. Tried last: 18, the
- * buffer is too short, and `place` is the length of the whole recording. On acceptance `place` is how many bytes were written, which a
- * replay accepts with room for the numbers; no byte after them is touched, and on a refusal none at all. */
+ * four of each link, its writer, reader, kind and start value. `events`, `events_size` numbers: the kind of each event and what it has, so 1
+ * and a set (bit t is task t); 2 and a task; 3 and a link; 4, a task and a value. Judged from the left as a replay would judge the bytes, and
+ * the first fault decides. Answers the refusal, 0 accepted, 1 to 16 or 20 (docs/FORMAT.md), at the `place` where a replay would find the
+ * fault: the first byte of the count or record. No number is cut to its field: a task 256 is not in the table. A link or an event whose
+ * numbers are not all there counts as one, and is 1; a kind outside 1 to 4 counts as one event, is 11, and nothing after it is looked at.
+ * Tried last: 18, the buffer is too short, and `place` is the length of the whole recording. On acceptance `place` is how many bytes were
+ * written, which a replay accepts with room for the numbers; no byte after them is touched, and on a refusal none at all. */
 uint8_t parnusild_write(const uint32_t *defaults, size_t tasks, const uint32_t *links, size_t links_size, const uint32_t *events,
                         size_t events_size, uint8_t *bytes, size_t room, size_t *place);
 
-/* The fresh state of a table: `newest` and `previous` at 1, every position holding the task's default, every pointer absent, every
- * task idle. Answers 0, or the refusal that the table earns, 2 to 9; the state is then the fresh one of a single task with default 0
- * and no links. What the state held before doesn't matter. */
+/* The fresh state of a table: `newest` and `previous` at 1, every position holding the task's default, every pointer absent, no mark,
+ * every task idle and without arrivals. Answers 0, or the refusal that the table earns, 2 to 9 or 20; the state is then the fresh one of
+ * a single task with default 0 and no links. What the state held before doesn't matter. */
 static inline uint8_t parnusild_state_fresh(struct parnusild_state *PARNUSILD_RESTRICT state,
                                             const struct parnusild_table *PARNUSILD_RESTRICT table)
 {
     return parnusild_fresh(table->tasks, table->links, table->defaults, table->writer, table->reader, table->kind,
-                           &state->tasks, &state->links, (uint8_t *)&state->control, (uint32_t *)&state->values);
+                           table->start_value, &state->tasks, &state->links, (uint8_t *)&state->control,
+                           (uint32_t *)&state->values);
 }
 
 /* One event given to the state. `which` is the set of an arrival (bit t is task t), the task of a start or finish, the link of a
@@ -161,8 +168,9 @@ static inline uint8_t parnusild_state_event(struct parnusild_state *PARNUSILD_RE
                            (uint32_t *)&state->values);
 }
 
-/* Arrival of a set: `previous` becomes `newest`, `newest` the lowest free position; then the pointers of links whose reader is in the
- * set; then all in the set are waiting. Refusals: 19; 12 an empty set, or a task not in the table; 13 an active task. */
+/* Arrival of a set: `previous` becomes `newest`, `newest` the lowest free position, `seen` one more, up to 2; then the pointers of links
+ * whose reader is in the set, and of the delayed ones the mark: 1 where `seen` of the writer is by now below 2, else 0; then all in the
+ * set are waiting. Refusals: 19; 12 an empty set, or a task not in the table; 13 an active task. */
 static inline uint8_t parnusild_state_arrival(struct parnusild_state *state, uint32_t set)
 {
     uint32_t number;
@@ -176,8 +184,8 @@ static inline uint8_t parnusild_state_start(struct parnusild_state *state, uint3
     return parnusild_state_event(state, PARNUSILD_START, task, 0, &number);
 }
 
-/* Read: the number at the link's pointer in its writer's positions; the link's reader is the task that reads.
- * Refusals, with the number 0: 19; 12 not in the table; 15 it isn't running; 16 a more urgent task is active. */
+/* Read: the link's start value where it has a mark, else the number at its pointer in its writer's positions; the link's reader is the
+ * task that reads. Refusals, with the number 0: 19; 12 not in the table; 15 it isn't running; 16 a more urgent task is active. */
 static inline uint8_t parnusild_state_read(struct parnusild_state *PARNUSILD_RESTRICT state, uint32_t link,
                                            uint32_t *PARNUSILD_RESTRICT number)
 {
@@ -185,7 +193,7 @@ static inline uint8_t parnusild_state_read(struct parnusild_state *PARNUSILD_RES
 }
 
 /* Finish: the value goes to the task's `newest` position; pointers of links by which this task reads from writers ahead of it become
- * absent; the task is idle. Refusals: 19; 12 not in the table; 15 it isn't running; 16 a more urgent task is active. */
+ * absent, and their marks go; the task is idle. Refusals: 19; 12 not in the table; 15 it isn't running; 16 a more urgent task is active. */
 static inline uint8_t parnusild_state_finish(struct parnusild_state *state, uint32_t task, uint32_t value)
 {
     uint32_t number;
@@ -194,8 +202,8 @@ static inline uint8_t parnusild_state_finish(struct parnusild_state *state, uint
 
 /* A whole recording, read from the lent bytes. Bytes are judged from the left and the first fault decides. The answer has the
  * refusal, the place and the four counts; state and counts are those after the last accepted event; the list's first entries hold the
- * numbers read, the rest is untouched. At a refusal whose place is in the tasks, the links or one of the three counts, the state is the
- * fresh one of a single task with default 0 and no links, all counts are 0, and the list is untouched.
+ * numbers read, the rest is untouched. At a refusal whose place is the recording's first byte, in the tasks, in the links or one of the
+ * three counts, the state is the fresh one of a single task with default 0 and no links, all counts are 0, and the list is untouched.
  * 18 is a read that is otherwise allowed, with no room in the list. parnusild_recording_rest has the unread rest.
  * `bytes` may be null where `size` is 0, and `numbers` where `room` is 0. Answers the refusal, too. */
 static inline uint8_t parnusild_state_replay(struct parnusild_state *PARNUSILD_RESTRICT state,

@@ -1,4 +1,4 @@
-//! What the replays of this bench share: the numbers that a state is made of, and the answer that a replay begins with.
+//! What the replays of this bench share: the numbers that a state and a recording are made of, and the answer that a replay begins with.
 use parnusild::{Answer, Control, State, Values, CELLS, LINKS, TASKS};
 
 pub const IDLE: u8 = 0;
@@ -7,6 +7,9 @@ pub const RUNNING: u8 = 2;
 
 pub const DIRECT: u8 = 0;
 pub const DELAYED: u8 = 1;
+
+/// What a recording begins with.
+pub const FIRST: u8 = 253;
 
 /// A replay: of the recording, into the lent list of numbers. The answer comes back by value, with the state inside.
 pub type Replay = fn(&[u8], &mut [u32]) -> Answer;
@@ -20,12 +23,14 @@ pub fn nothing_yet() -> Answer {
             phase: [IDLE; TASKS],
             newest: [1; TASKS],
             previous: [1; TASKS],
+            seen: [0; TASKS],
             pointer: [0; LINKS],
+            mark: [0; LINKS],
             writer: [0; LINKS],
             reader: [0; LINKS],
             kind: [0; LINKS],
         },
-        values: Values { defaults: [0; TASKS], cells: [0; CELLS] },
+        values: Values { defaults: [0; TASKS], start_value: [0; LINKS], cells: [0; CELLS] },
     };
     Answer { refusal: 0, place: 0, state, arrivals: 0, starts: 0, reads: 0, finishes: 0 }
 }

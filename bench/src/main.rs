@@ -115,7 +115,7 @@ fn main() {
         fail(format!("{:?} is no number of repeats", word));
     }
     let rows = rows::rows();
-    let seen = agree::check(&rows);
-    println!("random ones by refusal, from 0 on: {:?}", seen);
+    let earned = agree::check(&rows);
+    println!("random ones by refusal, from 0 on: {:?}", earned);
     time(&chosen(rows, part), repeats);
 }

@@ -1,8 +1,21 @@
 //! A recording as it is written.
+use crate::answer::{DELAYED, FIRST};
 use std::ops::Range;
 
-/// Writer, reader, kind.
-pub type Link = (usize, usize, u8);
+/// Writer, reader, kind, start value.
+pub type Link = (usize, usize, u8, u32);
+
+/// A link that has a start value of its own where it is delayed.
+pub fn link(writer: usize, reader: usize, kind: u8) -> Link {
+    let own = 2000 + 16 * writer as u32 + reader as u32;
+    (writer, reader, kind, if kind == DELAYED { own } else { 0 })
+}
+
+/// Its record.
+fn link_record(&(writer, reader, kind, start_value): &Link) -> [u8; 7] {
+    let v = start_value.to_le_bytes();
+    [writer as u8, reader as u8, kind, v[0], v[1], v[2], v[3]]
+}
 
 /// A recording being written, up to a number of events; what comes after them is left out.
 pub struct Maker {
@@ -16,10 +29,10 @@ pub struct Maker {
 
 impl Maker {
     pub fn new(tasks: usize, links: &[Link], most: usize) -> Maker {
-        let mut table = vec![tasks as u8];
+        let mut table = vec![FIRST, tasks as u8];
         table.extend((0..tasks).flat_map(|t| (1000 + t as u32).to_le_bytes()));
         table.push(links.len() as u8);
-        table.extend(links.iter().flat_map(|&(writer, reader, kind)| [writer as u8, reader as u8, kind]));
+        table.extend(links.iter().flat_map(link_record));
         Maker { table, events: Vec::new(), count: 0, most, links: links.to_vec(), value: 0 }
     }
 

@@ -1,6 +1,6 @@
 //! Random recordings, many of them damaged.
 use crate::answer::DELAYED;
-use crate::make::{Link, Maker};
+use crate::make::{link, Link, Maker};
 use parnusild::{LINKS, TASKS};
 
 /// Random numbers (splitmix64).
@@ -35,9 +35,10 @@ fn some_links(random: &mut Random, tasks: usize) -> Vec<Link> {
         let known = links.iter().any(|l| l.0 == w && l.1 == r);
         if w < tasks && w != r && !known && (r < w || behind < 8) {
             let kind = if r < w { DELAYED } else { random.below(2) as u8 };
-            links.push((w, r, kind));
+            let start_value = if random.one_in(300) { 1 << random.below(32) } else { link(w, r, kind).3 };
+            links.push((w, r, kind, start_value));
         } else if random.one_in(60) {
-            links.push((w, r, random.below(3) as u8));
+            links.push(link(w, r, random.below(3) as u8));
         }
     }
     links
@@ -88,9 +89,9 @@ fn some_events(random: &mut Random, tasks: usize, links: &[Link]) -> Maker {
 /// In two of three cases one damage: a cut, a byte more or less, or another byte.
 fn damage(random: &mut Random, bytes: &mut Vec<u8>, tasks: usize, links: usize) {
     let size = bytes.len();
-    let count_of_links = 1 + 4 * tasks;
-    let table = count_of_links + 1 + 3 * links + 2;
-    let counts = [0, count_of_links, table - 2, table - 1];
+    let count_of_links = 2 + 4 * tasks;
+    let table = count_of_links + 1 + 7 * links + 2;
+    let counts = [0, 1, count_of_links, table - 2, table - 1];
     let (place, below) = match random.below(12) {
         0 => return bytes.truncate(random.below(size + 1)),
         1 => return bytes.truncate(random.below(table + 1)),
@@ -102,7 +103,7 @@ fn damage(random: &mut Random, bytes: &mut Vec<u8>, tasks: usize, links: usize) 
         4 => (random.below(size), 256),
         5 => (random.below(size), 8),
         6 => (random.below(table), 20),
-        7 => (counts[random.below(4)], 256),
+        7 => (counts[random.below(5)], 256),
         _ => return,
     };
     bytes[place] = random.below(below) as u8;

@@ -1,6 +1,6 @@
 //! The recordings that are timed: accepted ones, most of them as long as there are.
 use crate::answer::{DELAYED, DIRECT};
-use crate::make::{Link, Maker};
+use crate::make::{link, Link, Maker};
 use parnusild::{EVENTS, LINKS, TASKS};
 
 /// A recording that is timed, and what it is.
@@ -18,13 +18,13 @@ fn row(name: impl Into<String>, recording: Maker) -> Row {
 fn spread(links: usize) -> Vec<Link> {
     let next = (0..TASKS).map(|t| (t, (t + 1) % TASKS));
     let before = (0..TASKS).map(|t| (t, (t + TASKS - 1) % TASKS));
-    next.chain(before).take(links).map(|(w, r)| (w, r, if r < w { DELAYED } else { DIRECT })).collect()
+    next.chain(before).take(links).map(|(w, r)| link(w, r, if r < w { DELAYED } else { DIRECT })).collect()
 }
 
 /// Four writers with eight readers behind each: the last eight tasks.
 fn crowded() -> Vec<Link> {
     let pairs = (0..4).flat_map(|w| (8..TASKS).map(move |r| (w, r)));
-    pairs.map(|(w, r)| (w, r, if r % 2 == 0 { DIRECT } else { DELAYED })).collect()
+    pairs.map(|(w, r)| link(w, r, if r % 2 == 0 { DIRECT } else { DELAYED })).collect()
 }
 
 /// So many events: a round of them over and over, the last one cut where it is full.

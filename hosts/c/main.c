@@ -1,7 +1,7 @@
 /* A host in C. It replays a recording and prints what was read and counted, then gives the same events one by one to a saved state
  * of its own and sees that both end in the same state; then gives some events that are refused; then tries each call at edge sizes;
- * then writes the recording itself, replays what it wrote, and has some writing refused; then sees that each named field of a state
- * stands where the library has it.
+ * then writes the recording itself, replays what it wrote, and has some writing refused; then reads the start value of a delayed link up
+ * to its writer's second arrival; then sees that each named field of a state stands where the library has it.
  *
  *     host FILE       the long example of docs/FORMAT.md (recordings/figure-17.rec)
  */
@@ -12,7 +12,7 @@
 #include "parnusild.h"
 
 /* the longest recording and one byte more; as many numbers as a recording can read */
-static uint8_t bytes[60165];
+static uint8_t bytes[60294];
 static uint32_t numbers[PARNUSILD_EVENTS];
 
 struct event {
@@ -34,7 +34,7 @@ static const struct event example[] = {
     A(0x9), S(0), R(0), F(0, 0), S(3), R(2), F(3, 0),
 };
 
-/* its table: four tasks, links 1 to 0 delayed, 1 to 2 direct, 1 to 3 direct */
+/* its table: four tasks, links 1 to 0 delayed with start value 90, 1 to 2 direct, 1 to 3 direct */
 static const struct parnusild_table table = {
     .tasks = 4,
     .links = 3,
@@ -42,6 +42,7 @@ static const struct parnusild_table table = {
     .writer = { 1, 1, 1 },
     .reader = { 0, 2, 3 },
     .kind = { 1, 0, 0 },
+    .start_value = { 90, 0, 0 },
 };
 
 /* whether two states hold the same */
@@ -146,6 +147,9 @@ static void refused_tables(void)
     other.links = 3;
     other.kind[0] = 0;
     refuse_table("direct link to a reader ahead", &other);
+    other.kind[0] = 1;
+    other.start_value[2] = 1;
+    refuse_table("direct link with a start value", &other);
 }
 
 /* the entry past the lent ones, which was 77 before; without a list there is none that a replay could reach */
@@ -174,20 +178,23 @@ static void edge(const char *what, const uint8_t *lent, size_t size, uint32_t *l
 
 static void edge_sizes(size_t size)
 {
-    const uint8_t least[9] = { 1 }; /* one task, no links, no events; and a byte more */
+    const uint8_t least[10] = { 253, 1 }; /* one task, no links, no events; and a byte more */
+    const uint8_t other_first[9] = { 252, 1 };
     edge("room one more", bytes, size, numbers, 9);
     edge("room exact", bytes, size, numbers, 8);
     edge("room one short", bytes, size, numbers, 7);
     edge("room 0", bytes, size, numbers, 0);
     edge("room 0, no list", bytes, size, NULL, 0);
     edge("no bytes", NULL, 0, NULL, 0);
-    edge("least recording", least, 8, NULL, 0);
-    edge("one byte short", least, 7, NULL, 0);
-    edge("one byte more", least, 9, NULL, 0);
+    edge("least recording", least, 9, NULL, 0);
+    edge("one byte short", least, 8, NULL, 0);
+    edge("one byte more", least, 10, NULL, 0);
+    edge("first byte alone", least, 1, NULL, 0);
+    edge("first byte 252", other_first, 9, NULL, 0);
 }
 
 /* the buffer that is written to, 77 in each byte before */
-static uint8_t written[160];
+static uint8_t written[176];
 
 /* whether a byte of the buffer is no longer 77, from a place on */
 static int touched(size_t from)
@@ -215,13 +222,14 @@ static size_t as_numbers(uint32_t *list)
  * bytes that must be as they were are so, all of them on a refusal and else the rest; the place */
 static size_t put(const char *what, size_t links_size, const uint32_t *events, size_t events_size, size_t room)
 {
-    uint32_t links[9];
+    uint32_t links[12];
     size_t i, place = 77;
     unsigned refusal;
     for (i = 0; i < table.links; i++) {
-        links[3 * i] = table.writer[i];
-        links[3 * i + 1] = table.reader[i];
-        links[3 * i + 2] = table.kind[i];
+        links[4 * i] = table.writer[i];
+        links[4 * i + 1] = table.reader[i];
+        links[4 * i + 2] = table.kind[i];
+        links[4 * i + 3] = table.start_value[i];
     }
     memset(written, 77, sizeof written);
     refusal = parnusild_recording_write(table.defaults, table.tasks, links, links_size, events, events_size, written, room, &place);
@@ -235,25 +243,120 @@ static void writing(size_t size)
 {
     uint32_t events[3 * sizeof example / sizeof example[0]];
     const size_t all = as_numbers(events);
-    size_t place = put("written", 9, events, all, sizeof written);
+    size_t place = put("written", 12, events, all, sizeof written);
     printf("bytes %s\n", place == size && !memcmp(written, bytes, size) ? "as in the file" : "DIFFER");
     edge("replay of what was written", written, place, numbers, 9);
-    put("exact room", 9, events, all, size);
-    put("one byte short", 9, events, all, size - 1);
-    put("no room", 9, events, all, 0);
-    put("no events", 9, NULL, 0, sizeof written);
-    put("link begun", 8, events, all, sizeof written);
-    put("event begun", 9, events, all - 1, sizeof written);
+    put("exact room", 12, events, all, size);
+    put("one byte short", 12, events, all, size - 1);
+    put("no room", 12, events, all, 0);
+    put("no events", 12, NULL, 0, sizeof written);
+    put("link begun", 11, events, all, sizeof written);
+    put("event begun", 12, events, all - 1, sizeof written);
     events[2] = 256 + PARNUSILD_START;
-    put("unknown kind 258", 9, events, all, sizeof written);
+    put("unknown kind 258", 12, events, all, sizeof written);
     events[2] = PARNUSILD_START;
     events[3] = 256;
-    put("start of task 256", 9, events, all, sizeof written);
+    put("start of task 256", 12, events, all, sizeof written);
     events[3] = 1;
-    put("start of task 1 before task 0", 9, events, all, 0);
+    put("start of task 1 before task 0", 12, events, all, 0);
     place = 77;
     printf("nothing to write: refusal %u", parnusild_recording_write(NULL, 0, NULL, 0, NULL, 0, NULL, 0, &place));
     printf(" at %zu\n", place);
+}
+
+/* a waiting task starts and finishes; 0 where neither is refused */
+static unsigned run(struct parnusild_state *state, uint32_t task, uint32_t value)
+{
+    const unsigned refusal = parnusild_state_start(state, task);
+    return refusal | parnusild_state_finish(state, task, value);
+}
+
+/* the fresh state of two tasks and a delayed link either way, each with a start value: link 0 from task 1 to task 0, link 1 back */
+static struct parnusild_state both_ways(void)
+{
+    static const struct parnusild_table both = {
+        .tasks = 2,
+        .links = 2,
+        .defaults = { 5, 6 },
+        .writer = { 1, 0 },
+        .reader = { 0, 1 },
+        .kind = { 1, 1 },
+        .start_value = { 90, 80 },
+    };
+    struct parnusild_state state;
+    parnusild_state_fresh(&state, &both);
+    return state;
+}
+
+/* a waiting task starts, reads by a link and finishes; then pointer and mark of the link */
+static void run_and_read(struct parnusild_state *state, uint32_t task, uint32_t link, uint32_t value)
+{
+    uint32_t number = 77;
+    unsigned refusal = parnusild_state_start(state, task);
+    refusal |= parnusild_state_read(state, link, &number);
+    printf("task %u reads %u, mark %u;", (unsigned)task, (unsigned)number, state->control.mark[link]);
+    refusal |= parnusild_state_finish(state, task, value);
+    printf(" after its finish pointer %u, mark %u%s\n", state->control.pointer[link], state->control.mark[link],
+           refusal ? ", REFUSED" : "");
+}
+
+/* at their first arrival both tasks read a start value, and so does task 0 at its second, since task 1 has had one; then both arrive
+ * again, and each reads what the other had put out last before that arrival */
+static void start_values(void)
+{
+    struct parnusild_state state = both_ways();
+    printf("arrival of both %u\n", parnusild_state_arrival(&state, 0x3));
+    run_and_read(&state, 0, 0, 10);
+    run_and_read(&state, 1, 1, 11);
+    printf("arrival of task 0 %u\n", parnusild_state_arrival(&state, 0x1));
+    run_and_read(&state, 0, 0, 20);
+    printf("arrival of both %u\n", parnusild_state_arrival(&state, 0x3));
+    run_and_read(&state, 0, 0, 30);
+    run_and_read(&state, 1, 1, 31);
+}
+
+/* the same tasks: task 1 waits after its second arrival, task 0 is idle after one; both links have a mark */
+static struct parnusild_state task_1_waits(void)
+{
+    struct parnusild_state state = both_ways();
+    unsigned refusals = parnusild_state_arrival(&state, 0x3);
+    refusals |= run(&state, 0, 10);
+    refusals |= run(&state, 1, 11);
+    refusals |= parnusild_state_arrival(&state, 0x2);
+    printf("task 1 waits: %s,", refusals ? "REFUSED" : "accepted");
+    printf(" seen %u %u, mark %u %u\n", state.control.seen[0], state.control.seen[1], state.control.mark[0], state.control.mark[1]);
+    return state;
+}
+
+/* what soundness asks of arrivals, marks and start values, each broken by a change of that state; then a change that breaks nothing */
+static void unsound_by_one_change(void)
+{
+    const struct parnusild_state sound = task_1_waits();
+    struct parnusild_state state = sound;
+    state.control.seen[0] = 3;
+    refuse("seen 3", &state, PARNUSILD_START, 1);
+    state = sound;
+    state.control.seen[1] = 0;
+    refuse("waiting without arrivals", &state, PARNUSILD_START, 1);
+    state = sound;
+    state.control.mark[0] = 2;
+    refuse("mark 2", &state, PARNUSILD_START, 1);
+    state = sound;
+    state.control.pointer[0] = 0;
+    refuse("mark at an absent pointer", &state, PARNUSILD_START, 1);
+    state = sound;
+    state.control.mark[1] = 0;
+    refuse("no mark, writer with one arrival", &state, PARNUSILD_START, 1);
+    state = sound;
+    state.control.kind[1] = 0;
+    state.values.start_value[1] = 0;
+    refuse("mark at a direct link", &state, PARNUSILD_START, 1);
+    state.control.mark[1] = 0;
+    state.values.start_value[1] = 80;
+    refuse("start value at a direct link", &state, PARNUSILD_START, 1);
+    state = sound;
+    state.control.mark[0] = 0;
+    printf("no mark, writer with two arrivals: start %u\n", parnusild_state_start(&state, 1));
 }
 
 /* where a named field begins in what is lent and how long it is, in bytes of the control or numbers of the values */
@@ -267,17 +370,20 @@ static void layout(const struct parnusild_state *state)
     STANDS(control, phase);
     STANDS(control, newest);
     STANDS(control, previous);
+    STANDS(control, seen);
     STANDS(control, pointer);
+    STANDS(control, mark);
     STANDS(control, writer);
     STANDS(control, reader);
     STANDS(control, kind);
     printf("values: %zu numbers\n", sizeof state->values / sizeof(uint32_t));
     STANDS(values, defaults);
+    STANDS(values, start_value);
     STANDS(values, cells);
 }
 
 /* as many tasks and links as there can be, so that no slot of a field is left out: each task writes to the next one, then each to the one
- * before, direct where the reader is behind */
+ * before, direct where the reader is behind; a delayed one has a start value of its own */
 static void full_table(struct parnusild_table *full)
 {
     size_t i;
@@ -289,18 +395,12 @@ static void full_table(struct parnusild_table *full)
         full->writer[i] = i % PARNUSILD_TASKS;
         full->reader[i] = (i < PARNUSILD_TASKS ? i + 1 : i + PARNUSILD_TASKS - 1) % PARNUSILD_TASKS;
         full->kind[i] = full->reader[i] < full->writer[i];
+        full->start_value[i] = full->kind[i] ? 2000 + (uint32_t)i : 0;
     }
 }
 
-/* a waiting task starts and finishes; 0 where neither is refused */
-static unsigned run(struct parnusild_state *state, uint32_t task, uint32_t value)
-{
-    const unsigned refusal = parnusild_state_start(state, task);
-    return refusal | parnusild_state_finish(state, task, value);
-}
-
-/* a state in which no two fields hold the same: the odd tasks have run once; then all have arrived, tasks 0 and 1 have run, and task 2
- * runs */
+/* a state in which no two fields hold the same: the odd tasks have run once; then all but task 14 have arrived, tasks 0 and 1 have run,
+ * and task 2 runs */
 static void amid_a_round(struct parnusild_state *state)
 {
     struct parnusild_table full;
@@ -311,7 +411,7 @@ static void amid_a_round(struct parnusild_state *state)
     refusals |= parnusild_state_arrival(state, 0xaaaa);
     for (task = 1; task < PARNUSILD_TASKS; task += 2)
         refusals |= run(state, task, 100 + task);
-    refusals |= parnusild_state_arrival(state, 0xffff);
+    refusals |= parnusild_state_arrival(state, 0xbfff);
     refusals |= run(state, 0, 500);
     refusals |= run(state, 1, 501);
     refusals |= parnusild_state_start(state, 2);
@@ -345,11 +445,14 @@ static void fields_put(void)
     show_bytes("phase", state.control.phase, PARNUSILD_TASKS);
     show_bytes("newest", state.control.newest, PARNUSILD_TASKS);
     show_bytes("previous", state.control.previous, PARNUSILD_TASKS);
+    show_bytes("seen", state.control.seen, PARNUSILD_TASKS);
     show_bytes("pointer", state.control.pointer, PARNUSILD_LINKS);
+    show_bytes("mark", state.control.mark, PARNUSILD_LINKS);
     show_bytes("writer", state.control.writer, PARNUSILD_LINKS);
     show_bytes("reader", state.control.reader, PARNUSILD_LINKS);
     show_bytes("kind", state.control.kind, PARNUSILD_LINKS);
     show_numbers("defaults", state.values.defaults, PARNUSILD_TASKS);
+    show_numbers("start_value", state.values.start_value, PARNUSILD_LINKS);
     for (task = 0; task < PARNUSILD_TASKS; task++)
         show_numbers("cells", &state.values.cells[task * PARNUSILD_POSITIONS], PARNUSILD_POSITIONS);
 }
@@ -383,19 +486,51 @@ static void read_with(const char *what, struct parnusild_state state)
     printf("read, %s: refusal %u, number %u\n", what, refusal, (unsigned)number);
 }
 
-/* likewise, the reader's first two positions after its finish */
+/* likewise, the link's pointer and mark and the reader's first two positions after its finish */
 static void finish_with(const char *what, struct parnusild_state state)
 {
     unsigned refusal = parnusild_state_finish(&state, 2, 9);
-    printf("finish, %s: refusal %u,", what, refusal);
+    printf("finish, %s: refusal %u, pointer %u, mark %u,", what, refusal, state.control.pointer[0], state.control.mark[0]);
     show_numbers(" cells", &state.values.cells[2 * PARNUSILD_POSITIONS], 2);
 }
 
-/* likewise, the link's pointer after the arrival of its reader */
+/* likewise, the link's pointer and mark and what its reader has had of arrivals, after the reader's arrival */
 static void arrival_with(const char *what, struct parnusild_state state)
 {
     unsigned refusal = parnusild_state_arrival(&state, 0x4);
-    printf("arrival, %s: refusal %u, pointer %u\n", what, refusal, state.control.pointer[0]);
+    printf("arrival, %s: refusal %u, pointer %u, mark %u, seen %u\n", what, refusal, state.control.pointer[0],
+           state.control.mark[0], state.control.seen[2]);
+}
+
+/* makes the link a delayed one with start value 55, with or without a mark, and its writer one that has had so many arrivals */
+static void delay(struct parnusild_state *state, uint8_t mark, uint8_t seen)
+{
+    state->control.kind[0] = 1;
+    state->values.start_value[0] = 55;
+    state->control.mark[0] = mark;
+    state->control.seen[0] = seen;
+}
+
+/* what the library takes from the fields of a delayed link */
+static void delayed_fields_taken(void)
+{
+    struct parnusild_state state = reader_runs();
+    delay(&state, 1, 0);
+    read_with("start value 55, mark", state);
+    finish_with("start value 55, mark", state);
+    delay(&state, 1, 2);
+    read_with("start value 55, mark, writer seen 2", state);
+    delay(&state, 0, 2);
+    read_with("start value 55, no mark, writer seen 2", state);
+    state = one_link();
+    delay(&state, 0, 0);
+    arrival_with("delayed, writer seen 0", state);
+    delay(&state, 0, 1);
+    arrival_with("delayed, writer seen 1", state);
+    delay(&state, 0, 2);
+    arrival_with("delayed, writer seen 2", state);
+    state.control.seen[2] = 1;
+    arrival_with("delayed, reader seen 1", state);
 }
 
 /* what the library takes from each named field; no event looks at a default */
@@ -449,8 +584,11 @@ int main(int argc, char **argv)
     refused_tables();
     edge_sizes(size);
     writing(size);
+    start_values();
+    unsound_by_one_change();
     layout(&state);
     fields_put();
     fields_taken();
+    delayed_fields_taken();
     return 0;
 }

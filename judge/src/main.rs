@@ -25,12 +25,14 @@ fn lent(state: &State) -> parnusild::State {
             phase: state.phase,
             newest: state.newest,
             previous: state.previous,
+            seen: state.seen,
             pointer: state.pointer,
+            mark: state.mark,
             writer: state.writer,
             reader: state.reader,
             kind: state.kind,
         },
-        values: parnusild::Values { defaults: state.defaults, cells: state.cells },
+        values: parnusild::Values { defaults: state.defaults, start_value: state.start_value, cells: state.cells },
     }
 }
 
@@ -43,11 +45,14 @@ fn handed_back(state: &parnusild::State) -> State {
         phase: control.phase,
         newest: control.newest,
         previous: control.previous,
+        seen: control.seen,
         cells: values.cells,
         writer: control.writer,
         reader: control.reader,
         kind: control.kind,
+        start_value: values.start_value,
         pointer: control.pointer,
+        mark: control.mark,
     }
 }
 
@@ -59,6 +64,7 @@ fn asked(table: &LentTable) -> parnusild::Table {
         writer: table.writer,
         reader: table.reader,
         kind: table.kind,
+        start_value: table.start_value,
     }
 }
 

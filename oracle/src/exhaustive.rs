@@ -5,7 +5,7 @@
 //! Finish values are all different, and neither engine looks at a value, so
 //! two histories whose states differ only by a renaming of values have the
 //! same futures. States are therefore kept with values renamed in the order
-//! they first appear, and a state already seen is not entered again.
+//! they first appear, and a state already known is not entered again.
 
 use std::collections::HashSet;
 
@@ -13,7 +13,7 @@ use crate::engine::{Engine, FreshEngine, IDLE};
 use crate::format::{encode, Event, Link, Recording, Table, DELAYED, DIRECT};
 use crate::laws::sound_by_sentence;
 use crate::pointers::Pointers;
-use crate::subject::{OneAnswer, Subject};
+use crate::subject::{remembered_alike, OneAnswer, Subject};
 use crate::writing::{Handover, Written};
 use crate::zero_time::ZeroTime;
 
@@ -99,6 +99,9 @@ impl Pair {
         if !sound_by_sentence(&next.pointers.state) {
             return Err(format!("{:?} leads to a state that is not sound", event));
         }
+        if !remembered_alike(&next.pointers.state, &next.zero) {
+            return Err(format!("{:?} leads to arrivals or marks that are not the history's", event));
+        }
         if said != (OneAnswer { refusal: 0, value: number, state: next.pointers.state }) {
             return Err(format!("{:?}: {} says {:?}", event, subject.name(), said));
         }
@@ -125,6 +128,7 @@ impl Pair {
     fn note_task(&self, task: usize, names: &mut Names, key: &mut Vec<u8>) {
         let state = &self.pointers.state;
         key.extend_from_slice(&[state.phase[task], state.newest[task], state.previous[task]]);
+        key.extend_from_slice(&[state.seen[task], self.zero.arrivals_up_to_two(task)]);
         for position in 1..=state.positions(task) as u8 {
             key.push(names.name(state.cells[state.cell(task, position)]));
         }
@@ -134,7 +138,7 @@ impl Pair {
 
     fn note_link(&self, number: usize, names: &mut Names, key: &mut Vec<u8>) {
         let state = &self.pointers.state;
-        key.push(state.pointer[number]);
+        key.extend_from_slice(&[state.pointer[number], state.mark[number]]);
         let idle = self.zero.phase(usize::from(state.reader[number])) == IDLE;
         key.push(match self.zero.number_for(number) {
             _ if idle => 255,
@@ -146,16 +150,16 @@ impl Pair {
 
 #[derive(Default)]
 struct Names {
-    seen: Vec<u32>,
+    values: Vec<u32>,
 }
 
 impl Names {
     fn name(&mut self, value: u32) -> u8 {
-        match self.seen.iter().position(|known| *known == value) {
+        match self.values.iter().position(|known| *known == value) {
             Some(name) => name as u8,
             None => {
-                self.seen.push(value);
-                (self.seen.len() - 1) as u8
+                self.values.push(value);
+                (self.values.len() - 1) as u8
             }
         }
     }
@@ -167,7 +171,7 @@ struct Search<'a> {
     table: &'a Table,
     events: Vec<Event>,
     nodes: Vec<Node>,
-    seen: HashSet<Box<[u8]>>,
+    known: HashSet<Box<[u8]>>,
     transitions: usize,
     written: usize,
 }
@@ -175,11 +179,11 @@ struct Search<'a> {
 impl<'a> Search<'a> {
     fn new(subject: &'a dyn Subject, table: &'a Table) -> Search<'a> {
         let nodes = vec![Node { before: u32::MAX, event: 0 }];
-        let seen = HashSet::from([Pair::fresh(table).key(table)]);
-        Search { subject, table, events: alphabet(table), nodes, seen, transitions: 0, written: 0 }
+        let known = HashSet::from([Pair::fresh(table).key(table)]);
+        Search { subject, table, events: alphabet(table), nodes, known, transitions: 0, written: 0 }
     }
 
-    /// Gives every event to the state of a node; a state not seen before
+    /// Gives every event to the state of a node; a state not known before
     /// becomes a node.
     fn step(&mut self, number: usize) -> Result<(), String> {
         let pair = self.rebuild(number);
@@ -188,7 +192,7 @@ impl<'a> Search<'a> {
             let next = pair
                 .give(self.subject, pair.filled(event, self.table.defaults.len()))
                 .map_err(|fault| format!("{} after {:?}", fault, self.path(number)))?;
-            if next.map_or(false, |next| self.seen.insert(next.key(self.table))) {
+            if next.map_or(false, |next| self.known.insert(next.key(self.table))) {
                 self.nodes.push(Node { before: number as u32, event: code as u8 });
             }
         }
@@ -265,14 +269,21 @@ pub fn three_task_tables(links: usize) -> Vec<Table> {
 fn chosen_links(code: usize) -> Vec<Link> {
     let behind = [(1, 0, 1), (3, 0, 2), (9, 1, 2)].map(|(digit, writer, reader)| match code / 8 / digit % 3 {
         0 => None,
-        1 => Some(Link { writer, reader, kind: DIRECT }),
-        _ => Some(Link { writer, reader, kind: DELAYED }),
+        1 => Some(Link { writer, reader, kind: DIRECT, start_value: 0 }),
+        _ => Some(delayed(writer, reader)),
     });
     let ahead = [(0, 1, 0), (1, 2, 0), (2, 2, 1)].map(|(bit, writer, reader)| match code >> bit & 1 {
         0 => None,
-        _ => Some(Link { writer, reader, kind: DELAYED }),
+        _ => Some(delayed(writer, reader)),
     });
     behind.into_iter().chain(ahead).flatten().collect()
+}
+
+/// With a start value that is no default, that no finish writes, and that
+/// differs from link to link.
+fn delayed(writer: u8, reader: u8) -> Link {
+    let start_value = u32::from_be_bytes([0xE0, 0, writer, reader]);
+    Link { writer, reader, kind: DELAYED, start_value }
 }
 
 /// Defaults that no finish writes and that differ from task to task.

@@ -8,11 +8,11 @@ mod limits;
 mod short;
 mod split;
 
-use crate::format::{Event, Recording, Table};
+use crate::format::{Event, Link, Recording, Table, LINK_BYTES};
 use crate::prng::Prng;
 use crate::random_table::Size;
 use crate::schedule::random_recording;
-use crate::writing::{begun_events, Handover};
+use crate::writing::{begun_events, Handover, LINK_NUMBERS};
 use changed::{every_cut, every_number, every_room, small_or_example};
 use competing::{competing_events, competing_links, soup};
 pub use limits::limits;
@@ -29,10 +29,9 @@ pub struct Lent {
 impl Handover {
     pub fn of(recording: &Recording) -> Handover {
         let Recording { table: Table { defaults, links }, events } = recording;
-        let links = links.iter().flat_map(|link| [link.writer, link.reader, link.kind].map(u32::from)).collect();
         Handover {
             defaults: defaults.clone(),
-            links,
+            links: links.iter().flat_map(|link| link_numbers(*link)).collect(),
             events: events.iter().flat_map(|event| numbers(*event)).collect(),
         }
     }
@@ -44,7 +43,8 @@ impl Handover {
             4 => 6,
             _ => 2,
         });
-        1 + 4 * self.defaults.len() + 1 + self.links.len() + 2 + events.sum::<usize>()
+        let links = LINK_BYTES * self.links.chunks(LINK_NUMBERS).len();
+        1 + 1 + 4 * self.defaults.len() + 1 + links + 2 + events.sum::<usize>()
     }
 
     /// With as much room as the whole needs, and `more`, which may be less.
@@ -52,6 +52,11 @@ impl Handover {
         let room = (self.length() as isize + more).max(0) as usize;
         Lent { handover: self, room }
     }
+}
+
+fn link_numbers(link: Link) -> [u32; LINK_NUMBERS] {
+    let [writer, reader, kind] = [link.writer, link.reader, link.kind].map(u32::from);
+    [writer, reader, kind, link.start_value]
 }
 
 /// An event as numbers: its kind, then what the kind has.

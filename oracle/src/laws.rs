@@ -18,14 +18,16 @@ pub fn sound_by_sentence(state: &State) -> bool {
         && links <= 32
         && table_keeps_rules(state, tasks, links)
         && pointers_lie(state, tasks, links)
+        && arrivals_and_marks_hold(state, tasks, links)
 }
 
 fn table_keeps_rules(state: &State, tasks: usize, links: usize) -> bool {
     let pair = |l: usize| (usize::from(state.writer[l]), usize::from(state.reader[l]));
     let each = (0..links).all(|l| {
         let (writer, reader) = pair(l);
+        let may_be_direct = reader > writer && state.start_value[l] == 0;
         let kind = state.kind[l];
-        writer < tasks && reader < tasks && writer != reader && kind <= 1 && (reader > writer || kind == 1)
+        writer < tasks && reader < tasks && writer != reader && (kind == 1 || kind == 0 && may_be_direct)
     });
     let once = (0..links).all(|l| (0..links).all(|m| l == m || pair(l) != pair(m)));
     let eight = (0..tasks).all(|task| (0..links).filter(|l| pair(*l).0 == task && pair(*l).1 > task).count() <= 8);
@@ -46,29 +48,48 @@ fn pointers_lie(state: &State, tasks: usize, links: usize) -> bool {
         })
 }
 
+/// What request 2026-02 adds to the sentence.
+fn arrivals_and_marks_hold(state: &State, tasks: usize, links: usize) -> bool {
+    (0..tasks).all(|t| matches!((state.seen[t], state.phase[t]), (0, IDLE) | (1 | 2, _)))
+        && (0..links).all(|l| {
+            let may = state.pointer[l] > 0 && state.kind[l] == 1;
+            let must = may && [0, 1].contains(&state.seen[usize::from(state.writer[l])]);
+            match state.mark[l] {
+                0 => !must,
+                1 => may,
+                _ => false,
+            }
+        })
+}
+
 /// The first fault that the bytes alone show, without an engine: its number
 /// and place. All rules that a link breaks are gathered and the least given.
 fn fault_in_bytes(bytes: &[u8]) -> Option<(u8, usize)> {
-    let tasks = match bytes.first() {
+    match bytes.first() {
         None => return Some((1, 0)),
-        Some(tasks) if !(1..=16).contains(tasks) => return Some((2, 0)),
+        Some(253) => {}
+        Some(_) => return Some((2, 0)),
+    }
+    let tasks = match bytes.get(1) {
+        None => return Some((1, 1)),
+        Some(tasks) if !(1..=16).contains(tasks) => return Some((2, 1)),
         Some(tasks) => usize::from(*tasks),
     };
-    let links_at = 1 + 4 * tasks;
+    let links_at = 2 + 4 * tasks;
     if bytes.len() < links_at {
-        return Some((1, 1 + (bytes.len() - 1) / 4 * 4));
+        return Some((1, 2 + (bytes.len() - 2) / 4 * 4));
     }
     let links = match bytes.get(links_at) {
         None => return Some((1, links_at)),
         Some(links) if *links > 32 => return Some((3, links_at)),
         Some(links) => usize::from(*links),
     };
-    let events_at = links_at + 1 + 3 * links;
-    for place in (links_at + 1..events_at).step_by(3) {
-        if bytes.len() < place + 3 {
+    let events_at = links_at + 1 + 7 * links;
+    for place in (links_at + 1..events_at).step_by(7) {
+        if bytes.len() < place + 7 {
             return Some((1, place));
         }
-        if let Some(rule) = least_rule_broken(tasks, &bytes[links_at + 1..place], &bytes[place..place + 3]) {
+        if let Some(rule) = least_rule_broken(tasks, &bytes[links_at + 1..place], &bytes[place..place + 7]) {
             return Some((rule, place));
         }
     }
@@ -86,8 +107,9 @@ fn fault_in_bytes(bytes: &[u8]) -> Option<(u8, usize)> {
 
 fn least_rule_broken(tasks: usize, earlier: &[u8], link: &[u8]) -> Option<u8> {
     let (writer, reader, kind) = (link[0], link[1], link[2]);
-    let same_writer = || earlier.chunks(3).filter(|other| other[0] == writer);
+    let same_writer = || earlier.chunks(7).filter(|other| other[0] == writer);
     let rules = [
+        (20, kind == 0 && link[3..7].iter().any(|byte| *byte > 0)),
         (9, reader > writer && same_writer().filter(|other| other[1] > writer).count() == 8),
         (8, same_writer().any(|other| other[1] == reader)),
         (7, kind == 0 && reader < writer),
@@ -150,11 +172,12 @@ fn event_at(bytes: &[u8], place: usize) -> Option<Event> {
     })
 }
 
-/// At a refusal in the tasks, the links or a count: one task with default 0,
-/// all counts 0. Only such a refusal is given for 2 to 10.
+/// At a refusal at the first byte, in the tasks, the links or a count: one
+/// task with default 0, all counts 0. Only such a refusal is given for 2 to
+/// 10 and for 20.
 fn early_refusal_holds(answer: &Answer) -> bool {
     let nothing_done = answer.state == State::single() && answer.counts == Counts::default();
-    !(2..=10).contains(&answer.refusal) || nothing_done
+    !matches!(answer.refusal, 2..=10 | 20) || nothing_done
 }
 
 /// What every answer to a whole recording must keep; the name of the first
@@ -164,7 +187,7 @@ pub fn replay_law_broken(bytes: &[u8], lent: &[u32], answer: &Answer) -> Option<
     let accepted = answer.refusal == 0;
     let active = active_tasks(&answer.state);
     let laws: [(&'static str, bool); 11] = [
-        ("the number is one of 0 to 18", answer.refusal <= 18),
+        ("the number is one of 0 to 18, or 20", answer.refusal <= 18 || answer.refusal == 20),
         ("on acceptance the place is the length", !accepted || answer.place == bytes.len()),
         (
             "a refusal other than 1 has bytes at its place",
@@ -311,6 +334,7 @@ fn with_allowed_changes(before: &State, event: Event, after: &State) -> State {
                 allowed.phase[task] = after.phase[task];
                 allowed.newest[task] = after.newest[task];
                 allowed.previous[task] = after.previous[task];
+                allowed.seen[task] = after.seen[task];
             }
             allow_pointers(&mut allowed, set, after);
         }
@@ -327,10 +351,11 @@ fn with_allowed_changes(before: &State, event: Event, after: &State) -> State {
     allowed
 }
 
-/// The pointers of links whose reader is in the set.
+/// The pointers and marks of links whose reader is in the set.
 fn allow_pointers(allowed: &mut State, set: u16, after: &State) {
     for l in links_into(allowed, set) {
         allowed.pointer[l] = after.pointer[l];
+        allowed.mark[l] = after.mark[l];
     }
 }
 
@@ -346,7 +371,7 @@ fn accepted_holds(before: &State, event: Event, answer: &OneAnswer) -> bool {
         Event::Read(link) => {
             let link = usize::from(link);
             let cell = usize::from(before.writer[link]) * 10 + usize::from(before.pointer[link]) - 1;
-            answer.value == before.cells[cell]
+            answer.value == [before.cells[cell], before.start_value[link]][usize::from(before.mark[link])]
         }
         Event::Finish(task, value) => answer.value == 0 && finish_holds(before, usize::from(task), value, after),
     }
@@ -366,6 +391,7 @@ fn arrival_holds(before: &State, set: u16, after: &State) -> bool {
         let newest = after.newest[task];
         after.phase[task] == WAITING
             && after.previous[task] == before.newest[task]
+            && after.seen[task] == [1, 2, 2][usize::from(before.seen[task])]
             && newest >= 1
             && !taken(newest)
             && (1..newest).all(taken)
@@ -373,7 +399,9 @@ fn arrival_holds(before: &State, set: u16, after: &State) -> bool {
     let readers = links_into(before, set).into_iter().all(|l| {
         let writer = usize::from(before.writer[l]);
         let wanted = [after.newest[writer], after.previous[writer]][usize::from(before.kind[l])];
-        after.pointer[l] == wanted
+        // The writer's arrivals by now, its own in this set included.
+        let new = after.seen[writer] != 2;
+        after.pointer[l] == wanted && after.mark[l] == u8::from(before.kind[l] == 1 && new)
     });
     writers && readers
 }
@@ -383,7 +411,8 @@ fn finish_holds(before: &State, task: usize, value: u32, after: &State) -> bool 
         && after.cells[task * 10 + usize::from(before.newest[task]) - 1] == value
         && links_into(before, 1 << task).into_iter().all(|l| {
             let writer_ahead = usize::from(before.writer[l]) < task;
-            after.pointer[l] == if writer_ahead { 0 } else { before.pointer[l] }
+            let left = if writer_ahead { (0, 0) } else { (before.pointer[l], before.mark[l]) };
+            (after.pointer[l], after.mark[l]) == left
         })
 }
 
@@ -409,8 +438,12 @@ fn table_rule_broken(table: &LentTable) -> u8 {
     if table.links > 32 {
         return 3;
     }
-    let bytes: Vec<u8> = (0..table.links).flat_map(|l| [table.writer[l], table.reader[l], table.kind[l]]).collect();
-    let broken = |l: usize| least_rule_broken(table.tasks, &bytes[..3 * l], &bytes[3 * l..3 * l + 3]);
+    let record = |l: usize| {
+        let start = table.start_value[l].to_le_bytes();
+        [table.writer[l], table.reader[l], table.kind[l], start[0], start[1], start[2], start[3]]
+    };
+    let bytes: Vec<u8> = (0..table.links).flat_map(record).collect();
+    let broken = |l: usize| least_rule_broken(table.tasks, &bytes[..7 * l], &bytes[7 * l..7 * l + 7]);
     (0..table.links).find_map(broken).unwrap_or(0)
 }
 
@@ -419,13 +452,14 @@ fn table_rule_broken(table: &LentTable) -> u8 {
 fn fresh_holds(table: &LentTable, fresh: &State) -> bool {
     let default = |t: usize| if t < table.tasks { table.defaults[t] } else { 0 };
     let link = |l: usize| match l < table.links {
-        true => (table.writer[l], table.reader[l], table.kind[l]),
-        false => (0, 0, 0),
+        true => (table.writer[l], table.reader[l], table.kind[l], table.start_value[l]),
+        false => (0, 0, 0, 0),
     };
+    let made = |l: usize| (fresh.writer[l], fresh.reader[l], fresh.kind[l], fresh.start_value[l]);
     usize::from(fresh.tasks) == table.tasks
         && usize::from(fresh.links) == table.links
         && (0..16).all(|t| fresh.defaults[t] == default(t) && fresh.phase[t] == IDLE)
-        && (0..16).all(|t| fresh.newest[t] == 1 && fresh.previous[t] == 1)
+        && (0..16).all(|t| fresh.newest[t] == 1 && fresh.previous[t] == 1 && fresh.seen[t] == 0)
         && (0..160).all(|c| fresh.cells[c] == default(c / 10))
-        && (0..32).all(|l| (fresh.writer[l], fresh.reader[l], fresh.kind[l]) == link(l) && fresh.pointer[l] == 0)
+        && (0..32).all(|l| made(l) == link(l) && fresh.pointer[l] == 0 && fresh.mark[l] == 0)
 }

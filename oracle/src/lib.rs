@@ -1,7 +1,7 @@
 //! A second judge of the mailbox core and the recording reader, written from
-//! document 01 (the scope) alone; in `writing` one of the recording writer, and
-//! in `settings` one of the settings migrator, both from document 02 (the
-//! change requests).
+//! document 01 (the scope) and request 2026-02 (start values) alone; in
+//! `writing` one of the recording writer, and in `settings` one of the settings
+//! migrator, both from document 02 (the change requests).
 //!
 //! `format` reads recordings, `writing` writes them from numbers that are
 //! handed over, `pointers` and `zero_time` are two engines that know nothing of
@@ -27,7 +27,7 @@ pub mod prng;
 mod random_table;
 pub mod reach;
 mod run;
-mod saved;
+pub mod saved;
 mod schedule;
 pub mod settings;
 pub mod state;

@@ -3,7 +3,7 @@
 use crate::engine::IDLE;
 use crate::format::{Event, Link, Table, MOST_BEHIND, MOST_LINKS, MOST_TASKS};
 use crate::prng::Prng;
-use crate::random_table::{random_table, value, Size};
+use crate::random_table::{link_of_any_kind, random_table, value, Size};
 use crate::schedule::Schedule;
 
 /// An event that may break a rule; out-of-range numbers come up in each kind.
@@ -60,14 +60,17 @@ fn crowd(prng: &mut Prng, table: &mut Table) {
     table.links.retain(|link| link.writer != 0);
     let tasks = table.defaults.len();
     for reader in 1..tasks.min(MOST_BEHIND + 1) {
-        table.links.push(Link { writer: 0, reader: reader as u8, kind: prng.below(2) as u8 });
+        table.links.push(link_of_any_kind(prng, 0, reader as u8));
     }
     table.links.truncate(MOST_LINKS);
 }
 
 fn nasty_link(prng: &mut Prng, tasks: usize, earlier: &[Link]) -> Link {
     let task = |prng: &mut Prng| prng.pick(&[0, tasks - 1, tasks.saturating_sub(2), tasks, 16, 255]) as u8;
-    let mut link = Link { writer: task(prng), reader: task(prng), kind: prng.pick(&[0, 0, 1, 1, 2, 255]) };
+    let (writer, reader, kind) = (task(prng), task(prng), prng.pick(&[0, 0, 1, 1, 2, 255]));
+    // Whatever the kind; one in each of its bytes.
+    let start_value = prng.pick(&[0, 0, 0, 1, 1 << 8, 1 << 16, 1 << 24, u32::MAX]);
+    let mut link = Link { writer, reader, kind, start_value };
     if prng.chance(40) {
         link.writer = 0;
         link.reader = prng.below(tasks + 1) as u8;

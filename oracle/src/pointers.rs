@@ -1,8 +1,9 @@
-//! The protocol: newest, previous, pointers, and the lowest free position.
+//! The protocol: newest, previous, pointers, and the lowest free position; and
+//! the marks of delayed links that read their start value.
 
 use crate::engine::{Engine, FreshEngine, IDLE, RUNNING, WAITING};
-use crate::format::{Event, Table, DIRECT};
-use crate::state::{State, ABSENT};
+use crate::format::{Event, Table, DELAYED, DIRECT};
+use crate::state::{State, ABSENT, SEEN_TWO};
 
 #[derive(Clone)]
 pub struct Pointers {
@@ -93,7 +94,7 @@ pub fn tasks_of(set: u16, state: &State) -> impl Iterator<Item = usize> {
 /// with its writer must see the writer's new positions.
 fn arrival(state: &mut State, set: u16) {
     writers_part(state, set, lowest_free);
-    readers_part(state, set);
+    readers_part(state, set, settles_on_start);
     now_waiting(state, set);
 }
 
@@ -107,6 +108,16 @@ pub fn writers_part(state: &mut State, set: u16, search: impl Fn(&State, usize) 
     for task in tasks_of(set, state) {
         state.previous[task] = state.newest[task];
         state.newest[task] = search(state, task);
+        state.seen[task] = one_more(state.seen[task]);
+    }
+}
+
+/// No, one or more arrivals, after another one.
+pub fn one_more(seen: u8) -> u8 {
+    if seen == 0 {
+        1
+    } else {
+        SEEN_TWO
     }
 }
 
@@ -127,17 +138,27 @@ pub fn pointed_at(state: &State, task: usize, position: u8, counts: impl Fn(usiz
     })
 }
 
-pub fn readers_part(state: &mut State, set: u16) {
+/// Whether the reader of a link that arrives now settles on the start value:
+/// the writer's own arrival in the same set counts.
+pub fn settles_on_start(state: &State, link: usize) -> bool {
+    state.kind[link] == DELAYED && state.writer_new(link)
+}
+
+pub fn readers_part(state: &mut State, set: u16, settles: impl Fn(&State, usize) -> bool) {
     for number in 0..usize::from(state.links) {
         if set >> state.reader[number] & 1 == 1 {
             let writer = usize::from(state.writer[number]);
             state.pointer[number] =
                 if state.kind[number] == DIRECT { state.newest[writer] } else { state.previous[writer] };
+            state.mark[number] = u8::from(settles(state, number));
         }
     }
 }
 
 pub fn number_at(state: &State, link: usize) -> u32 {
+    if state.mark[link] != 0 {
+        return state.start_value[link];
+    }
     state.cells[state.cell(usize::from(state.writer[link]), state.pointer[link])]
 }
 
@@ -148,12 +169,14 @@ fn finish(state: &mut State, task: usize, value: u32) {
     state.phase[task] = IDLE;
 }
 
-/// Pointers from writers ahead of the task become absent, the others stay.
+/// Pointers from writers ahead of the task become absent, and their marks go
+/// with them; the others stay.
 pub fn free_pointers(state: &mut State, task: usize) {
     for number in 0..usize::from(state.links) {
         let link = state.link(number);
         if usize::from(link.reader) == task && link.reader_behind() {
             state.pointer[number] = ABSENT;
+            state.mark[number] = 0;
         }
     }
 }

@@ -28,12 +28,26 @@ fn random_links(prng: &mut Prng, tasks: usize, wanted: usize, writers: usize) ->
         let writer = if prng.chance(70) { prng.below(writers) } else { prng.below(tasks) };
         let reader = prng.below(tasks);
         let kind = if reader < writer { DELAYED } else { prng.below(2) as u8 };
-        let link = Link { writer: writer as u8, reader: reader as u8, kind };
+        let link = Link { writer: writer as u8, reader: reader as u8, kind, start_value: start_value(prng, kind) };
         if links.len() < wanted && link_refusal(tasks, &links, link) == 0 {
             links.push(link);
         }
     }
     links
+}
+
+pub fn link_of_any_kind(prng: &mut Prng, writer: u8, reader: u8) -> Link {
+    let kind = prng.below(2) as u8;
+    Link { writer, reader, kind, start_value: start_value(prng, kind) }
+}
+
+/// A start value that a link of the kind may have: a direct one has none.
+pub fn start_value(prng: &mut Prng, kind: u8) -> u32 {
+    if kind == DELAYED {
+        value(prng)
+    } else {
+        0
+    }
 }
 
 pub fn value(prng: &mut Prng) -> u32 {

@@ -1,22 +1,32 @@
 //! What the inputs reached, to show that they go deep, and what the default
 //! run has to reach.
 
+mod starts;
+
 use crate::engine::RUNNING;
 use crate::format::{MOST_BYTES, MOST_TASKS};
 use crate::state::{State, MOST_POSITIONS};
 use crate::subject::Answer;
+use starts::Starts;
 
 /// So many states a published check went through, of the two-task low-to-high
 /// scheme (paper 000, figure 14). That is another protocol: the number says
 /// what counts as many, and compares nothing else.
 const PUBLISHED_STATES: usize = 99_529;
 
-/// How often each number from 0 to 19 was given.
-pub type Refusals = [usize; 20];
+/// How often each number from 0 to 20 was given.
+pub type Refusals = [usize; 21];
+
+/// Which of them can be given where. Extra bytes (17) can't be handed over.
+const IN_RECORDINGS: [usize; 20] = [0, 1, 2, 3, 4, 5, 6, 7, 8, 9, 10, 11, 12, 13, 14, 15, 16, 17, 18, 20];
+const OF_ONE_EVENT: [usize; 7] = [0, 12, 13, 14, 15, 16, 19];
+const OF_TABLES: [usize; 10] = [0, 2, 3, 4, 5, 6, 7, 8, 9, 20];
+const OF_WRITING: [usize; 19] = [0, 1, 2, 3, 4, 5, 6, 7, 8, 9, 10, 11, 12, 13, 14, 15, 16, 18, 20];
 
 #[derive(Default)]
 pub struct Reach {
     pub refusals: Refusals,
+    pub starts: Starts,
     most_active: usize,
     most_running: usize,
     highest_position: u8,
@@ -25,7 +35,7 @@ pub struct Reach {
 
 impl Reach {
     pub fn note(&mut self, bytes: &[u8], answer: &Answer) {
-        self.refusals[usize::from(answer.refusal).min(19)] += 1;
+        self.refusals[usize::from(answer.refusal)] += 1;
         self.longest = self.longest.max(bytes.len());
         self.note_state(&answer.state);
     }
@@ -64,29 +74,34 @@ pub struct Reached {
 
 impl Reached {
     pub fn print(&self) {
-        print_refusals("refusals in recordings:", &self.recordings.refusals[..19]);
+        print_refusals("refusals in recordings:", &self.recordings.refusals, &IN_RECORDINGS);
         println!("{}, longest {} bytes", self.recordings.depth(), self.recordings.longest);
-        print_refusals("refusals of one event: ", &self.events.refusals);
+        print_refusals("refusals of one event: ", &self.events.refusals, &OF_ONE_EVENT);
         println!("{}", self.events.depth());
-        print_refusals("refusals of tables:    ", &self.tables[..10]);
-        print_refusals("refusals of writing:   ", &self.writing[..19]);
+        print_refusals("refusals of tables:    ", &self.tables, &OF_TABLES);
+        print_refusals("refusals of writing:   ", &self.writing, &OF_WRITING);
         println!("  recordings written again {}, refused alike {}", self.written_again, self.refused_alike);
+        println!("in possible recordings, and of one event:");
+        let both = self.recordings.starts.counts().into_iter().zip(self.events.starts.counts());
+        both.for_each(|((what, recordings), (_, events))| println!("  {:<60} {:>8} {:>8}", what, recordings, events));
     }
 
     /// What the default run must reach and this one did not.
     pub fn missing(&self) -> Vec<String> {
         let mut missing = Vec::new();
-        never_given(&mut missing, "in recordings", &self.recordings.refusals, (0..=18).collect());
-        never_given(&mut missing, "of one event", &self.events.refusals, vec![0, 12, 13, 14, 15, 16, 19]);
-        never_given(&mut missing, "of tables", &self.tables, vec![0, 2, 3, 4, 5, 6, 7, 8, 9]);
-        // Extra bytes (17) can't be handed over.
-        never_given(&mut missing, "of writing", &self.writing, (0..=16).chain([18]).collect());
+        never_given(&mut missing, "in recordings", &self.recordings.refusals, IN_RECORDINGS.to_vec());
+        never_given(&mut missing, "of one event", &self.events.refusals, OF_ONE_EVENT.to_vec());
+        never_given(&mut missing, "of tables", &self.tables, OF_TABLES.to_vec());
+        never_given(&mut missing, "of writing", &self.writing, OF_WRITING.to_vec());
         at_least(&mut missing, "recordings written again", self.written_again, 100_000);
         at_least(&mut missing, "recordings refused alike in writing", self.refused_alike, 100_000);
         for (reach, place) in [(&self.recordings, "recordings"), (&self.events, "saved states")] {
             at_least(&mut missing, &format!("tasks running at once in {}", place), reach.most_running, MOST_TASKS);
             let highest = usize::from(reach.highest_position);
             at_least(&mut missing, &format!("positions of a task in {}", place), highest, MOST_POSITIONS);
+            for (what, count) in reach.starts.counts() {
+                at_least(&mut missing, &format!("{} in {}", what, place), count, 100);
+            }
         }
         at_least(&mut missing, "bytes of a recording", self.recordings.longest, MOST_BYTES + 1);
         at_least(&mut missing, "states by every sequence of events", self.states, PUBLISHED_STATES);
@@ -94,9 +109,8 @@ impl Reached {
     }
 }
 
-fn print_refusals(title: &str, refusals: &[usize]) {
-    let told: Vec<String> =
-        refusals.iter().enumerate().map(|(number, count)| format!("{}:{}", number, count)).collect();
+fn print_refusals(title: &str, refusals: &Refusals, given: &[usize]) {
+    let told: Vec<String> = given.iter().map(|number| format!("{}:{}", number, refusals[*number])).collect();
     println!("{} {}", title, told.join(" "));
 }
 

@@ -13,7 +13,7 @@ mod tables;
 use crate::corpus::CORPORA;
 use crate::reach::Reached;
 use crate::subject::Subject;
-use crate::wrong::{in_handovers, in_saved_states, in_tables, Wrong, IN_RECORDINGS};
+use crate::wrong::{in_handovers, in_recordings, in_saved_states, in_tables, Wrong};
 use exposure::{subjects, Exposure};
 use options::quota;
 pub use options::{stream, Options};
@@ -43,7 +43,7 @@ impl<'a> Run<'a> {
             handovers: 0,
             differences: 0,
             first_difference: None,
-            wrong_replays: subjects(&IN_RECORDINGS),
+            wrong_replays: subjects(&in_recordings()),
             wrong_events: subjects(&in_saved_states()),
             wrong_tables: subjects(&in_tables()),
             wrong_writers: subjects(&in_handovers()),

@@ -5,9 +5,9 @@ use crate::format::{Event, Link, Table, DELAYED};
 use crate::nasty::nasty_event;
 use crate::pointers::Pointers;
 use crate::prng::Prng;
-use crate::random_table::{random_table, Size};
+use crate::random_table::{link_of_any_kind, random_table, Size};
 use crate::schedule::{random_events, Schedule};
-use crate::state::{State, MOST_CELLS, MOST_POSITIONS};
+use crate::state::{State, ABSENT, MOST_CELLS, MOST_POSITIONS};
 use crate::zero_time::ZeroTime;
 
 /// A state with the history that led to it, as the zero-time run knows it.
@@ -28,7 +28,9 @@ pub fn from_history(prng: &mut Prng) -> Saved {
 }
 
 fn from_history_of(prng: &mut Prng, table: Table) -> Saved {
-    let count = prng.below(120);
+    // After a few events many tasks have had fewer than two arrivals.
+    let most = prng.pick(&[12, 40, 120]);
+    let count = prng.below(most);
     let (events, schedule) = random_events(prng, &table, count);
     after(table, events, schedule)
 }
@@ -82,11 +84,14 @@ enum Field {
     Phase(usize),
     Newest(usize),
     Previous(usize),
+    Seen(usize),
     Cell(usize),
     Writer(usize),
     Reader(usize),
     Kind(usize),
+    StartValue(usize),
     Pointer(usize),
+    Mark(usize),
 }
 
 fn all_fields() -> impl Iterator<Item = Field> {
@@ -95,14 +100,15 @@ fn all_fields() -> impl Iterator<Item = Field> {
 }
 
 /// Of the positions the first and the last one.
-fn fields_of_task(t: usize) -> [Field; 6] {
+fn fields_of_task(t: usize) -> [Field; 7] {
     let first = t * MOST_POSITIONS;
     let last = first + MOST_POSITIONS - 1;
-    [Field::Default(t), Field::Phase(t), Field::Newest(t), Field::Previous(t), Field::Cell(first), Field::Cell(last)]
+    let cells = [Field::Cell(first), Field::Cell(last)];
+    [Field::Default(t), Field::Phase(t), Field::Newest(t), Field::Previous(t), Field::Seen(t), cells[0], cells[1]]
 }
 
-fn fields_of_link(l: usize) -> [Field; 4] {
-    [Field::Writer(l), Field::Reader(l), Field::Kind(l), Field::Pointer(l)]
+fn fields_of_link(l: usize) -> [Field; 6] {
+    [Field::Writer(l), Field::Reader(l), Field::Kind(l), Field::StartValue(l), Field::Pointer(l), Field::Mark(l)]
 }
 
 /// The values either side of each line a field has, for a state.
@@ -114,10 +120,11 @@ fn boundary_values(state: &State, field: Field) -> Vec<u32> {
         Field::Tasks => vec![0, 1, tasks - 1, tasks + 1, 15, 16, 17, 255],
         Field::Links => vec![0, 1, links.saturating_sub(1), links + 1, 31, 32, 33, 255],
         Field::Default(_) | Field::Cell(_) => vec![0, 1, u32::MAX],
-        Field::Phase(_) => vec![0, 1, 2, 3, 128, 255],
+        Field::Phase(_) | Field::Seen(_) => vec![0, 1, 2, 3, 128, 255],
         Field::Newest(task) | Field::Previous(task) => lines(state.positions(task) as u32),
         Field::Writer(_) | Field::Reader(_) => vec![0, tasks - 1, tasks, 15, 16, 31, 255],
-        Field::Kind(_) => vec![0, 1, 2, 255],
+        Field::Kind(_) | Field::Mark(_) => vec![0, 1, 2, 255],
+        Field::StartValue(_) => vec![0, 1, 1 << 8, 1 << 16, 1 << 31, u32::MAX],
         Field::Pointer(link) => lines(state.positions(usize::from(state.writer[link])) as u32),
     }
 }
@@ -131,11 +138,14 @@ fn set_field(state: &mut State, field: Field, value: u32) {
         Field::Phase(t) => state.phase[t] = byte,
         Field::Newest(t) => state.newest[t] = byte,
         Field::Previous(t) => state.previous[t] = byte,
+        Field::Seen(t) => state.seen[t] = byte,
         Field::Cell(c) => state.cells[c % MOST_CELLS] = value,
         Field::Writer(l) => state.writer[l] = byte,
         Field::Reader(l) => state.reader[l] = byte,
         Field::Kind(l) => state.kind[l] = byte,
+        Field::StartValue(l) => state.start_value[l] = value,
         Field::Pointer(l) => state.pointer[l] = byte,
+        Field::Mark(l) => state.mark[l] = byte,
     }
 }
 
@@ -157,14 +167,42 @@ fn with_field(state: &State, field: Field, value: u32) -> State {
     changed
 }
 
-/// Spoiled in many ways: now and then every field in turn, always some fields
-/// at once, and states that owe nothing to the sound one.
+/// Spoiled in many ways: now and then every field in turn, always arrivals and
+/// marks, some fields at once, and states that owe nothing to the sound one.
 pub fn spoiled(prng: &mut Prng, sound: &State) -> Vec<State> {
     let mut states = if prng.chance(2) { every_field_spoiled(prng, sound) } else { Vec::new() };
+    states.extend((0..4).map(|_| arrivals_or_mark_changed(prng, sound)));
     states.extend((0..20).map(|_| randomly_spoiled(prng, sound)));
     states.push(any_bytes(prng));
     states.push(crowded(prng));
     states
+}
+
+/// The arrivals of a task or the mark of a link, or its mark together with its
+/// writer's arrivals. Either side of two arrivals stays sound now and then,
+/// with the mark and without it.
+fn arrivals_or_mark_changed(prng: &mut Prng, sound: &State) -> State {
+    let mut state = *sound;
+    let task = prng.below(usize::from(sound.tasks));
+    let link = prng.below(usize::from(sound.links).max(1));
+    let writer = usize::from(sound.writer[link]);
+    match prng.below(4) {
+        0 => state.seen[task] = prng.pick(&[0, 0, 1, 2, 3, 255]),
+        1 => state.mark[link] = prng.pick(&[0, 1, 2, 255]),
+        2 => {
+            state.seen[writer] = prng.pick(&[0, 1, 2]);
+            state.mark[link] = prng.pick(&[0, 1]);
+        }
+        _ => {
+            // All marks of a writer that had two arrivals may stand, and none.
+            state.seen[writer] = 2;
+            let mark = prng.pick(&[0, 1]);
+            (0..usize::from(sound.links)).filter(|l| usize::from(sound.writer[*l]) == writer).for_each(|l| {
+                state.mark[l] = mark * u8::from(sound.pointer[l] != ABSENT && sound.kind[l] == DELAYED);
+            });
+        }
+    }
+    state
 }
 
 /// A few fields at once: small steps that often stay sound, so that accepted
@@ -183,12 +221,16 @@ fn randomly_spoiled(prng: &mut Prng, sound: &State) -> State {
             Field::Pointer(link),
             Field::Pointer(link),
             Field::Reader(link),
+            Field::Seen(task),
+            Field::Mark(link),
+            Field::StartValue(link),
             Field::Default(task),
             Field::Links,
         ]);
         let value = match field {
             Field::Links => u32::from(sound.links).saturating_sub(1),
             Field::Cell(_) | Field::Default(_) => prng.word(),
+            Field::StartValue(link) if sound.kind[link] == DELAYED => prng.word(),
             Field::Kind(_) => prng.below(2) as u32,
             _ => prng.pick(&boundary_values(sound, field)),
         };
@@ -201,9 +243,10 @@ fn randomly_spoiled(prng: &mut Prng, sound: &State) -> State {
 /// its ninth, or the count of links is taken past such a slot.
 fn crowded(prng: &mut Prng) -> State {
     let tasks = prng.between(10, 16) as u8;
-    let mut links: Vec<Link> = (1..=8).map(|reader| Link { writer: 0, reader, kind: prng.below(2) as u8 }).collect();
+    let mut links: Vec<Link> = (1..=8).map(|reader| link_of_any_kind(prng, 0, reader)).collect();
     let at = prng.below(9);
-    links.insert(at, Link { writer: 1, reader: prng.between(9, usize::from(tasks) - 1) as u8, kind: DELAYED });
+    let reader = prng.between(9, usize::from(tasks) - 1) as u8;
+    links.insert(at, Link { writer: 1, reader, kind: DELAYED, start_value: prng.word() });
     let defaults = (0..tasks).map(|_| prng.word()).collect();
     let mut state = from_history_of(prng, Table { defaults, links }).state;
     state.writer[at] = prng.pick(&[0, 0, 0, 2]);

@@ -1,13 +1,16 @@
 //! The state as it is lent, saved and handed back, and when it is sound.
 
 use crate::engine::{IDLE, RUNNING};
-use crate::format::{link_faults, link_refusal, Link, Table, MOST_LINKS, MOST_TASKS};
+use crate::format::{link_faults, link_refusal, Link, Table, DELAYED, MOST_LINKS, MOST_TASKS};
 
 /// Positions of one task: at most eight readers behind, and two.
 pub const MOST_POSITIONS: usize = 10;
 pub const MOST_CELLS: usize = MOST_TASKS * MOST_POSITIONS;
 /// The pointer's value when it is absent; positions are numbered from 1.
 pub const ABSENT: u8 = 0;
+/// What `seen` says of a task that has had two arrivals or more; below it
+/// stands how many there were.
+pub const SEEN_TWO: u8 = 2;
 
 /// Position p of task t is at `cells[t * 10 + p - 1]`. Every field may hold
 /// any byte when a state is lent; soundness says which of them are states.
@@ -19,15 +22,20 @@ pub struct State {
     pub phase: [u8; MOST_TASKS],
     pub newest: [u8; MOST_TASKS],
     pub previous: [u8; MOST_TASKS],
+    /// Whether the task has had no, one or more arrivals.
+    pub seen: [u8; MOST_TASKS],
     pub cells: [u32; MOST_CELLS],
     pub writer: [u8; MOST_LINKS],
     pub reader: [u8; MOST_LINKS],
     pub kind: [u8; MOST_LINKS],
+    pub start_value: [u32; MOST_LINKS],
     pub pointer: [u8; MOST_LINKS],
+    /// Whether the reader's last arrival settled on the link's start value.
+    pub mark: [u8; MOST_LINKS],
 }
 
 impl State {
-    /// The fresh state of a table that keeps rules 2 to 9.
+    /// The fresh state of a table that keeps rules 2 to 9 and 20.
     pub fn fresh(table: &Table) -> State {
         let mut state = State {
             tasks: table.defaults.len() as u8,
@@ -36,11 +44,14 @@ impl State {
             phase: [IDLE; MOST_TASKS],
             newest: [1; MOST_TASKS],
             previous: [1; MOST_TASKS],
+            seen: [0; MOST_TASKS],
             cells: [0; MOST_CELLS],
             writer: [0; MOST_LINKS],
             reader: [0; MOST_LINKS],
             kind: [0; MOST_LINKS],
+            start_value: [0; MOST_LINKS],
             pointer: [ABSENT; MOST_LINKS],
+            mark: [0; MOST_LINKS],
         };
         for (task, &default) in table.defaults.iter().enumerate().take(MOST_TASKS) {
             state.defaults[task] = default;
@@ -57,6 +68,7 @@ impl State {
             self.writer[number] = link.writer;
             self.reader[number] = link.reader;
             self.kind[number] = link.kind;
+            self.start_value[number] = link.start_value;
         }
     }
 
@@ -66,7 +78,7 @@ impl State {
     }
 
     pub fn link(&self, number: usize) -> Link {
-        Link::of([self.writer[number], self.reader[number], self.kind[number]])
+        Link::of([self.writer[number], self.reader[number], self.kind[number]], self.start_value[number])
     }
 
     /// N + 2 of a task. The links must name tasks of the table.
@@ -82,6 +94,11 @@ impl State {
         self.phase[task] != IDLE
     }
 
+    /// Whether a link's writer has had fewer than two arrivals.
+    pub fn writer_new(&self, link: usize) -> bool {
+        self.seen[usize::from(self.writer[link])] < SEEN_TWO
+    }
+
     pub fn cell(&self, task: usize, position: u8) -> usize {
         task * MOST_POSITIONS + usize::from(position) - 1
     }
@@ -89,29 +106,35 @@ impl State {
 
 /// The parts of "a state is sound when"; each can be the only one broken.
 #[derive(Clone, Copy, PartialEq, Eq, Debug)]
-#[repr(u8)]
 pub enum Clause {
-    /// Rule 2 of the table.
-    Tasks = 2,
-    /// Rule 3.
-    Links = 3,
-    /// Rules 4 to 9.
-    NamesNoTask = 4,
-    WriterIsReader = 5,
-    Kind = 6,
-    DirectAhead = 7,
-    SecondToReader = 8,
-    NinthBehind = 9,
+    // The rules of a table.
+    Tasks,
+    Links,
+    NamesNoTask,
+    WriterIsReader,
+    Kind,
+    DirectAhead,
+    SecondToReader,
+    NinthBehind,
+    DirectWithStart,
     /// A phase that is none of the three.
-    Phase = 10,
-    Newest = 11,
-    Previous = 12,
-    Pointer = 13,
-    ActiveReaderWithout = 14,
-    IdleReaderWith = 15,
+    Phase,
+    Newest,
+    Previous,
+    Pointer,
+    ActiveReaderWithout,
+    IdleReaderWith,
+    /// Arrivals that are none of the three.
+    Seen,
+    ActiveWithoutArrivals,
+    /// A mark that is neither 0 nor 1.
+    Mark,
+    MarkWithoutPointer,
+    MarkAtDirect,
+    MarkMissing,
 }
 
-pub const CLAUSES: [Clause; 14] = [
+pub const CLAUSES: [Clause; 21] = [
     Clause::Tasks,
     Clause::Links,
     Clause::NamesNoTask,
@@ -120,13 +143,38 @@ pub const CLAUSES: [Clause; 14] = [
     Clause::DirectAhead,
     Clause::SecondToReader,
     Clause::NinthBehind,
+    Clause::DirectWithStart,
     Clause::Phase,
     Clause::Newest,
     Clause::Previous,
     Clause::Pointer,
     Clause::ActiveReaderWithout,
     Clause::IdleReaderWith,
+    Clause::Seen,
+    Clause::ActiveWithoutArrivals,
+    Clause::Mark,
+    Clause::MarkWithoutPointer,
+    Clause::MarkAtDirect,
+    Clause::MarkMissing,
 ];
+
+impl Clause {
+    /// The refusal of a table that breaks this, where it is a rule of tables.
+    pub fn table_refusal(self) -> Option<u8> {
+        match self {
+            Clause::Tasks => Some(2),
+            Clause::Links => Some(3),
+            Clause::NamesNoTask => Some(4),
+            Clause::WriterIsReader => Some(5),
+            Clause::Kind => Some(6),
+            Clause::DirectAhead => Some(7),
+            Clause::SecondToReader => Some(8),
+            Clause::NinthBehind => Some(9),
+            Clause::DirectWithStart => Some(20),
+            _ => None,
+        }
+    }
+}
 
 /// The clauses a state breaks. When the table is broken the rest has no
 /// meaning (there is no N), so the table's clause then stands alone.
@@ -152,7 +200,7 @@ fn table_clause(state: &State) -> Option<Clause> {
     }
     let links: Vec<Link> = (0..links).map(|number| state.link(number)).collect();
     let refusal = link_faults(tasks, &links, link_refusal).next()?;
-    CLAUSES.iter().copied().find(|clause| *clause as u8 == refusal)
+    CLAUSES.iter().copied().find(|clause| clause.table_refusal() == Some(refusal))
 }
 
 fn broken_beyond_table(state: &State) -> Vec<Clause> {
@@ -174,6 +222,8 @@ fn broken_by_task(state: &State, task: usize) -> impl Iterator<Item = Clause> {
         (Clause::Phase, state.phase[task] > RUNNING),
         (Clause::Newest, !inside(state.newest[task])),
         (Clause::Previous, !inside(state.previous[task])),
+        (Clause::Seen, state.seen[task] > SEEN_TWO),
+        (Clause::ActiveWithoutArrivals, state.seen[task] == 0 && state.active(task)),
     ])
 }
 
@@ -181,13 +231,18 @@ fn broken_by_link(state: &State, number: usize) -> impl Iterator<Item = Clause> 
     let link = state.link(number);
     let pointer = state.pointer[number];
     let active = state.active(usize::from(link.reader));
+    let (present, delayed, marked) = (pointer != ABSENT, link.kind == DELAYED, state.mark[number] != 0);
     those_broken([
         (Clause::Pointer, usize::from(pointer) > state.positions(usize::from(link.writer))),
-        (Clause::ActiveReaderWithout, active && pointer == ABSENT),
-        (Clause::IdleReaderWith, !active && link.reader_behind() && pointer != ABSENT),
+        (Clause::ActiveReaderWithout, active && !present),
+        (Clause::IdleReaderWith, !active && link.reader_behind() && present),
+        (Clause::Mark, state.mark[number] > 1),
+        (Clause::MarkWithoutPointer, marked && !present),
+        (Clause::MarkAtDirect, marked && !delayed),
+        (Clause::MarkMissing, !marked && present && delayed && state.writer_new(number)),
     ])
 }
 
-fn those_broken(clauses: [(Clause, bool); 3]) -> impl Iterator<Item = Clause> {
+fn those_broken<const PARTS: usize>(clauses: [(Clause, bool); PARTS]) -> impl Iterator<Item = Clause> {
     clauses.into_iter().filter(|(_, broken)| *broken).map(|(clause, _)| clause)
 }

@@ -1,6 +1,6 @@
 //! What gets judged: whole replays, the fresh state of a table, one event on
-//! a saved state, recordings written. The oracle and the wrong subjects stand behind this trait;
-//! the crate `judge` links the proved library behind it.
+//! a saved state, recordings written. The oracle and the wrong subjects stand
+//! behind this trait; the crate `judge` links the proved library behind it.
 
 use crate::engine::{Engine, FreshEngine};
 use crate::format::{replay, Counts, Event, Reading};
@@ -22,7 +22,7 @@ pub struct Answer<'a> {
     pub rest: &'a [u8],
 }
 
-/// The answer to a table: 0 and its fresh state, or the refusal among 2 to 9
+/// The answer to a table: 0 and its fresh state, or the refusal, 2 to 9 or 20,
 /// and the single task's.
 #[derive(Clone, PartialEq, Eq, Debug)]
 pub struct Made {
@@ -44,7 +44,7 @@ pub trait Subject {
     /// Reads a whole recording with a list lent as it stands.
     fn replay<'a>(&self, bytes: &'a [u8], lent: &[u32]) -> Answer<'a>;
 
-    /// What a table makes that may break rules 2 to 9.
+    /// What a table makes that may break rules 2 to 9 and 20.
     fn fresh(&self, table: &LentTable) -> Made;
 
     /// One event given to a state that may hold any bytes.
@@ -119,7 +119,8 @@ pub fn zero_time_reading<'a>(bytes: &'a [u8], lent: &[u32]) -> Reading<'a, ZeroT
 }
 
 /// What a whole answer and a zero-time reading disagree on, if anything:
-/// numbers, refusal, place, counts, rest, and the phases.
+/// numbers, refusal, place, counts, rest, the phases, and what is remembered
+/// of arrivals.
 pub fn disagreement(answer: &Answer, zero: &Reading<'_, ZeroTime>) -> Option<&'static str> {
     if answer.refusal != zero.refusal {
         return Some("refusal");
@@ -140,6 +141,16 @@ pub fn disagreement(answer: &Answer, zero: &Reading<'_, ZeroTime>) -> Option<&'s
         if (0..usize::from(answer.state.tasks)).any(|task| answer.state.phase[task] != engine.phase(task)) {
             return Some("phases");
         }
+        if !remembered_alike(&answer.state, engine) {
+            return Some("arrivals and marks");
+        }
     }
     None
+}
+
+/// Whether a state's arrivals and marks are those of the history that led to
+/// it.
+pub fn remembered_alike(state: &State, zero: &ZeroTime) -> bool {
+    (0..usize::from(state.tasks)).all(|task| state.seen[task] == zero.arrivals_up_to_two(task))
+        && (0..usize::from(state.links)).all(|link| state.mark[link] == u8::from(zero.marked(link)))
 }

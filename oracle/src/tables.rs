@@ -17,10 +17,12 @@ pub struct LentTable {
     pub writer: [u8; MOST_LINKS],
     pub reader: [u8; MOST_LINKS],
     pub kind: [u8; MOST_LINKS],
+    pub start_value: [u32; MOST_LINKS],
 }
 
 impl LentTable {
-    /// A table with marks past its counts, so that a slot looked at shows.
+    /// A table with the slots past its counts filled, so that one looked at
+    /// shows.
     /// What there is no slot for is counted and left out.
     pub fn of(table: &Table) -> LentTable {
         let mut lent = LentTable {
@@ -30,6 +32,7 @@ impl LentTable {
             writer: [0xA5; MOST_LINKS],
             reader: [0xA5; MOST_LINKS],
             kind: [0xA5; MOST_LINKS],
+            start_value: [0xA5A5_A5A5; MOST_LINKS],
         };
         let slots = lent.tasks.min(MOST_TASKS);
         lent.defaults[..slots].copy_from_slice(&table.defaults[..slots]);
@@ -40,13 +43,14 @@ impl LentTable {
     }
 
     fn link(&self, number: usize) -> Link {
-        Link::of([self.writer[number], self.reader[number], self.kind[number]])
+        Link::of([self.writer[number], self.reader[number], self.kind[number]], self.start_value[number])
     }
 
     fn set_link(&mut self, number: usize, link: Link) {
         self.writer[number] = link.writer;
         self.reader[number] = link.reader;
         self.kind[number] = link.kind;
+        self.start_value[number] = link.start_value;
     }
 
     fn with_counts(&self, tasks: usize, links: usize) -> LentTable {
@@ -59,8 +63,8 @@ impl LentTable {
         changed
     }
 
-    /// The table, or the first of 2 to 9 that it breaks: the counts, then link
-    /// by link.
+    /// The table, or the first of 2 to 9 and 20 that it breaks: the counts,
+    /// then link by link.
     pub fn judged(&self) -> Result<Table, u8> {
         if self.tasks == 0 || self.tasks > MOST_TASKS {
             return Err(2);
@@ -73,16 +77,21 @@ impl LentTable {
         fault.map_or(Ok(table), Err)
     }
 
-    /// What a station would hand over that has this table and no events, with
-    /// marks where there is no slot; none for counts that no slice has.
+    /// What a station would hand over that has this table and no events, filled
+    /// alike where there is no slot; none for counts that no slice has.
     pub fn handed_over(&self) -> Option<Handover> {
         if self.tasks > 1_000 || self.links > 1_000 {
             return None;
         }
-        let defaults = (0..self.tasks).map(|task| self.defaults.get(task).copied().unwrap_or(0xA5A5_A5A5)).collect();
-        let mark = |slots: &[u8; MOST_LINKS], number: usize| u32::from(slots.get(number).copied().unwrap_or(0xA5));
-        let link = |number: usize| [&self.writer, &self.reader, &self.kind].map(|slots| mark(slots, number));
-        Some(Handover { defaults, links: (0..self.links).flat_map(link).collect(), events: Vec::new() })
+        let word = |slots: &[u32], number: usize| slots.get(number).copied().unwrap_or(0xA5A5_A5A5);
+        let byte = |slots: &[u8], number: usize| u32::from(slots.get(number).copied().unwrap_or(0xA5));
+        let link =
+            |l: usize| [byte(&self.writer, l), byte(&self.reader, l), byte(&self.kind, l), word(&self.start_value, l)];
+        Some(Handover {
+            defaults: (0..self.tasks).map(|task| word(&self.defaults, task)).collect(),
+            links: (0..self.links).flat_map(link).collect(),
+            events: Vec::new(),
+        })
     }
 
     /// The table of counts within the limits, whatever its links say.
@@ -98,7 +107,7 @@ pub fn batch(number: usize, prng: &mut Prng) -> Vec<LentTable> {
     let size = prng.pick(&[Size::Small, Size::Any, Size::Limit]);
     match number % 400 {
         200 => every_count(&LentTable::of(&random_table(prng, size))),
-        201 => every_link_byte(&LentTable::of(&random_table(prng, size))),
+        201 => every_link_field(&LentTable::of(&random_table(prng, size))),
         n if n % 4 == 0 => vec![LentTable::of(&random_table(prng, size))],
         _ => vec![LentTable::of(&competing_table(prng))],
     }
@@ -121,8 +130,9 @@ fn every_count(lawful: &LentTable) -> Vec<LentTable> {
 }
 
 /// Each byte of each link in turn set to every task, to some past the table,
-/// and to every kind and some that are none.
-fn every_link_byte(lawful: &LentTable) -> Vec<LentTable> {
+/// and to every kind and some that are none; and its start value to none, and
+/// to one in each of its bytes.
+fn every_link_field(lawful: &LentTable) -> Vec<LentTable> {
     let tasks = || (0..=lawful.tasks as u8).chain([16, 127, 255]);
     let mut tables = Vec::new();
     for number in 0..lawful.links {
@@ -130,6 +140,10 @@ fn every_link_byte(lawful: &LentTable) -> Vec<LentTable> {
         tables.extend(tasks().map(|writer| lawful.with_link(number, Link { writer, ..link })));
         tables.extend(tasks().map(|reader| lawful.with_link(number, Link { reader, ..link })));
         tables.extend([0, 1, 2, 3, 128, 255].map(|kind| lawful.with_link(number, Link { kind, ..link })));
+        tables.extend(
+            [0, 1, 1 << 8, 1 << 16, 1 << 31, u32::MAX]
+                .map(|start_value| lawful.with_link(number, Link { start_value, ..link })),
+        );
     }
     tables
 }

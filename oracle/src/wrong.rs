@@ -2,19 +2,22 @@
 
 mod engine;
 mod flaws;
+mod marks;
 mod reader;
+mod soundness;
 mod tables;
 mod writer;
 
 use crate::engine::Engine;
 use crate::format::{replay, Event, Table};
-use crate::state::{broken_clauses, State};
+use crate::state::State;
 use crate::subject::{answer_of, one_event_with, Answer, Made, OneAnswer, Oracle, Subject};
 use crate::tables::LentTable;
 use crate::writing::{Handover, Written};
 use engine::WrongEngine;
-pub use flaws::{in_handovers, in_saved_states, in_tables, Flaw, IN_RECORDINGS};
-use reader::distorted;
+pub use flaws::{in_handovers, in_recordings, in_saved_states, in_tables, Flaw};
+use reader::{distorted, with_other_first_byte};
+use soundness::{too_mild, too_strict};
 use tables::distorted_table;
 use writer::wrong_write;
 
@@ -28,7 +31,10 @@ impl Subject for Wrong {
     }
 
     fn replay<'a>(&self, bytes: &'a [u8], lent: &[u32]) -> Answer<'a> {
-        let make = |table: &Table| WrongEngine::new(self.flaw, State::fresh(table));
+        if let Some(answer) = with_other_first_byte(self.flaw, bytes, lent) {
+            return answer;
+        }
+        let make = |table: &Table| WrongEngine::new(self.flaw, wrong_fresh(self.flaw, table));
         let answer = answer_of(replay(bytes, lent, make), |engine| engine.state);
         distorted(self.flaw, bytes, answer)
     }
@@ -39,9 +45,8 @@ impl Subject for Wrong {
 
     fn one_event(&self, state: &State, event: Event) -> OneAnswer {
         match self.flaw {
-            Flaw::Unsound(clause) if broken_clauses(state) == [clause] => {
-                OneAnswer { refusal: 0, value: 0, state: *state }
-            }
+            flaw if too_mild(flaw, state) => OneAnswer { refusal: 0, value: 0, state: *state },
+            flaw if too_strict(flaw, state) => OneAnswer { refusal: 19, value: 0, state: *state },
             Flaw::TwelveBeforeNineteen if event == Event::Arrival(0) => {
                 OneAnswer { refusal: 12, value: 0, state: *state }
             }
@@ -61,4 +66,13 @@ impl Subject for Wrong {
     fn write(&self, handover: &Handover, buffer: &mut [u8]) -> Written {
         wrong_write(self.flaw, handover, buffer)
     }
+}
+
+/// The fresh state of a table as a wrong reader takes it from the bytes.
+fn wrong_fresh(flaw: Flaw, table: &Table) -> State {
+    let mut state = State::fresh(table);
+    if flaw == Flaw::StartHighByteFirst {
+        state.start_value = state.start_value.map(u32::swap_bytes);
+    }
+    state
 }

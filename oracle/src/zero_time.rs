@@ -2,7 +2,8 @@
 //!
 //! A task's n-th arrival produces its n-th output at once. A direct read gets
 //! the output of the writer's last arrival up to and including the reader's
-//! own, a delayed one the output before that; the default where there is none.
+//! own, the writer's default where there is none; a delayed one the output
+//! before that, the link's start value where there is none.
 
 use crate::engine::{Engine, FreshEngine, IDLE, RUNNING, WAITING};
 use crate::format::{Event, Table, DIRECT};
@@ -127,12 +128,30 @@ impl ZeroTime {
     /// What the reader of a link gets by its own last arrival; `None` while
     /// that output is still to come.
     pub fn number_for(&self, link: usize) -> Option<u32> {
+        let up_to_own = self.up_to_readers(link);
+        let link = self.table.links[link];
+        match (link.kind, up_to_own) {
+            (DIRECT, _) => self.output(usize::from(link.writer), up_to_own),
+            (_, 0 | 1) => Some(link.start_value),
+            (_, _) => self.output(usize::from(link.writer), up_to_own - 1),
+        }
+    }
+
+    /// The writer's arrivals up to and including the last one of the reader.
+    fn up_to_readers(&self, link: usize) -> usize {
         let link = self.table.links[link];
         let own = self.lives[usize::from(link.reader)].arrivals.last().copied().unwrap_or(0);
-        let writer = &self.lives[usize::from(link.writer)];
-        let up_to_own = writer.arrivals.partition_point(|instant| *instant <= own);
-        let wanted = if link.kind == DIRECT { up_to_own } else { up_to_own.saturating_sub(1) };
-        self.output(usize::from(link.writer), wanted)
+        self.lives[usize::from(link.writer)].arrivals.partition_point(|instant| *instant <= own)
+    }
+
+    /// Whether a delayed link's reader has settled on the start value, at an
+    /// arrival that is not yet over for the link: a finish ends it only where
+    /// the reader is behind.
+    pub fn marked(&self, number: usize) -> bool {
+        let link = self.table.links[number];
+        let reader = &self.lives[usize::from(link.reader)];
+        let lasts = reader.active() || !reader.arrivals.is_empty() && !link.reader_behind();
+        link.kind != DIRECT && lasts && self.up_to_readers(number) < 2
     }
 
     /// The n-th output of a task; output 0 is the default.
@@ -143,12 +162,17 @@ impl ZeroTime {
         }
     }
 
-    /// The last two outputs of a task. With the phases and `number_for` the
-    /// links of active readers, nothing else can matter to a later read.
+    /// The last two outputs of a task. With its arrivals up to two, the phases,
+    /// and `number_for` the links of active readers, nothing else can matter to
+    /// a later read.
     pub fn last_outputs(&self, task: usize) -> [u32; 2] {
         let last = self.lives[task].outputs.len();
         let at = |number| self.output(task, number).unwrap_or(self.table.defaults[task]);
         [at(last), at(last.saturating_sub(1))]
+    }
+
+    pub fn arrivals_up_to_two(&self, task: usize) -> u8 {
+        self.lives[task].arrivals.len().min(2) as u8
     }
 
     pub fn finishes(&self, task: usize) -> usize {

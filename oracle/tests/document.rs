@@ -1,4 +1,4 @@
-//! The document's own examples.
+//! The document's own examples, with the bytes and places of request 2026-02.
 
 use oracle::engine::{Engine, FreshEngine};
 use oracle::example::long_example;
@@ -23,7 +23,7 @@ fn verdict(bytes: &[u8]) -> (u8, usize) {
 }
 
 fn link(writer: u8, reader: u8, kind: u8) -> Link {
-    Link { writer, reader, kind }
+    Link { writer, reader, kind, start_value: 0 }
 }
 
 fn recording(tasks: usize, links: &[Link], events: &[Event]) -> Recording {
@@ -42,26 +42,29 @@ fn example_then(kept: usize, then: &[Event]) -> (u8, usize) {
     verdict(&encode(&changed))
 }
 
+/// Where the first event of the long example stands.
+const EXAMPLE_EVENTS: usize = 2 + 16 + 1 + 21 + 2;
+
 const NINE_LINES: &str =
-    "read 0 100\nread 1 101\nread 0 101\nread 1 102\nread 0 102\nread 2 101\nread 0 102\nread 2 103\naccepted 35\n";
+    "read 0 90\nread 1 101\nread 0 101\nread 1 102\nread 0 102\nread 2 101\nread 0 102\nread 2 103\naccepted 35\n";
 
 #[test]
 fn the_long_example_prints_its_nine_lines() {
     let bytes = encode(&long_example());
     let answer = read(&bytes, 10_000);
-    assert_eq!((answer.refusal, answer.place, answer.rest), (0, 148, &[][..]));
+    assert_eq!((answer.refusal, answer.place, answer.rest), (0, 161, &[][..]));
     assert_eq!(answer.counts, Counts { arrivals: 11, starts: 11, reads: 8, finishes: 11 });
-    assert_eq!(answer.list[..8], [100, 101, 101, 102, 102, 101, 102, 103]);
+    assert_eq!(answer.list[..8], [90, 101, 101, 102, 102, 101, 102, 103]);
     assert_eq!(answer.list[8], 7_000_008);
     assert_eq!(printout(&bytes, answer.refusal, answer.place, answer.counts, &answer.list), NINE_LINES);
 }
 
 #[test]
 #[rustfmt::skip]
-fn the_long_example_has_35_events_in_148_bytes() {
+fn the_long_example_has_35_events_in_161_bytes() {
     let expected: &[u8] = &[
-        4, 0, 0, 0, 0, 100, 0, 0, 0, 0, 0, 0, 0, 0, 0, 0, 0, // tasks
-        3, 1, 0, 1, 1, 2, 0, 1, 3, 0, // links
+        253, 4, 0, 0, 0, 0, 100, 0, 0, 0, 0, 0, 0, 0, 0, 0, 0, 0, // tasks
+        3, 1, 0, 1, 90, 0, 0, 0, 1, 2, 0, 0, 0, 0, 0, 1, 3, 0, 0, 0, 0, 0, // links
         35, 0, // E
         1, 15, 0, 2, 0, 3, 0, 4, 0, 0, 0, 0, 0, 2, 1, 4, 1, 101, 0, 0, 0, // A{0,1,2,3} S0 R0 F0 S1 F1=101
         2, 2, 3, 1, 4, 2, 0, 0, 0, 0, 2, 3, // S2 R1 F2 S3
@@ -73,7 +76,7 @@ fn the_long_example_has_35_events_in_148_bytes() {
     ];
     let bytes = encode(&long_example());
     assert_eq!(long_example().events.len(), 35);
-    assert_eq!(bytes.len(), 148);
+    assert_eq!(bytes.len(), 161);
     assert_eq!(bytes, expected);
 }
 
@@ -107,20 +110,20 @@ fn empty_input_is_1_at_0() {
 }
 
 #[test]
-fn the_smallest_recording_is_accepted_and_one_byte_more_is_17_at_8() {
-    let mut bytes = vec![1, 0, 0, 0, 0, 0, 0, 0];
-    assert_eq!(verdict(&bytes), (0, 8));
+fn the_smallest_recording_is_accepted_and_one_byte_more_is_17_at_9() {
+    let mut bytes = vec![253, 1, 0, 0, 0, 0, 0, 0, 0];
+    assert_eq!(verdict(&bytes), (0, 9));
     bytes.push(0);
-    assert_eq!(verdict(&bytes), (17, 8));
+    assert_eq!(verdict(&bytes), (17, 9));
     assert_eq!(read(&bytes, 0).rest, [0]);
 }
 
 #[test]
-fn t_16_passes_and_17_is_2_at_0() {
-    assert_eq!(verdict_of(16, &[], &[]), (0, 1 + 64 + 1 + 2));
-    assert_eq!(verdict_of(17, &[], &[]), (2, 0));
-    assert_eq!(verdict(&[17]), (2, 0));
-    assert_eq!(verdict(&[0]), (2, 0));
+fn t_16_passes_and_17_is_2_at_1() {
+    assert_eq!(verdict_of(16, &[], &[]), (0, 2 + 64 + 1 + 2));
+    assert_eq!(verdict_of(17, &[], &[]), (2, 1));
+    assert_eq!(verdict(&[253, 17]), (2, 1));
+    assert_eq!(verdict(&[253, 0]), (2, 1));
 }
 
 fn many_links(count: usize) -> Vec<Link> {
@@ -129,8 +132,8 @@ fn many_links(count: usize) -> Vec<Link> {
 
 #[test]
 fn l_32_passes_and_33_is_3() {
-    assert_eq!(verdict_of(16, &many_links(32), &[]), (0, 1 + 64 + 1 + 96 + 2));
-    assert_eq!(verdict_of(16, &many_links(33), &[]), (3, 65));
+    assert_eq!(verdict_of(16, &many_links(32), &[]), (0, 2 + 64 + 1 + 224 + 2));
+    assert_eq!(verdict_of(16, &many_links(33), &[]), (3, 66));
 }
 
 #[test]
@@ -142,7 +145,7 @@ fn e_10_000_passes_and_10_001_is_10() {
     let links = [link(0, 1, 0)];
     let bytes = encode(&recording(2, &links, &events[..10_000]));
     assert_eq!(verdict(&bytes), (0, bytes.len()));
-    assert_eq!(verdict_of(2, &links, &events), (10, 1 + 8 + 1 + 3));
+    assert_eq!(verdict_of(2, &links, &events), (10, 2 + 8 + 1 + 7));
 }
 
 #[test]
@@ -150,21 +153,21 @@ fn a_ninth_link_to_a_reader_behind_is_9() {
     let mut links: Vec<Link> = (1..=8).map(|reader| link(0, reader, 0)).collect();
     assert_eq!(verdict_of(10, &links, &[]).0, 0);
     links.push(link(0, 9, 0));
-    assert_eq!(verdict_of(10, &links, &[]), (9, 1 + 40 + 1 + 24));
+    assert_eq!(verdict_of(10, &links, &[]), (9, 2 + 40 + 1 + 56));
 }
 
 #[test]
 fn links_ahead_to_itself_and_of_kind_2() {
-    assert_eq!(verdict_of(2, &[link(1, 0, 0)], &[]), (7, 10));
-    assert_eq!(verdict_of(2, &[link(1, 0, 1)], &[]), (0, 15));
-    assert_eq!(verdict_of(2, &[link(0, 0, 0)], &[]), (5, 10));
-    assert_eq!(verdict_of(2, &[link(0, 1, 2)], &[]), (6, 10));
+    assert_eq!(verdict_of(2, &[link(1, 0, 0)], &[]), (7, 11));
+    assert_eq!(verdict_of(2, &[link(1, 0, 1)], &[]), (0, 20));
+    assert_eq!(verdict_of(2, &[link(0, 0, 0)], &[]), (5, 11));
+    assert_eq!(verdict_of(2, &[link(0, 1, 2)], &[]), (6, 11));
     // Rising order: no task (4), itself (5), kind (6), direct ahead (7), second (8).
-    assert_eq!(verdict_of(2, &[link(2, 2, 2)], &[]), (4, 10));
-    assert_eq!(verdict_of(2, &[link(1, 1, 2)], &[]), (5, 10));
-    assert_eq!(verdict_of(2, &[link(1, 0, 2)], &[]), (6, 10));
-    assert_eq!(verdict_of(2, &[link(1, 0, 1), link(1, 0, 0)], &[]), (7, 13));
-    assert_eq!(verdict_of(2, &[link(0, 1, 1), link(0, 1, 0)], &[]), (8, 13));
+    assert_eq!(verdict_of(2, &[link(2, 2, 2)], &[]), (4, 11));
+    assert_eq!(verdict_of(2, &[link(1, 1, 2)], &[]), (5, 11));
+    assert_eq!(verdict_of(2, &[link(1, 0, 2)], &[]), (6, 11));
+    assert_eq!(verdict_of(2, &[link(1, 0, 1), link(1, 0, 0)], &[]), (7, 18));
+    assert_eq!(verdict_of(2, &[link(0, 1, 1), link(0, 1, 0)], &[]), (8, 18));
     assert_eq!(verdict_of(2, &[link(0, 1, 1), link(1, 0, 1)], &[]).0, 0);
 }
 
@@ -201,15 +204,15 @@ fn a_lent_table_is_judged_count_by_count_and_link_by_link() {
 fn after_the_second_arrival_r2_is_16_and_a3_is_13() {
     let second = 11;
     assert_eq!(long_example().events[second - 1], Event::Arrival(0b0011));
-    let place = 29 + 21 + 12 + 3;
+    let place = EXAMPLE_EVENTS + 21 + 12 + 3;
     assert_eq!(example_then(second, &[Event::Read(2)]), (16, place));
     assert_eq!(example_then(second, &[Event::Arrival(0b1000)]), (13, place));
 }
 
 #[test]
 fn s0_twice_is_14_and_r0_before_s0_is_15() {
-    assert_eq!(example_then(2, &[Event::Start(0)]), (14, 29 + 5));
-    assert_eq!(example_then(1, &[Event::Read(0)]), (15, 29 + 3));
+    assert_eq!(example_then(2, &[Event::Start(0)]), (14, EXAMPLE_EVENTS + 5));
+    assert_eq!(example_then(1, &[Event::Read(0)]), (15, EXAMPLE_EVENTS + 3));
 }
 
 #[test]
@@ -257,20 +260,21 @@ fn a_full_list_is_18_after_12_15_and_16() {
 }
 
 #[test]
-fn the_longest_recording_has_60_164_bytes() {
+fn the_longest_recording_has_60_293_bytes() {
     let head = encode(&recording(16, &many_links(32), &[]));
-    assert_eq!(head.len() + 6 * 10_000, MOST_BYTES);
+    assert_eq!(head.len() + 6 * 10_000, 60_293);
+    assert_eq!(MOST_BYTES, 60_293);
 }
 
 #[test]
 fn a_power_cut_keeps_the_whole_records() {
     let bytes = encode(&long_example());
-    let at_start_3 = 29 + 21 + 12;
+    let at_start_3 = EXAMPLE_EVENTS + 21 + 12;
     let answer = read(&bytes[..at_start_3 - 1], 10);
     assert_eq!((answer.refusal, answer.place, answer.rest), (1, at_start_3 - 2, &[2][..]));
     assert_eq!(answer.counts, Counts { arrivals: 4, starts: 3, reads: 2, finishes: 3 });
-    let early = read(&bytes[..28], 10);
-    assert_eq!((early.refusal, early.place, early.rest), (1, 27, &[35][..]));
+    let early = read(&bytes[..EXAMPLE_EVENTS - 1], 10);
+    assert_eq!((early.refusal, early.place, early.rest), (1, EXAMPLE_EVENTS - 2, &[35][..]));
     assert_eq!(early.state, State::single());
 }
 
@@ -293,9 +297,23 @@ fn a_state_that_is_not_sound_is_19_before_anything_else() {
     assert_eq!(spoiled(&|state| state.newest[1] = 4), 12);
     assert_eq!(spoiled(&|state| state.previous[0] = 0), 19);
     assert_eq!(spoiled(&|state| state.pointer[1] = 1), 19);
-    assert_eq!(spoiled(&|state| state.pointer[0] = 4), 12);
-    assert_eq!(spoiled(&|state| state.pointer[0] = 5), 19);
-    assert_eq!(spoiled(&|state| state.phase[2] = 1), 19);
+    // A pointer to a reader ahead may stay; before the writer's second arrival its mark does too.
+    let pointed = |position: u8| {
+        spoiled(&|state| {
+            state.pointer[0] = position;
+            state.mark[0] = 1;
+        })
+    };
+    assert_eq!(pointed(4), 12);
+    assert_eq!(pointed(5), 19);
+    let active = |task: usize| {
+        spoiled(&|state| {
+            state.phase[task] = 1;
+            state.seen[task] = 1;
+        })
+    };
+    assert_eq!(active(1), 12);
+    assert_eq!(active(2), 19);
     assert_eq!(spoiled(&|state| state.kind[0] = 2), 19);
     // Slots past the counts belong to no task and no link.
     assert_eq!(spoiled(&|state| state.phase[4] = 9), 12);

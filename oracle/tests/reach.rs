@@ -5,11 +5,18 @@ use oracle::reach::Reached;
 #[test]
 fn all_that_was_not_reached_is_named() {
     let missing = Reached::default().missing();
-    // 19 refusals in recordings, 7 of one event, 9 of tables, 18 of writing; then recordings written again and refused
-    // alike; then how deep and how far.
-    assert_eq!(missing.len(), 19 + 7 + 9 + 18 + 2 + 6);
-    for what in ["refusal 18 in recordings", "refusal 19 of one event", "refusal 9 of tables", "refusal 18 of writing"]
-    {
+    // 20 refusals in recordings, 7 of one event, 10 of tables, 19 of writing; then recordings written again and refused
+    // alike; then how deep and how far; and in recordings and saved states 9 items of start values and marks.
+    assert_eq!(missing.len(), 20 + 7 + 10 + 19 + 2 + 6 + 2 * 9);
+    for what in [
+        "refusal 18 in recordings",
+        "refusal 20 in recordings",
+        "refusal 19 of one event",
+        "refusal 20 of tables",
+        "refusal 20 of writing",
+        "100 reads of a start value in recordings: 0",
+        "100 marks gone at a finish in saved states: 0",
+    ] {
         assert!(missing.iter().any(|named| named == what), "{}", what);
     }
 }

@@ -67,10 +67,10 @@ noted (read l) r os = refl
 noted (finish t v) r os = append-nil (turned os)
 
 -- a table that was accepted keeps the rules, and its state is the fresh one
-pub made-is : (T L : ℕ) (D W R K : List ℕ) (m : Made) → Makes T L D W R K m → m .refusal ≡ 0
-    → (judgedLists base (firstTasks T D) (firstLinks L W R K) ≡ 0) × (saved (m .state) ≡ freshOf base (firstTasks T D) (firstLinks L W R K))
-made-is T L D W R K m said ok =
-    let i = made-fresh base (firstTasks T D) (firstLinks L W R K) (ap (λ (x : state.Made). x .refusal) (sym (said .answer)) ∙ ok) in
+pub made-is : (T L : ℕ) (D W R K B : List ℕ) (m : Made) → Makes T L D W R K B m → m .refusal ≡ 0
+    → (judgedLists base (firstTasks T D) (firstLinks L W R K B) ≡ 0) × (saved (m .state) ≡ freshOf base (firstTasks T D) (firstLinks L W R K B))
+made-is T L D W R K B m said ok =
+    let i = made-fresh base (firstTasks T D) (firstLinks L W R K B) (ap (λ (x : state.Made). x .refusal) (sym (said .answer)) ∙ ok) in
     (i .0, ap (λ (x : state.Made). x .state) (said .answer) ∙ i .1)
 
 come-fresh : (ds : List Task) (ls : List Link) (q : State) → judgedLists base ds ls ≡ 0 → saved q ≡ freshOf base ds ls → Come (station ds ls) [] [] q
@@ -100,12 +100,12 @@ module _ {T : Table ℕ} {es : List (Event ℕ)} {ns : List ℕ} {q : State} (C 
   come-refused n = subst (λ (x : State). Come T es ns x) (sym (same-state q e r call n)) C
 
 pub comes : {T : Table ℕ} {es : List (Event ℕ)} {ns : List ℕ} {q : State} → Calls T es ns q → Come T es ns q
-comes (fresh T L D W R K m said ok) = let i = made-is T L D W R K m said ok in come-fresh (firstTasks T D) (firstLinks L W R K) (m .state) (i .0) (i .1)
+comes (fresh T L D W R K B m said ok) = let i = made-is T L D W R K B m said ok in come-fresh (firstTasks T D) (firstLinks L W R K B) (m .state) (i .0) (i .1)
 comes (accepted c e r call z) = come-accepted (comes c) e r call z
 comes (refused c e r call n) = come-refused (comes c) e r call n
 
 -- and its arrays have their lengths
 pub calls-whole : {T : Table ℕ} {es : List (Event ℕ)} {ns : List ℕ} {q : State} → Calls T es ns q → IsWhole q
-calls-whole (fresh T L D W R K m said ok) = said .whole
+calls-whole (fresh T L D W R K B m said ok) = said .whole
 calls-whole (accepted c e r call z) = call .whole
 calls-whole (refused c e r call n) = call .whole

@@ -51,7 +51,7 @@ stays-tested q a f e = passes (a .state) (f (says q e))
 module _ (κs : Lfts 0) (lent : Dens κs of-fresh.ps) (m : resT of-fresh.r κs .Denot) (left : AtExit (endedOf 0 of-fresh.ps of-fresh.r) κs) where
   abbrev MakesSound : Type 0
   MakesSound =
-      Makes (lent .0) (lent .1 .0) (lent .1 .1 .0) (lent .1 .1 .1 .0) (lent .1 .1 .1 .1 .0) (lent .1 .1 .1 .1 .1 .0) m × IsSound (m .state)
+      Makes (lent .0) (lent .1 .0) (lent .1 .1 .0) (lent .1 .1 .1 .0) (lent .1 .1 .1 .1 .0) (lent .1 .1 .1 .1 .1 .0) (lent .1 .1 .1 .1 .1 .1 .0) m × IsSound (m .state)
 
   pub fresh-learnt : fresh.Learnt κs lent m left → MakesSound
   fresh-learnt learnt = (learnt .0, says (m .state) (learnt .1))

@@ -56,9 +56,9 @@ does q e r call z = go (give-ways (aheadIn (saved q)) base (saved q) e)
 
 came : {T : Table ℕ} {es : List (Event ℕ)} {ns : List ℕ} {q : State} → Calls T es ns q → Came T es q
 unfolding finally
-came (fresh T L D W R K m said ok) =
-    let i = made-is T L D W R K m said ok in
-    record { ds = firstTasks T D; ls = firstLinks L W R K; ok = i .0; same = refl; ends = i .1 }
+came (fresh T L D W R K B m said ok) =
+    let i = made-is T L D W R K B m said ok in
+    record { ds = firstTasks T D; ls = firstLinks L W R K B; ok = i .0; same = refl; ends = i .1 }
 came (accepted {q = q} c e r call z) = go (came c)
   where
     go : {T : Table ℕ} {es : List (Event ℕ)} → Came T es q → Came T (es ++ (e ∷ [])) (r .state)
@@ -95,6 +95,7 @@ lists-same C C′ =
       ext-getD noLink (C .ls) (C′ .ls) n (λ l h. λ i. record {
         writer = ap (λ (t : Table ℕ). t .writer l) e i;
         reader = ap (λ (t : Table ℕ). t .reader l) e i;
+        startValue = ap (λ (t : Table ℕ). t .startValue l) e i;
         kind = kind-same (linkOf (C .ls) l .kind) (linkOf (C′ .ls) l .kind) (kind-small (C .ds) (C .ls) (C .ok) l h) (kind-small (C′ .ds) (C′ .ls) (C′ .ok) l (omega arith))
             (ap (λ (t : Table ℕ). t .delayed l) e) i;
       }),

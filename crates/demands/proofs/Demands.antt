@@ -45,7 +45,7 @@ use Rattle.demands.proofs.Earned.{earns-exactly}
 use Rattle.demands.proofs.TableEarned.{judged-table-earned, table-earns-one}
 use Rattle.demands.proofs.Events.{phases-earned, judged-earned}
 use Rattle.demands.proofs.Calls.{same-state}
-use Rattle.demands.proofs.Runs.{calls-refusal, calls-event, calls-published, calls-there, calls-order, calls-no-time, calls-direct, calls-delayed, calls-finished}
+use Rattle.demands.proofs.Runs.{calls-refusal, calls-event, calls-published, calls-there, calls-order, calls-no-time, calls-direct, calls-delayed, calls-start-value, calls-finished}
 use Rattle.demands.proofs.Course.{one-course}
 use Rattle.demands.proofs.AnyState.{any-state, any-number, silent}
 use Rattle.demands.proofs.Replays.{keeps-of}
@@ -92,12 +92,12 @@ made-refusal ds ls = go (eqb (judgedLists base ds ls) 0) refl
     go true e = sym (eqb-true _ 0 e)
     go false e = refl
 
-module _ (T L : ℕ) (D W R K : List ℕ) (m : Made) (said : Makes T L D W R K m) where
+module _ (T L : ℕ) (D W R K B : List ℕ) (m : Made) (said : Makes T L D W R K B m) where
   abbrev ds : List Task
   ds = firstTasks T D
 
   abbrev ls : List Link
-  ls = firstLinks L W R K
+  ls = firstLinks L W R K B
 
   refusal-is : m .refusal ≡ judgedLists base ds ls
   refusal-is = ap (λ (x : state.Made). x .refusal) (said .answer) ∙ made-refusal ds ls
@@ -109,7 +109,7 @@ module _ (T L : ℕ) (D W R K : List ℕ) (m : Made) (said : Makes T L D W R K m
   )
 
   -- a table that is refused makes the single task's state
-  table-refused : m .refusal ≢ 0 → Makes 1 0 (0 ∷ []) [] [] [] (record { refusal = 0; state = m .state })
+  table-refused : m .refusal ≢ 0 → Makes 1 0 (0 ∷ []) [] [] [] [] (record { refusal = 0; state = m .state })
   unfolding made
   table-refused n =
       let e : eqb (judgedLists base ds ls) 0 ≡ false = ne-eqb _ 0 (λ z. n (refusal-is ∙ z)) in
@@ -170,7 +170,7 @@ told : {s out list : List ℕ} {a : Answer} → Bytes s → Explained s out a li
 told b x = record { answer = explained-is x; whole = explained-whole x; bytes = b }
 
 -- no recording is longer
-longest : {s out ds : List ℕ} {ls : List Link} {es : List (Event ℕ)} → Genuine s out ds ls es → length s ≤ 60164
+longest : {s out ds : List ℕ} {ls : List Link} {es : List (Event ℕ)} → Genuine s out ds ls es → length s ≤ 60293
 longest {s} {out} {ds} {ls} {es} g = base-length (coreOf base out) s ds ls es (genuine-kept g)
 
 -- ---- the theorems
@@ -207,7 +207,7 @@ demand-2 = record {
 }
 
 pub demand-3 : Demand3
-demand-3 = record { recordings = as-calls; order = calls-order; no-time = calls-no-time; direct = calls-direct; delayed = calls-delayed; finished = calls-finished }
+demand-3 = record { recordings = as-calls; order = calls-order; no-time = calls-no-time; direct = calls-direct; delayed = calls-delayed; start-value = calls-start-value; finished = calls-finished }
 
 pub whole-recordings : WholeRecordings
 whole-recordings = record { totals = totals; power-cut = power-cut; nothing-lost = λ g a b all. nothing-lost g b a all; rest = unread; longest = longest; one-answer = one-answer }

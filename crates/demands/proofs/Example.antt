@@ -26,7 +26,7 @@ use Rattle.demands.proofs.Replays.{begins}
 
 -- two tasks, one direct link from the first to the second
 abbrev two : Table ℕ
-two = station (0 ∷ 100 ∷ []) (record { writer = 0; reader = 1; kind = 0 } ∷ [])
+two = station (0 ∷ 100 ∷ []) (record { writer = 0; reader = 1; kind = 0; startValue = 0 } ∷ [])
 
 -- both arrive; the first starts and finishes with 101; the second starts and reads
 abbrev five : List (Event ℕ)
@@ -44,7 +44,7 @@ more {es} c e p =
 
 none : Some []
 unfolding judgedTable fault leading some count
-none = (_, _, begins (0 ∷ 100 ∷ []) (record { writer = 0; reader = 1; kind = 0 } ∷ []) refl)
+none = (_, _, begins (0 ∷ 100 ∷ []) (record { writer = 0; reader = 1; kind = 0; startValue = 0 } ∷ []) refl)
 
 made : Some five
 unfolding past Possible arrivals starts finishes has some

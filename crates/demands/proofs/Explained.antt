@@ -26,7 +26,7 @@ use Rattle.recording_format.specs.Event as format
 use Rattle.recording_format.specs.Event.{Kind, eventKinds, events, eventAt, sizeOf}
 use Rattle.recording_format.specs.RecordingKind.{baseRecording, eventLimit}
 use Rattle.recording_format.specs.Recording.{stateAfter}
-use Rattle.recording_format.specs.Outcome.{TableTo, RecordingOutcome, taskCount, taskRecord, linkCount, linkRecord, eventCount, eventRecord, extraBytes, lastFault, accepted}
+use Rattle.recording_format.specs.Outcome.{TableTo, RecordingOutcome, firstByte, taskCount, taskRecord, linkCount, linkRecord, eventCount, eventRecord, extraBytes, lastFault, accepted}
 use Rattle.recording_format.proofs.Base.{base-room}
 use Rattle.recording_format.proofs.Sizes.{events-within}
 use Rattle.recording_format.proofs.LinkRules.{allowed-judged}
@@ -49,7 +49,7 @@ use Rattle.demands.specs.Recordings as recordings
 use Rattle.demands.proofs.Events.{record-earned}
 use Rattle.demands.proofs.Replays.{made-ok, Went, went}
 use Rattle.demands.proofs.Genuine.{calls-there, listed-there}
-use Rattle.demands.proofs.TableFaults.{table-begun, task-count-fault, task-fault, link-count-fault, link-fault, event-count-fault}
+use Rattle.demands.proofs.TableFaults.{table-begun, first-fault, task-count-fault, task-fault, link-count-fault, link-fault, event-count-fault}
 
 -- the kinds of events, in words and as the reader knows them
 pub kind-known : (k : Kind) {b : ℕ} → b ≡ byteOf k → KindOf b (sizeOf baseRecording k)
@@ -65,13 +65,13 @@ known-kind aRead = (format.aRead, refl, refl)
 known-kind aFinish = (format.aFinish, refl, refl)
 
 -- the single task's state is what its table makes
-pub single-made : fresh.made base (firstTasks 1 (0 ∷ [])) (firstLinks 0 [] [] []) ≡ record { refusal = 0; state = fresh.single base }
+pub single-made : fresh.made base (firstTasks 1 (0 ∷ [])) (firstLinks 0 [] [] [] []) ≡ record { refusal = 0; state = fresh.single base }
 unfolding upward
 single-made =
     made-ok (0 ∷ []) [] (no-refusal (aheadOf (0 ∷ [])) 1 (linkOf []) base 0 (omega arith) (omega arith) (omega arith) (λ l h. absurd (omega arith)))
 
 -- so whatever holds it is
-pub single-held : (q : State) → saved q ≡ fresh.single base → IsWhole q → Makes 1 0 (0 ∷ []) [] [] [] (record { refusal = 0; state = q })
+pub single-held : (q : State) → saved q ≡ fresh.single base → IsWhole q → Makes 1 0 (0 ∷ []) [] [] [] [] (record { refusal = 0; state = q })
 single-held q e w = record { answer = (λ i. record { refusal = 0; state = e i }) ∙ sym single-made; whole = w }
 
 module _ {s out list : List ℕ} {a : Answer} (said : Replays s out a list) where
@@ -132,14 +132,15 @@ module _ {s out list : List ℕ} {a : Answer} (said : Replays s out a list) wher
       → Stands s m (encodeBegun (events baseRecording) E es) p → EventsBegun s ds ls E es p
   events-begun t es E p few fits b =
       let k = table-begun s t in
-      record { few = few; keeps = k .keeps; fits = (k .fits .0, (k .fits .1, fits)); bytes = stands-join (t .tasked .bytes) (stands-join (t .linked .bytes) b) }
+      record { few = few; keeps = k .keeps; fits = (k .fits .0, (k .fits .1, fits)); bytes = stands-join (t .tasked .first) (stands-join (t .tasked .bytes) (stands-join (t .linked .bytes) b)) }
 
   pub every-answer : Explained s out a list
   every-answer = go (answered said)
     where
       go : RecordingOutcome baseRecording (coreOf base out) s (replied a list) → Explained s out a list
-      go (taskCount r n u e) = inl (at-table e (task-count-fault s u))
-      go (taskRecord ds r p n f e) = inl (at-table e (task-fault s n f))
+      go (firstByte r n u e) = inl (at-table e (first-fault s u))
+      go (taskCount r n x u e) = inl (at-table e (task-count-fault s x u))
+      go (taskRecord ds r p n x f e) = inl (at-table e (task-fault s n x f))
       go (linkCount ds r p n t u e) = inl (at-table e (link-count-fault s t u))
       go (linkRecord ds m ls r p n t f e) = inl (at-table e (link-fault s n t f))
       go (eventCount ds ls r p n t u e) = inl (at-table e (event-count-fault s t u))

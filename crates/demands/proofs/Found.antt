@@ -21,7 +21,7 @@ use Rattle.recording_format.specs.Task.{tasks}
 use Rattle.recording_format.specs.Link.{Link, links}
 use Rattle.recording_format.specs.Event.{eventKinds, events, eventAt, sizeOf}
 use Rattle.recording_format.specs.RecordingKind.{baseRecording, eventLimit}
-use Rattle.recording_format.specs.Recording.{encodeRecording, stateAfter}
+use Rattle.recording_format.specs.Recording.{encodeFirst, encodeRecording, taskPlace, tasksEnd, tableEnd, stateAfter}
 use Rattle.recording_format.specs.Outcome.{TableTo, RecordingOutcome, eventRecord, extraBytes, accepted}
 use Rattle.recording_format.proofs.Base.{base-room, base-counts}
 use Rattle.recording_format.proofs.Sizes.{within-events, events-fit}
@@ -45,10 +45,13 @@ use Rattle.demands.proofs.Explained.{kind-known, known-kind}
 module _ {s out ds : List ℕ} {ls : List Link} {es : List (Event ℕ)} {E p : ℕ} (b : EventsBegun s ds ls E es p) (alone : Genuine (encodeRecording baseRecording ds ls es) out ds ls es) where
   -- the place of E
   abbrev tableEnds : ℕ
-  tableEnds = 0 + length (encodeSection (tasks baseRecording) ds) + length (encodeSection (links baseRecording) ls)
+  tableEnds = tableEnd baseRecording ds ls
 
-  from-links : Stands s (0 + length (encodeSection (tasks baseRecording) ds)) (encodeSection (links baseRecording) ls ++ (bytesOf (baseRecording .eventCountWidth) E ++ encodes (events baseRecording) es)) p
-  from-links = stands-left (encodeSection (tasks baseRecording) ds) _ (b .bytes)
+  from-tasks : Stands s taskPlace (encodeSection (tasks baseRecording) ds ++ (encodeSection (links baseRecording) ls ++ (bytesOf (baseRecording .eventCountWidth) E ++ encodes (events baseRecording) es))) p
+  from-tasks = stands-left (encodeFirst baseRecording) _ (b .bytes)
+
+  from-links : Stands s (tasksEnd baseRecording ds) (encodeSection (links baseRecording) ls ++ (bytesOf (baseRecording .eventCountWidth) E ++ encodes (events baseRecording) es)) p
+  from-links = stands-left (encodeSection (tasks baseRecording) ds) _ from-tasks
 
   from-events : Stands s tableEnds (bytesOf (baseRecording .eventCountWidth) E ++ encodes (events baseRecording) es) p
   from-events = stands-left (encodeSection (links baseRecording) ls) _ from-links
@@ -58,7 +61,8 @@ module _ {s out ds : List ℕ} {ls : List Link} {es : List (Event ℕ)} {E p : �
     few = b .keeps .links;
     keeps = b .keeps;
     fits = (b .fits .0, b .fits .1 .0);
-    bytes = stands-join (stands-first (encodeSection (tasks baseRecording) ds) _ (b .bytes)) (stands-first (encodeSection (links baseRecording) ls) _ from-links);
+    bytes = stands-join (stands-first (encodeFirst baseRecording) _ (b .bytes))
+        (stands-join (stands-first (encodeSection (tasks baseRecording) ds) _ from-tasks) (stands-first (encodeSection (links baseRecording) ls) _ from-links));
   })
 
   allowed-there : Allowed judgedIn steppedIn (coreOf base out .start ds ls) es

@@ -2,11 +2,11 @@
 -- Assumes nothing.
 use mathlib.Core.Path.{_≡_, refl, sym, ap, _∙_}
 use mathlib.Core.Logic.{_≢_, _⊎_, inl, inr}
-use mathlib.Core.Bool.{Bool, true, false, _&&_, _||_}
+use mathlib.Core.Bool.{Bool, true, false, not, _&&_, _||_}
 use mathlib.Core.List.{List, [], _∷_}
 use Prim.Native.Nat.{ℕ, zero, suc, _≤_, _<_}
 use native.Mathlib.Omega.{arith}
-use borrow.Author.Tests.{eqb-true, eq-eqb, ltb-true, lt-ltb, leb-true, le-leb}
+use borrow.Author.Tests.{eqb-true, eqb-false, eq-eqb, ne-eqb, ltb-true, lt-ltb, leb-true, le-leb, not-true}
 use lib.Dec.{eqb, ltb, leb, lit<}
 use lib.ListN.{length}
 use Rattle.lists.specs.Lists.{some}
@@ -14,7 +14,7 @@ use Rattle.lists.proofs.Bools.{and-left, and-right, and-both}
 use Rattle.protocol_state.specs.Records.{linkOf, aheadOf}
 use Rattle.protocol_state.specs.Rules.{samePair, linksBehind}
 use Rattle.recording_format.specs.Link.{Link, linkFault}
-use Rattle.demands.specs.Refusals.{Earns, LinkBreaks, noTask, itself, unknownKind, directAhead, twice, ninth}
+use Rattle.demands.specs.Refusals.{Earns, LinkBreaks, noTask, itself, unknownKind, directAhead, twice, ninth, startsDirect}
 use Rattle.demands.proofs.Earned.{earns-alike, Test, test, Fires, here, later, chain-earns}
 
 -- one of two tests holds
@@ -50,7 +50,7 @@ some-at f (suc n) k h e = go (f n) refl (λ l. some-at f n k l e)
     go false i g = g (let ne : k ≢ n = λ z. (let y : true ≡ false = sym e ∙ ap f z ∙ i in let o : _≡_ {A = ℕ} 0 1 = cc in omega arith) in omega (arith, ne))
 
 module _ (ds : List ℕ) (ls : List Link) (l : Link) where
-  -- the six tests
+  -- the seven tests
   abbrev tests : List Test
   tests =
       test 4 (leb (length ds) (l .writer) || leb (length ds) (l .reader))
@@ -59,6 +59,7 @@ module _ (ds : List ℕ) (ls : List Link) (l : Link) where
       ∷ test 7 (eqb (l .kind) 0 && aheadOf ds (l .reader) (l .writer))
       ∷ test 8 (some (λ j. samePair l (linkOf ls j)) (length ls))
       ∷ test 9 (aheadOf ds (l .writer) (l .reader) && leb 8 (linksBehind (aheadOf ds) (linkOf ls) (l .writer) (length ls)))
+      ∷ test 20 (eqb (l .kind) 0 && not (eqb (l .startValue) 0))
       ∷ []
 
   broken-fires : {n : ℕ} → LinkBreaks ds ls l n → Fires tests n
@@ -69,6 +70,7 @@ module _ (ds : List ℕ) (ls : List Link) (l : Link) where
   broken-fires (directAhead e h) = later (later (later (here (and-both (eq-eqb _ _ e) h))))
   broken-fires (twice j h a b) = later (later (later (later (here (some-at _ (length ls) j h (and-both (eq-eqb _ _ a) (eq-eqb _ _ b)))))))
   broken-fires (ninth h b) = later (later (later (later (later (here (and-both h (le-leb _ _ b)))))))
+  broken-fires (startsDirect e n) = later (later (later (later (later (later (here (and-both (eq-eqb _ _ e) (ap not (ne-eqb (l .startValue) 0 n)))))))))
 
   fires-broken : {n : ℕ} → Fires tests n → LinkBreaks ds ls l n
   fires-broken (here e) = noTask (go (either (leb (length ds) (l .writer)) _ e))
@@ -84,10 +86,12 @@ module _ (ds : List ℕ) (ls : List Link) (l : Link) where
       twice (w .0) (w .1) (eqb-true _ _ (and-left (eqb (linkOf ls (w .0) .writer) (l .writer)) _ (w .2))) (eqb-true _ _ (and-right (eqb (linkOf ls (w .0) .writer) (l .writer)) _ (w .2)))
   fires-broken (later (later (later (later (later (here e)))))) =
       ninth (and-left (aheadOf ds (l .writer) (l .reader)) _ e) (leb-true 8 _ (and-right (aheadOf ds (l .writer) (l .reader)) _ e))
+  fires-broken (later (later (later (later (later (later (here e))))))) =
+      startsDirect (eqb-true _ _ (and-left (eqb (l .kind) 0) _ e)) (eqb-false (l .startValue) 0 (not-true _ (and-right (eqb (l .kind) 0) _ e)))
 
   -- what the reader of a recording computes after the links ls is what the link earns
   pub link-earned : Earns (LinkBreaks ds ls l) (linkFault (aheadOf ds) (length ds) ls l)
   unfolding linkFault
   link-earned =
       earns-alike (λ n f. fires-broken f) (λ n b. broken-fires b)
-      (chain-earns 0 tests (lit< tt, (lit< tt, (lit< tt, (lit< tt, (lit< tt, (lit< tt, tt)))))))
+      (chain-earns 0 tests (lit< tt, (lit< tt, (lit< tt, (lit< tt, (lit< tt, (lit< tt, (lit< tt, tt))))))))

@@ -1,24 +1,26 @@
--- No task reads twice from one writer, so N counts a writer's less urgent readers.
+-- No task reads twice from one writer, so N counts a writer's less urgent readers; and what a run remembers of arrivals.
 -- Assumes nothing.
 use mathlib.Core.Path.{_≡_, refl, sym, ap, subst, _∙_}
-use mathlib.Core.Logic.{_≢_}
-use mathlib.Core.Bool.{Bool, true, false, cond, _&&_, _||_}
+use mathlib.Core.Logic.{_≢_, _↔_}
+use mathlib.Core.Bool.{Bool, true, false, cond, _&&_, _||_, true≢false}
 use mathlib.Core.List.{List}
 use Prim.Native.Nat.{ℕ, zero, suc, _+_, _≤_, _<_}
 use native.Mathlib.Decide.{ℕ-discrete}
 use native.Mathlib.Omega.{arith}
-use borrow.Author.Tests.{eqb-true, ne-eqb, eq-eqb}
-use lib.Dec.{eqb}
+use borrow.Author.Tests.{eqb-true, ne-eqb, eq-eqb, lt-ltb, ltb-true, le-leb, leb-true}
+use lib.Dec.{eqb, leb}
 use Rattle.lists.specs.Lists.{some, count}
+use Rattle.lists.proofs.Bools.{and-left, and-right, and-both}
 use Rattle.protocol.specs.Event.{Event, arrival, start, read, finish}
-use Rattle.protocol.specs.Table.{Table, behinds, N}
+use Rattle.protocol.specs.Table.{Table, marked, behinds, N}
 use Rattle.protocol.specs.Schedule.{Policy, AllPossible}
+use Rattle.protocol.specs.ZeroTime.{had}
 use Rattle.protocol.specs.Published.{Boxes, Free, Step, Run, fresh, next}
 use Rattle.protocol.proofs.Ranges.{ranged}
 use Rattle.protocol_state.specs.Saved.{Saved, base, aheadIn, table}
 use Rattle.protocol_state.specs.Sound.{StandsSound}
 use Rattle.protocol_state.proofs.Places.{count-same}
-use Rattle.demands.specs.Mailboxes.{lessUrgentReaders, Mailboxes}
+use Rattle.demands.specs.Mailboxes.{lessUrgentReaders, Mailboxes, Remembered}
 
 -- a test that nothing passes
 count-none : (f : ℕ → Bool) (m : ℕ) → ((r : ℕ) → f r ≡ false) → count f m ≡ 0
@@ -125,3 +127,23 @@ run-mailboxes T may {h} {s} A run P =
       present = r .present;
       unused = λ t p l k. run-unused T may run P t p (subst (λ (n : ℕ). n + 2 < p) (sym (same t)) k);
     }
+
+-- what a run remembers of arrivals, and where it has marks
+pub run-remembered : (T : Table ℕ) (may : Policy ℕ) {h : List (Event ℕ)} {s : Boxes ℕ} → Run T (Free T) s h → AllPossible T may h → Remembered T h s
+run-remembered T may {h} {s} run P =
+    let r = ranged T may run P in
+    record { seen = λ t l. r .seen t; mark = λ l k. subst (λ (b : Bool). Settles l b) (sym (r .mark l k)) (settles (T .delayed l) l) }
+  where
+    -- the mark b of link l, by its pointer and its writer's arrivals
+    Settles : ℕ → Bool → Type 0
+    Settles l b = (b ≡ true) ↔ ((T .delayed l ≡ true) × (had T h l < 2) × (1 ≤ s .pointer l))
+
+    settles : (d : Bool) (l : ℕ) → (leb 1 (s .pointer l) && marked d (had T h l) ≡ true) ↔ ((d ≡ true) × (had T h l < 2) × (1 ≤ s .pointer l))
+    settles true l = (
+      λ e. (refl, ltb-true (had T h l) 2 (and-right (leb 1 (s .pointer l)) _ e), leb-true 1 (s .pointer l) (and-left (leb 1 (s .pointer l)) _ e)),
+      λ x. and-both (le-leb 1 (s .pointer l) (x .2)) (lt-ltb (had T h l) 2 (x .1)),
+    )
+    settles false l = (
+      λ e. absurd (true≢false (sym (and-right (leb 1 (s .pointer l)) _ e))),
+      λ x. absurd (true≢false (sym (x .0))),
+    )

@@ -9,7 +9,7 @@ use lib.ListN.{length, drop}
 use Rattle.protocol.specs.Event.{Event, start}
 use Rattle.protocol.specs.Table.{Table}
 use Rattle.protocol.specs.ZeroTime.{ideals}
-use Rattle.protocol_state.specs.Records.{Task, Link, linkOf, writers, readers, kinds, firstTasks, firstLinks, aheadOf}
+use Rattle.protocol_state.specs.Records.{Task, Link, linkOf, writers, readers, kinds, startValues, firstTasks, firstLinks, aheadOf}
 use Rattle.protocol_state.specs.Saved.{Saved, base, aheadIn, table}
 use Rattle.protocol_state.specs.Fresh.{freshOf, judgedLists, made}
 use Rattle.protocol_state.specs.Fresh as state
@@ -42,18 +42,18 @@ unfolding made
 made-ok ds ls ok = rw (eq-eqb _ 0 ok)
 
 -- of a table in arrays
-in-arrays : (T L : ℕ) (D W R K : List ℕ) → judgedLists base (firstTasks T D) (firstLinks L W R K) ≡ 0
-    → Calls (station (firstTasks T D) (firstLinks L W R K)) [] [] (packed (freshOf base (firstTasks T D) (firstLinks L W R K)))
-in-arrays T L D W R K ok =
-    let i = made-ok (firstTasks T D) (firstLinks L W R K) ok in
-    subst (λ (m : state.Made). Calls (station (firstTasks T D) (firstLinks L W R K)) [] [] (packed (m .state))) i
-    (fresh T L D W R K (madeTo (made base (firstTasks T D) (firstLinks L W R K))) (made-to T L D W R K) (ap (λ (m : state.Made). m .refusal) i))
+in-arrays : (T L : ℕ) (D W R K B : List ℕ) → judgedLists base (firstTasks T D) (firstLinks L W R K B) ≡ 0
+    → Calls (station (firstTasks T D) (firstLinks L W R K B)) [] [] (packed (freshOf base (firstTasks T D) (firstLinks L W R K B)))
+in-arrays T L D W R K B ok =
+    let i = made-ok (firstTasks T D) (firstLinks L W R K B) ok in
+    subst (λ (m : state.Made). Calls (station (firstTasks T D) (firstLinks L W R K B)) [] [] (packed (m .state))) i
+    (fresh T L D W R K B (madeTo (made base (firstTasks T D) (firstLinks L W R K B))) (made-to T L D W R K B) (ap (λ (m : state.Made). m .refusal) i))
 
 -- and of its lists
 pub begins : (ds : List Task) (ls : List Link) → judgedLists base ds ls ≡ 0 → Calls (station ds ls) [] [] (packed (freshOf base ds ls))
 begins ds ls ok =
     subst (λ (ts : List Task). Begins ts ls) (first-tasks-own ds)
-    (subst (λ (xs : List Link). Begins (firstTasks (length ds) ds) xs) (first-links-own ls) (in-arrays (length ds) (length ls) ds (writers ls) (readers ls) (kinds ls))) ok
+    (subst (λ (xs : List Link). Begins (firstTasks (length ds) ds) xs) (first-links-own ls) (in-arrays (length ds) (length ls) ds (writers ls) (readers ls) (kinds ls) (startValues ls))) ok
   where
     Begins : List Task → List Link → Type 0
     Begins ts xs = judgedLists base ts xs ≡ 0 → Calls (station ts xs) [] [] (packed (freshOf base ts xs))

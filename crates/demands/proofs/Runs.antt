@@ -2,9 +2,9 @@
 -- Assumes nothing.
 use mathlib.Core.Path.{_≡_, refl, sym, ap, subst, _∙_}
 use mathlib.Core.Logic.{_↔_}
-use mathlib.Core.Bool.{Bool, true, false}
+use mathlib.Core.Bool.{true, false}
 use mathlib.Core.List.{List, [], _∷_, append-nil}
-use Prim.Native.Nat.{ℕ, pred, _≤_}
+use Prim.Native.Nat.{ℕ, pred, _≤_, _<_}
 use lib.ListN.{length}
 use Rattle.protocol.specs.Event.{Event, arrival, start, read, finish}
 use Rattle.protocol.specs.Table.{Table, Lawful}
@@ -37,10 +37,10 @@ use Rattle.demands.specs.States.{IsWhole, IsSound, tableIn, standingIn}
 use Rattle.demands.specs.Order.{EachRead, turned}
 use Rattle.demands.specs.Calls.{Gives, Calls, fresh, accepted, refused}
 use Rattle.demands.specs.Mailboxes.{Published}
-use Rattle.demands.specs.Outputs.{Output}
+use Rattle.demands.specs.Outputs.{Gave, Output}
 use Rattle.demands.proofs.Orders.{part-possible, each-more, each-read, each-so, looked-each}
-use Rattle.demands.proofs.Readers.{Apart, sound-apart, run-mailboxes}
-use Rattle.demands.proofs.Outputs.{due-output}
+use Rattle.demands.proofs.Readers.{Apart, sound-apart, run-mailboxes, run-remembered}
+use Rattle.demands.proofs.Outputs.{due-direct, due-delayed, due-start}
 use Rattle.demands.proofs.Calls.{calls-whole, Come, comes}
 
 module _ {T : Table ℕ} {es : List (Event ℕ)} {ns : List ℕ} {q : State} (c : Calls T es ns q) where
@@ -79,6 +79,7 @@ module _ {T : Table ℕ} {es : List (Event ℕ)} {ns : List ℕ} {q : State} (c 
     numbers = C .turns ∙ ap turned (C .reached .read);
     mailboxes = run-mailboxes T₀ (policyOf T₀) (subst (λ (t : Table ℕ). Apart t) (C .reached .same) (sound-apart (saved q) (C .reached .sound)))
         (weaken T₀ (lowest-only T₀) (C .reached .run)) (C .reached .possible);
+    remembered = run-remembered T₀ (policyOf T₀) (weaken T₀ (lowest-only T₀) (C .reached .run)) (C .reached .possible);
   }
 
   -- demand 2: the published protocol's
@@ -130,7 +131,7 @@ module _ {T : Table ℕ} {es : List (Event ℕ)} {ns : List ℕ} {q : State} (c 
       ap (λ (x : Reply). x .value) (call .answer) ∙ ap (λ (x : Reply). x .value) (give-done (aheadIn (saved q)) base (saved q) (read l) (reached-sound (C .reached)) j) ∙ reached-number (C .reached) l j in
       let p : Possible T₀ (policyOf T₀) (past [] es) (read l) = judged-possible T₀ (policyOf T₀) (past [] es) (read l) (sym (judged-history (C .reached) (read l)) ∙ j) in
       ap (λ (x : ℕ). there x) v
-      ∙ zero-time T₀ (policyOf T₀) (table-lawful ranks (C .reached)) (policy-fair T₀) (lowest-only T₀) (C .reached .run) (C .reached .possible) p .0
+      ∙ zero-time T₀ (policyOf T₀) (table-lawful ranks (C .reached)) (policy-fair T₀) (lowest-only T₀) (C .reached .run) (C .reached .possible) l p .0
       ∙ ap (λ (t : Table ℕ). due t (past [] es) l) (C .same)
 
 -- so at each read
@@ -139,7 +140,7 @@ Due T h l n = there n ≡ due T h l
 
 each-due : {T : Table ℕ} {es : List (Event ℕ)} {ns : List ℕ} {q : State} → Calls T es ns q → EachRead (Due T) [] es ns
 unfolding EachRead ReadsNothing
-each-due (fresh T L D W R K m said ok) = refl
+each-due (fresh T L D W R K B m said ok) = refl
 each-due (accepted {T} {es} {ns} c (arrival m) r call z) = rw (append-nil ns) (each-more (Due T) [] es ns (arrival m) tt (each-due c))
 each-due (accepted {T} {es} {ns} c (start t) r call z) = rw (append-nil ns) (each-more (Due T) [] es ns (start t) tt (each-due c))
 each-due (accepted {T} {es} {ns} c (read l) r call z) = each-read (Due T) [] es ns l (r .answer .value) (read-due c l r call z) (each-due c)
@@ -151,14 +152,15 @@ module _ {T : Table ℕ} {es : List (Event ℕ)} {ns : List ℕ} {q : State} (c 
   pub calls-no-time : EachRead (λ h l n. find l (arrivals h (T .reader l)) (zeroRun T (upward 0 (T .tasks)) (past [] es)) ≡ there n) [] es ns
   calls-no-time = each-so (Due T) _ [] es ns (λ h l n g d. looked-each T (zeroRun T (upward 0 (T .tasks)) (past [] es)) (zero-run c) h l g ∙ sym d) (each-due c)
 
-  -- demand 3: direct, delayed
+  -- demand 3: direct, delayed, the start value
   pub calls-direct : EachRead (λ h l n. T .delayed l ≡ false → Output T h (T .writer l) (had T h l) n) [] es ns
-  calls-direct = each-so (Due T) _ [] es ns
-      (λ h l n g d i. subst (λ (k : ℕ). Output T h (T .writer l) k n) (ap (λ (b : Bool). runOf b (had T h l)) i) (due-output T h l n d)) (each-due c)
+  calls-direct = each-so (Due T) _ [] es ns (λ h l n g d. due-direct T h l n d) (each-due c)
 
-  pub calls-delayed : EachRead (λ h l n. T .delayed l ≡ true → Output T h (T .writer l) (pred (had T h l)) n) [] es ns
-  calls-delayed = each-so (Due T) _ [] es ns
-      (λ h l n g d i. subst (λ (k : ℕ). Output T h (T .writer l) k n) (ap (λ (b : Bool). runOf b (had T h l)) i) (due-output T h l n d)) (each-due c)
+  pub calls-delayed : EachRead (λ h l n. T .delayed l ≡ true → 2 ≤ had T h l → Gave (T .writer l) h (pred (had T h l)) n) [] es ns
+  calls-delayed = each-so (Due T) _ [] es ns (λ h l n g d. due-delayed T h l n d) (each-due c)
+
+  pub calls-start-value : EachRead (λ h l n. T .delayed l ≡ true → had T h l < 2 → n ≡ T .startValue l) [] es ns
+  calls-start-value = each-so (Due T) _ [] es ns (λ h l n g d. due-start T h l n d) (each-due c)
 
   -- demand 3: no output of an unfinished run
   pub calls-finished : EachRead (λ h l n. runOf (T .delayed l) (had T h l) ≤ finishes h (T .writer l)) [] es ns

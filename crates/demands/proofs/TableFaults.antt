@@ -6,7 +6,7 @@ use mathlib.Core.Bool.{Bool, true, false, cond, _||_}
 use mathlib.Core.List.{List, [], _++_}
 use Prim.Native.Nat.{ℕ, _+_, _-_, _≤_, _<_}
 use native.Mathlib.Omega.{arith}
-use borrow.Author.Tests.{eqb-true, eq-eqb, ne-eqb, ltb-true, lt-ltb, leb-true, leb-false}
+use borrow.Author.Tests.{eqb-true, eqb-false, eq-eqb, ne-eqb, ltb-true, lt-ltb, leb-true, leb-false}
 use lib.Dec.{eqb, ltb, leb}
 use lib.ListN.{length}
 use Rattle.protocol_state.specs.Saved.{base}
@@ -15,14 +15,15 @@ use Rattle.byte_format.specs.Stands.{Stands}
 use Rattle.byte_format.specs.Format.{Got, got, stop, encodes, encodeSection}
 use Rattle.byte_format.specs.Play.{verdict, refusalOf, finally}
 use Rattle.byte_format.specs.Section.{countAt, Faulty}
+use Rattle.byte_format.proofs.Numbers.{number-one}
 use Rattle.byte_format.proofs.Counts.{count-missing, count-limited}
 use Rattle.byte_format.proofs.Sized.{sized-reads, sized-ends}
 use Rattle.byte_format.proofs.Standing.{stands-join, stands-first, stands-left}
 use Rattle.recording_format.specs.Task.{tasks, anyTask, andTask}
 use Rattle.recording_format.specs.Link.{Link, links, linkAt, andLink, linkFault}
-use Rattle.recording_format.specs.RecordingKind.{baseRecording, taskLimit, linkLimit, eventLimit}
-use Rattle.recording_format.specs.Recording.{taskCountAt, linkCountAt, eventCountAt}
-use Rattle.recording_format.specs.Outcome.{TasksTo, TableTo, RecordingOutcome, taskCount, taskRecord, linkCount, linkRecord, eventCount}
+use Rattle.recording_format.specs.RecordingKind.{baseRecording, firstLimit, taskLimit, linkLimit, eventLimit}
+use Rattle.recording_format.specs.Recording.{encodeFirst, taskPlace, tasksEnd, firstAt, taskCountAt, linkCountAt, eventCountAt}
+use Rattle.recording_format.specs.Outcome.{Begins, TasksTo, TableTo, RecordingOutcome, firstByte, taskCount, taskRecord, linkCount, linkRecord, eventCount}
 use Rattle.recording_format.proofs.Base.{base-room, base-counts}
 use Rattle.recording_format.proofs.Sizes.{tasks-within, within-tasks, links-within, within-links, tasks-fit, links-fit}
 use Rattle.recording_format.proofs.LinkRules.{no-fault-allowed, allowed-judged}
@@ -35,7 +36,7 @@ use Rattle.protocol_state.specs.Records.{aheadOf, linkOf}
 use Rattle.byte_format.specs.Play.{Allowed}
 use Rattle.demands.specs.Station.{Keeps}
 use Rattle.demands.specs.Refusals.{Earns, LinkBreaks}
-use Rattle.demands.specs.Recordings.{TasksBegun, LinksBegun, TableFault, cutTaskCount, badTaskCount, cutTask, cutLinkCount, badLinkCount, cutLink, badLink, cutEventCount, badEventCount}
+use Rattle.demands.specs.Recordings.{TasksBegun, LinksBegun, TableFault, noFirst, otherFirst, cutTaskCount, badTaskCount, cutTask, cutLinkCount, badLinkCount, cutLink, badLink, cutEventCount, badEventCount}
 use Rattle.demands.proofs.Earned.{earns-one}
 use Rattle.demands.proofs.Links.{either, or-second, link-earned}
 use Rattle.demands.proofs.Replays.{keeps-of}
@@ -72,7 +73,15 @@ module _ (w : ℕ) (limit : ℕ → ℕ) (s : List ℕ) (p : ℕ) where
           let l = leb-false (p + w) (length s) i in
           subst (λ (k : ℕ). CountFault w limit s p k) (stopped (sym (count-stops h (cut l)) ∙ e)) (cut l)
 
--- the three limits
+-- the limit of the first byte
+first-over : (n : ℕ) → firstLimit baseRecording n ≢ 0 → (firstLimit baseRecording n ≡ 2) × (n ≢ baseRecording .first)
+first-over n ne = go (eqb n (baseRecording .first)) refl ne
+  where
+    go : (b : Bool) → eqb n (baseRecording .first) ≡ b → cond {A = ℕ} b 0 2 ≢ 0 → (cond {A = ℕ} b 0 2 ≡ 2) × (n ≢ baseRecording .first)
+    go true e m = absurd (m refl)
+    go false e m = (refl, eqb-false n (baseRecording .first) e)
+
+-- and the three of the counts
 task-over : (n : ℕ) → taskLimit baseRecording n ≢ 0 → (taskLimit baseRecording n ≡ 2) × ((n ≡ 0) ⊎ (baseRecording .tasks < n))
 task-over n ne = go (eqb n 0 || ltb (baseRecording .tasks) n) refl ne
   where
@@ -106,38 +115,48 @@ keeps-allowed ds ls k = no-fault-allowed (aheadOf ds) (length ds) ls (λ l h. no
 module _ (s : List ℕ) where
   -- ---- what stands at the beginning
   tasks-begun : {ds : List ℕ} {p : ℕ} → TasksTo baseRecording s ds p → TasksBegun s (length ds) ds p
-  tasks-begun {ds} t = record { few = tasks-within baseRecording (length ds) (t .kept .few); fits = t .kept .fits; bytes = t .bytes }
+  tasks-begun {ds} t = record { few = tasks-within baseRecording (length ds) (t .kept .few); fits = t .kept .fits; bytes = stands-join (t .first) (t .bytes) }
 
   begun-tasks : {ds : List ℕ} {p : ℕ} → TasksBegun s (length ds) ds p → TasksTo baseRecording s ds p
   begun-tasks {ds} b =
       let few = within-tasks baseRecording (length ds) (b .few .0) (b .few .1) in
       record {
+        first = stands-first (encodeFirst baseRecording) _ (b .bytes);
         kept = record { counted = tasks-fit baseRecording (length ds) base-counts few; few = few; fits = b .fits; allowed = any-allowed [] ds };
-        bytes = b .bytes;
+        bytes = stands-left (encodeFirst baseRecording) _ (b .bytes);
       }
 
   -- all tasks of the links that are begun
-  links-tasks : {ds : List ℕ} {L p : ℕ} {ls : List Link} (b : LinksBegun s ds L ls p) → TasksTo baseRecording s ds (0 + length (encodeSection (tasks baseRecording) ds))
+  links-tasks : {ds : List ℕ} {L p : ℕ} {ls : List Link} (b : LinksBegun s ds L ls p) → TasksTo baseRecording s ds (tasksEnd baseRecording ds)
   links-tasks {ds} b =
-      begun-tasks (record { few = b .keeps .tasks; fits = b .fits .0; bytes = stands-first (encodeSection (tasks baseRecording) ds) _ (b .bytes) })
+      let first = stands-first (encodeFirst baseRecording) _ (b .bytes) in
+      begun-tasks (record {
+        few = b .keeps .tasks;
+        fits = b .fits .0;
+        bytes = stands-join first (stands-first (encodeSection (tasks baseRecording) ds) _ (stands-left (encodeFirst baseRecording) _ (b .bytes)));
+      })
+
+  -- and the links after them
+  links-from : {ds : List ℕ} {L p : ℕ} {ls : List Link} (b : LinksBegun s ds L ls p) → Stands s (tasksEnd baseRecording ds) (bytesOf (baseRecording .linkCountWidth) L ++ encodes (links baseRecording) ls) p
+  links-from {ds} b = stands-left (encodeSection (tasks baseRecording) ds) _ (stands-left (encodeFirst baseRecording) _ (b .bytes))
 
   pub table-begun : {ds : List ℕ} {ls : List Link} {p : ℕ} → TableTo baseRecording s ds ls p → LinksBegun s ds (length ls) ls p
   table-begun {ds} {ls} t = record {
     few = links-within baseRecording (length ls) (t .linked .kept .few);
     keeps = allowed-keeps ds ls (t .tasked .kept .few) (links-within baseRecording (length ls) (t .linked .kept .few)) (t .linked .kept .allowed);
     fits = (t .tasked .kept .fits, t .linked .kept .fits);
-    bytes = stands-join (t .tasked .bytes) (t .linked .bytes);
+    bytes = stands-join (t .tasked .first) (stands-join (t .tasked .bytes) (t .linked .bytes));
   }
 
   pub begun-table : {ds : List ℕ} {ls : List Link} {p : ℕ} → LinksBegun s ds (length ls) ls p → TableTo baseRecording s ds ls p
   begun-table {ds} {ls} b =
       let few = within-links baseRecording (length ls) (b .few) in
       record {
-        place = 0 + length (encodeSection (tasks baseRecording) ds);
+        place = tasksEnd baseRecording ds;
         tasked = links-tasks b;
         linked = record {
           kept = record { counted = links-fit baseRecording (length ls) base-counts few; few = few; fits = b .fits .1; allowed = keeps-allowed ds ls (b .keeps) };
-          bytes = stands-left (encodeSection (tasks baseRecording) ds) _ (b .bytes);
+          bytes = links-from b;
         };
       }
 
@@ -146,22 +165,29 @@ module _ (s : List ℕ) where
   given : {r k p : ℕ} → k ≡ r → TableFault s k p → TableFault s r p
   given {p = p} e f = subst (λ (n : ℕ). TableFault s n p) e f
 
-  pub task-count-fault : {r : ℕ} → taskCountAt baseRecording s 0 ≡ stop r → TableFault s r 0
-  task-count-fault e = go (stops-count 1 (taskLimit baseRecording) s 0 (omega arith) e)
+  pub first-fault : {r : ℕ} → firstAt baseRecording s ≡ stop r → TableFault s r 0
+  first-fault e = go (stops-count 1 (firstLimit baseRecording) s 0 (omega arith) e)
     where
-      go : {r : ℕ} → CountFault 1 (taskLimit baseRecording) s 0 r → TableFault s r 0
-      go (cut h) = cutTaskCount (omega arith)
-      go (above h n) = let o = task-over (numberAt (baseRecording .taskCountWidth) s 0) n in given (sym (o .0)) (badTaskCount (omega arith) (o .1))
+      go : {r : ℕ} → CountFault 1 (firstLimit baseRecording) s 0 r → TableFault s r 0
+      go (cut h) = noFirst (omega arith)
+      go (above h n) = let o = first-over (numberAt 1 s 0) n in given (sym (o .0)) (otherFirst (omega arith) (λ z. o .1 (number-one s 0 ∙ z)))
+
+  pub task-count-fault : {r : ℕ} → Begins baseRecording s → taskCountAt baseRecording s taskPlace ≡ stop r → TableFault s r taskPlace
+  task-count-fault x e = go (stops-count 1 (taskLimit baseRecording) s taskPlace (x .within) e)
+    where
+      go : {r : ℕ} → CountFault 1 (taskLimit baseRecording) s taskPlace r → TableFault s r taskPlace
+      go (cut h) = cutTaskCount x (omega arith)
+      go (above h n) = let o = task-over (numberAt (baseRecording .taskCountWidth) s taskPlace) n in given (sym (o .0)) (badTaskCount x (omega arith) (o .1))
 
   -- a task record at fault is cut
-  pub task-fault : {ds : List ℕ} {r p : ℕ} → r ≢ 0 → Faulty (tasks baseRecording) (taskLimit baseRecording) anyTask andTask s [] 0 ds r p → TableFault s r p
-  task-fault {ds} {r} {p} n f = go (leb 4 (length s - p)) refl (f .fault)
+  pub task-fault : {ds : List ℕ} {r p : ℕ} → r ≢ 0 → Begins baseRecording s → Faulty (tasks baseRecording) (taskLimit baseRecording) anyTask andTask s [] taskPlace ds r p → TableFault s r p
+  task-fault {ds} {r} {p} n x f = go (leb 4 (length s - p)) refl (f .fault)
     where
       go : (b : Bool) → leb 4 (length s - p) ≡ b → r ≡ refusalOf (cond b (got (numberAt 4 s p) (p + 4)) (stop 1)) (λ d. 0) → TableFault s r p
       go true i z = absurd (n z)
       go false i z =
           given (sym z)
-          (cutTask (record { few = tasks-within baseRecording (f .total) (f .few); fits = f .played .fits; bytes = stands-join (f .count) (f .played .bytes) }) (f .more)
+          (cutTask (record { few = tasks-within baseRecording (f .total) (f .few); fits = f .played .fits; bytes = stands-join x (stands-join (f .count) (f .played .bytes)) }) (f .more)
           (omega (arith, leb-false 4 (length s - p) i, f .played .bytes .within)))
 
   pub link-count-fault : {ds : List ℕ} {r p : ℕ} → TasksTo baseRecording s ds p → linkCountAt baseRecording s p ≡ stop r → TableFault s r p
@@ -174,7 +200,7 @@ module _ (s : List ℕ) where
   -- a link record is cut, or breaks a rule
   pub link-fault : {ds : List ℕ} {m : ℕ} {ls : List Link} {r p : ℕ} → r ≢ 0 → TasksTo baseRecording s ds m
       → Faulty (links baseRecording) (linkLimit baseRecording) (linkFault (aheadOf ds) (length ds)) andLink s [] m ls r p → TableFault s r p
-  link-fault {ds} {m} {ls} {r} {p} n t f = go (leb 3 (length s - p)) refl (rw (in-order [] ls) at (f .fault))
+  link-fault {ds} {m} {ls} {r} {p} n t f = go (leb 7 (length s - p)) refl (rw (in-order [] ls) at (f .fault))
     where
       few : f .total ≤ baseRecording .links
       few = links-within baseRecording (f .total) (f .few)
@@ -184,14 +210,14 @@ module _ (s : List ℕ) where
         few = few;
         keeps = allowed-keeps ds ls (t .kept .few) (omega (arith, few, f .more)) (f .played .allowed);
         fits = (t .kept .fits, f .played .fits);
-        bytes = stands-join (t .bytes) (stands-join (f .count) (f .played .bytes));
+        bytes = stands-join (t .first) (stands-join (t .bytes) (stands-join (f .count) (f .played .bytes)));
       }
 
-      go : (b : Bool) → leb 3 (length s - p) ≡ b → r ≡ refusalOf (cond b (got (linkAt s p) (p + 3)) (stop 1)) (linkFault (aheadOf ds) (length ds) ls) → TableFault s r p
+      go : (b : Bool) → leb 7 (length s - p) ≡ b → r ≡ refusalOf (cond b (got (linkAt s p) (p + 7)) (stop 1)) (linkFault (aheadOf ds) (length ds) ls) → TableFault s r p
       go true i z =
-          badLink begun (f .more) (omega (arith, leb-true 3 (length s - p) i))
+          badLink begun (f .more) (omega (arith, leb-true 7 (length s - p) i))
           (subst (λ (k : ℕ). Earns (LinkBreaks ds ls (linkAt s p)) k) (sym z) (link-earned ds ls (linkAt s p))) n
-      go false i z = given (sym z) (cutLink begun (f .more) (omega (arith, leb-false 3 (length s - p) i, begun .bytes .within)))
+      go false i z = given (sym z) (cutLink begun (f .more) (omega (arith, leb-false 7 (length s - p) i, begun .bytes .within)))
 
   pub event-count-fault : {ds : List ℕ} {ls : List Link} {r p : ℕ} → TableTo baseRecording s ds ls p → eventCountAt baseRecording s p ≡ stop r → TableFault s r p
   event-count-fault {ds} {ls} {r} {p} t e = go (stops-count 2 (eventLimit baseRecording) s p (t .linked .bytes .within) e)
@@ -202,15 +228,15 @@ module _ (s : List ℕ) where
 
   -- ---- and back
   link-faulty : {ds : List ℕ} {L p : ℕ} {ls : List Link} → LinksBegun s ds L ls p → length ls < L → (r : ℕ) → r ≡ refusalOf (links baseRecording .read s p) (linkFault (aheadOf ds) (length ds) ls)
-      → Faulty (links baseRecording) (linkLimit baseRecording) (linkFault (aheadOf ds) (length ds)) andLink s [] (0 + length (encodeSection (tasks baseRecording) ds)) ls r p
+      → Faulty (links baseRecording) (linkLimit baseRecording) (linkFault (aheadOf ds) (length ds)) andLink s [] (tasksEnd baseRecording ds) ls r p
   link-faulty {ds} {L} {p} {ls} b more r e =
       let few = within-links baseRecording L (b .few) in
-      let from : Stands s (0 + length (encodeSection (tasks baseRecording) ds)) (bytesOf (baseRecording .linkCountWidth) L ++ encodes (links baseRecording) ls) p = stands-left (encodeSection (tasks baseRecording) ds) _ (b .bytes) in
+      let from : Stands s (tasksEnd baseRecording ds) (bytesOf (baseRecording .linkCountWidth) L ++ encodes (links baseRecording) ls) p = links-from b in
       record {
         total = L;
         counted = links-fit baseRecording L base-counts few;
         few = few;
-        first = 0 + length (encodeSection (tasks baseRecording) ds) + length (bytesOf (baseRecording .linkCountWidth) L);
+        first = tasksEnd baseRecording ds + length (bytesOf (baseRecording .linkCountWidth) L);
         count = stands-first (bytesOf (baseRecording .linkCountWidth) L) _ from;
         played = record { fits = b .fits .1; allowed = keeps-allowed ds ls (b .keeps); bytes = stands-left (bytesOf (baseRecording .linkCountWidth) L) _ from };
         more = more;
@@ -222,26 +248,35 @@ module _ (s : List ℕ) where
     Found r p = RecordingOutcome baseRecording (coreOf base out) s (verdict r p (coreOf base out .single))
 
     pub fault-found : {r p : ℕ} → TableFault s r p → Found r p
-    fault-found (cutTaskCount z) = taskCount 1 (λ y. omega arith) (count-stops 1 (taskLimit baseRecording) s 0 (omega arith) (cut (omega arith))) refl
-    fault-found (badTaskCount h o) = taskCount 2 (λ y. omega arith) (there ∙ ap (λ (k : ℕ). stop k) two) refl
+    fault-found (noFirst z) = firstByte 1 (λ y. omega arith) (count-stops 1 (firstLimit baseRecording) s 0 (omega arith) (cut (omega arith))) refl
+    fault-found (otherFirst h o) = firstByte 2 (λ y. omega arith) (there ∙ ap (λ (k : ℕ). stop k) two) refl
       where
-        two : taskLimit baseRecording (numberAt (baseRecording .taskCountWidth) s 0) ≡ 2
-        two = over-tasks (numberAt (baseRecording .taskCountWidth) s 0) o
+        two : firstLimit baseRecording (numberAt 1 s 0) ≡ 2
+        two = rw (ne-eqb (numberAt 1 s 0) (baseRecording .first) (λ z. o (sym (number-one s 0) ∙ z)))
 
-        there : taskCountAt baseRecording s 0 ≡ stop (taskLimit baseRecording (numberAt (baseRecording .taskCountWidth) s 0))
-        there = count-stops 1 (taskLimit baseRecording) s 0 (omega arith) (above (omega arith) (λ z. omega (arith, two)))
-    fault-found (cutTask {T} {p} {ds} b more h) = taskRecord ds 1 p (λ y. omega arith) (faulty b more h) refl
+        there : firstAt baseRecording s ≡ stop (firstLimit baseRecording (numberAt 1 s 0))
+        there = count-stops 1 (firstLimit baseRecording) s 0 (omega arith) (above (omega arith) (λ z. omega (arith, two)))
+    fault-found (cutTaskCount x z) = taskCount 1 (λ y. omega arith) x (count-stops 1 (taskLimit baseRecording) s taskPlace (x .within) (cut (omega arith))) refl
+    fault-found (badTaskCount x h o) = taskCount 2 (λ y. omega arith) x (there ∙ ap (λ (k : ℕ). stop k) two) refl
       where
-        faulty : TasksBegun s T ds p → length ds < T → length s < p + baseRecording .valueWidth → Faulty (tasks baseRecording) (taskLimit baseRecording) anyTask andTask s [] 0 ds 1 p
+        two : taskLimit baseRecording (numberAt (baseRecording .taskCountWidth) s taskPlace) ≡ 2
+        two = over-tasks (numberAt (baseRecording .taskCountWidth) s taskPlace) o
+
+        there : taskCountAt baseRecording s taskPlace ≡ stop (taskLimit baseRecording (numberAt (baseRecording .taskCountWidth) s taskPlace))
+        there = count-stops 1 (taskLimit baseRecording) s taskPlace (x .within) (above (omega arith) (λ z. omega (arith, two)))
+    fault-found (cutTask {T} {p} {ds} b more h) = taskRecord ds 1 p (λ y. omega arith) (stands-first (encodeFirst baseRecording) _ (b .bytes)) (faulty b more h) refl
+      where
+        faulty : TasksBegun s T ds p → length ds < T → length s < p + baseRecording .valueWidth → Faulty (tasks baseRecording) (taskLimit baseRecording) anyTask andTask s [] taskPlace ds 1 p
         faulty b more h =
             let few = within-tasks baseRecording T (b .few .0) (b .few .1) in
+            let from : Stands s taskPlace (bytesOf (baseRecording .taskCountWidth) T ++ encodes (tasks baseRecording) ds) p = stands-left (encodeFirst baseRecording) _ (b .bytes) in
             record {
               total = T;
               counted = tasks-fit baseRecording T base-counts few;
               few = few;
-              first = 0 + length (bytesOf (baseRecording .taskCountWidth) T);
-              count = stands-first (bytesOf (baseRecording .taskCountWidth) T) _ (b .bytes);
-              played = record { fits = b .fits; allowed = any-allowed [] ds; bytes = stands-left (bytesOf (baseRecording .taskCountWidth) T) _ (b .bytes) };
+              first = taskPlace + length (bytesOf (baseRecording .taskCountWidth) T);
+              count = stands-first (bytesOf (baseRecording .taskCountWidth) T) _ from;
+              played = record { fits = b .fits; allowed = any-allowed [] ds; bytes = stands-left (bytesOf (baseRecording .taskCountWidth) T) _ from };
               more = more;
               fault = sym (ap (λ (y : Got ℕ). refusalOf y (anyTask (finally andTask [] ds))) (sized-ends 4 (numberAt 4 s p) s p (b .bytes .within) h));
             }
@@ -255,12 +290,12 @@ module _ (s : List ℕ) where
         there : linkCountAt baseRecording s p ≡ stop (linkLimit baseRecording (numberAt (baseRecording .linkCountWidth) s p))
         there = count-stops 1 (linkLimit baseRecording) s p (b .bytes .within) (above (omega arith) (λ z. omega (arith, three)))
     fault-found (cutLink {L} {p} {ds} {ls} b more h) =
-        linkRecord ds (0 + length (encodeSection (tasks baseRecording) ds)) ls 1 p (λ y. omega arith) (links-tasks b)
-        (link-faulty b more 1 (sym (ap (λ (y : Got Link). refusalOf y (linkFault (aheadOf ds) (length ds) ls)) (sized-ends 3 (linkAt s p) s p (b .bytes .within) h)))) refl
+        linkRecord ds (tasksEnd baseRecording ds) ls 1 p (λ y. omega arith) (links-tasks b)
+        (link-faulty b more 1 (sym (ap (λ (y : Got Link). refusalOf y (linkFault (aheadOf ds) (length ds) ls)) (sized-ends 7 (linkAt s p) s p (b .bytes .within) h)))) refl
     fault-found (badLink {L} {p} {r} {ds} {ls} b more h g n) =
-        linkRecord ds (0 + length (encodeSection (tasks baseRecording) ds)) ls r p n (links-tasks b)
+        linkRecord ds (tasksEnd baseRecording ds) ls r p n (links-tasks b)
         (link-faulty b more r
-        (earns-one g (link-earned ds ls (linkAt s p)) ∙ sym (ap (λ (y : Got Link). refusalOf y (linkFault (aheadOf ds) (length ds) ls)) (sized-reads 3 (linkAt s p) s p h)))) refl
+        (earns-one g (link-earned ds ls (linkAt s p)) ∙ sym (ap (λ (y : Got Link). refusalOf y (linkFault (aheadOf ds) (length ds) ls)) (sized-reads 7 (linkAt s p) s p h)))) refl
     fault-found (cutEventCount {p} {ds} {ls} b h) =
         eventCount ds ls 1 p (λ y. omega arith) (begun-table b) (count-stops 2 (eventLimit baseRecording) s p (b .bytes .within) (cut h)) refl
     fault-found (badEventCount {p} {ds} {ls} b h o) = eventCount ds ls 10 p (λ y. omega arith) (begun-table b) (there ∙ ap (λ (k : ℕ). stop k) ten) refl

@@ -7,7 +7,7 @@ use native.Mathlib.Omega.{arith}
 use lib.Dec.{eqb}
 use lib.ListN.{length, List·getD-map}
 use lib.Seq.{ext-getD}
-use Rattle.protocol_state.specs.Records.{Task, defaultOf, Link, noLink, linkOf, writers, readers, kinds, firstTasks, firstLinks, aheadOf}
+use Rattle.protocol_state.specs.Records.{Task, defaultOf, Link, noLink, linkOf, writers, readers, kinds, startValues, linkFrom, firstTasks, firstLinks, aheadOf}
 use Rattle.protocol_state.specs.Saved.{base, at, table}
 use Rattle.protocol_state.specs.Fresh.{copied, freshOf}
 use Rattle.protocol_state.proofs.Records.{own-defaults, first-tasks-length, first-task, first-links-length, first-link, copied-whole, column-whole}
@@ -20,6 +20,7 @@ fresh-station ds ls few least = λ i. record {
   tasks = length ds;
   links = length ls;
   default = fun-ext default i;
+  startValue = fun-ext (λ l. column-whole (base .links) (λ (x : Link). x .startValue) refl ls least l) i;
   writer = fun-ext (λ l. column-whole (base .links) (λ (x : Link). x .writer) refl ls least l) i;
   reader = fun-ext (λ l. column-whole (base .links) (λ (x : Link). x .reader) refl ls least l) i;
   delayed = λ l. eqb (column-whole (base .links) (λ (x : Link). x .kind) refl ls least l i) 1;
@@ -33,14 +34,18 @@ fresh-station ds ls few least = λ i. record {
 pub first-tasks-own : (ds : List Task) → firstTasks (length ds) ds ≡ ds
 first-tasks-own ds = ext-getD 0 (firstTasks (length ds) ds) ds (first-tasks-length (length ds) ds) (λ t h. first-task (length ds) ds t (omega (arith, first-tasks-length (length ds) ds)))
 
-pub first-links-own : (ls : List Link) → firstLinks (length ls) (writers ls) (readers ls) (kinds ls) ≡ ls
+pub first-links-own : (ls : List Link) → firstLinks (length ls) (writers ls) (readers ls) (kinds ls) (startValues ls) ≡ ls
 first-links-own ls =
-    ext-getD noLink (firstLinks (length ls) (writers ls) (readers ls) (kinds ls)) ls (first-links-length (length ls) (writers ls) (readers ls) (kinds ls))
-    (λ l h. first-link (length ls) (writers ls) (readers ls) (kinds ls) l (omega (arith, first-links-length (length ls) (writers ls) (readers ls) (kinds ls))) ∙ own l)
+    ext-getD noLink (firstLinks (length ls) (writers ls) (readers ls) (kinds ls) (startValues ls)) ls first-length
+    (λ l h. first-link (length ls) (writers ls) (readers ls) (kinds ls) (startValues ls) l (omega (arith, first-length)) ∙ own l)
   where
-    own : (l : ℕ) → record { writer = at (writers ls) l; reader = at (readers ls) l; kind = at (kinds ls) l } ≡ linkOf ls l
+    first-length : length (firstLinks (length ls) (writers ls) (readers ls) (kinds ls) (startValues ls)) ≡ length ls
+    first-length = first-links-length (length ls) (writers ls) (readers ls) (kinds ls) (startValues ls)
+
+    own : (l : ℕ) → linkFrom (writers ls) (readers ls) (kinds ls) (startValues ls) l ≡ linkOf ls l
     own l = λ i. record {
       writer = List·getD-map (λ (x : Link). x .writer) ls l noLink i;
       reader = List·getD-map (λ (x : Link). x .reader) ls l noLink i;
       kind = List·getD-map (λ (x : Link). x .kind) ls l noLink i;
+      startValue = List·getD-map (λ (x : Link). x .startValue) ls l noLink i;
     }

@@ -11,13 +11,13 @@ use Rattle.protocol.specs.Event.{Event}
 use Rattle.protocol_state.specs.Records.{aheadOf}
 use Rattle.byte_format.specs.Play.{Verdict}
 use Rattle.recording_format.specs.RecordingKind.{baseRecording}
-use Rattle.recording_format.specs.Link.{Link, linkAt, linkFault}
+use Rattle.recording_format.specs.Link.{Link, linkSize, linkAt, linkFault}
 use Rattle.recording_format.specs.Recording.{encodeRecording}
 use Rattle.recording_core.specs.Playing.{Playing}
 use Rattle.recording.specs.declared.Answer.{Answer}
 use Rattle.recording_demands.specs.Ensured.{Replays}
 use Rattle.recording_demands.proofs.Demands.{only-answer}
-use Rattle.demands.specs.Refusals.{Earns, none, lowest, LinkBreaks, noTask, itself, unknownKind, directAhead, twice, ninth}
+use Rattle.demands.specs.Refusals.{Earns, none, lowest, LinkBreaks, noTask, itself, unknownKind, directAhead, twice, ninth, startsDirect}
 use Rattle.demands.specs.Recordings.{Genuine, LinksBegun, EventsBegun, KindOf, badLink}
 use Rattle.demands.specs.Recordings as recordings
 use Rattle.demands.proofs.Links.{link-earned}
@@ -39,6 +39,7 @@ from-four (unknownKind a b) = omega arith
 from-four (directAhead e h) = omega arith
 from-four (twice j h a b) = omega arith
 from-four (ninth h b) = omega arith
+from-four (startsDirect e n) = omega arith
 
 -- what a link of an unknown kind earns
 unknown-earns : {ds : List ℕ} {ls : List Link} {l : Link} {r : ℕ} → 1 < l .kind → Earns (LinkBreaks ds ls l) r → (4 ≤ r) × (r ≤ 6)
@@ -50,7 +51,7 @@ unknown-earns {r = r} k (lowest b f) = (from-four b, go (decLe r 6))
     go (no h) = absurd (f 6 (omega arith) (unknownKind (λ z. omega arith) (λ z. omega arith)))
 
 pub unknown-link : {s out list ds : List ℕ} {a : Answer} {ls : List Link} {L p : ℕ} → Replays s out a list →
-    LinksBegun s ds L ls p → length ls < L → p + 3 ≤ length s → 1 < linkAt s p .kind →
+    LinksBegun s ds L ls p → length ls < L → p + linkSize baseRecording ≤ length s → 1 < linkAt s p .kind →
     Earns (LinkBreaks ds ls (linkAt s p)) (a .refusal) × ((4 ≤ a .refusal) × (a .refusal ≤ 6)) × (a .place ≡ p)
 unknown-link {s} {out} {list} {ds} {a} {ls} {L} {p} said b more h k =
     let g = link-earned ds ls (linkAt s p) in

@@ -27,7 +27,7 @@ numbersOf (finish t v) r = []
 -- "every sequence of accepted events from a fresh state, refused ones left aside":
 -- of the table T the events es were accepted, the reads among them gave the numbers ns, and the last call handed back q
 pub data Calls : Table ℕ → List (Event ℕ) → List ℕ → State → Type 0 where
-  fresh : (n l : ℕ) (D W R K : List ℕ) (m : Made) → Makes n l D W R K m → m .refusal ≡ 0 → Calls (station (firstTasks n D) (firstLinks l W R K)) [] [] (m .state)
+  fresh : (n l : ℕ) (D W R K B : List ℕ) (m : Made) → Makes n l D W R K B m → m .refusal ≡ 0 → Calls (station (firstTasks n D) (firstLinks l W R K B)) [] [] (m .state)
   accepted : {T : Table ℕ} {es : List (Event ℕ)} {ns : List ℕ} {q : State} → Calls T es ns q →
       (e : Event ℕ) (r : Step) → Gives q e r → r .answer .refusal ≡ 0 → Calls T (es ++ (e ∷ [])) (ns ++ numbersOf e r) (r .state)
   refused : {T : Table ℕ} {es : List (Event ℕ)} {ns : List ℕ} {q : State} → Calls T es ns q →

@@ -46,7 +46,7 @@ pub record Tells : Type 0 where
   pub rest : (κs : Lfts 1) (lent : Dens κs of-rest.ps) (part : resT of-rest.r κs .Denot) (left : AtExit (endedOf 1 of-rest.ps of-rest.r) κs) →
       on-rest.Learnt κs lent part left ↔ Rests (now (lent .0)) (lent .1 .0) (now part)
   pub fresh : (κs : Lfts 0) (lent : Dens κs of-fresh.ps) (m : resT of-fresh.r κs .Denot) (left : AtExit (endedOf 0 of-fresh.ps of-fresh.r) κs) →
-      on-fresh.Learnt κs lent m left ↔ (Makes (lent .0) (lent .1 .0) (lent .1 .1 .0) (lent .1 .1 .1 .0) (lent .1 .1 .1 .1 .0) (lent .1 .1 .1 .1 .1 .0) m × IsSound (m .state))
+      on-fresh.Learnt κs lent m left ↔ (Makes (lent .0) (lent .1 .0) (lent .1 .1 .0) (lent .1 .1 .1 .0) (lent .1 .1 .1 .1 .0) (lent .1 .1 .1 .1 .1 .0) (lent .1 .1 .1 .1 .1 .1 .0) m × IsSound (m .state))
   pub arrival : (κs : Lfts 0) (lent : Dens κs of-arrival.ps) (r : resT of-arrival.r κs .Denot) (left : AtExit (endedOf 0 of-arrival.ps of-arrival.r) κs) →
       on-arrival.Learnt κs lent r left ↔ (Gives (lent .0) (arrival (lent .1 .0)) r × (IsSound (lent .0) → IsSound (r .state)))
   pub start : (κs : Lfts 0) (lent : Dens κs of-start.ps) (r : resT of-start.r κs .Denot) (left : AtExit (endedOf 0 of-start.ps of-start.r) κs) →

@@ -20,7 +20,8 @@ use Rattle.protocol.specs.Given.{there}
 use Rattle.protocol.specs.Instant.{Order, zeroRun, find}
 use Rattle.protocol.specs.Answering.{ReadsNothing}
 use Rattle.byte_format.specs.Number.{Bytes}
-use Rattle.recording_format.specs.Link.{Link, linkAt}
+use Rattle.recording_format.specs.Link.{Link, linkSize, linkAt}
+use Rattle.recording_format.specs.RecordingKind.{baseRecording}
 use Rattle.mailbox.specs.declared.State.{State}
 use Rattle.mailbox.specs.declared.Step.{Step}
 use Rattle.mailbox.specs.declared.Made.{Made}
@@ -34,7 +35,7 @@ use Rattle.demands.specs.Order.{EachRead}
 use Rattle.demands.specs.Calls.{Makes, Gives, Rests, Calls}
 use Rattle.demands.specs.Recordings.{recordingBytes, eventBytes, throughCount, Genuine, LinksBegun, EventsBegun, KindOf, fourCounts, Listed, AtTable, AtEvents, Explained}
 use Rattle.demands.specs.Mailboxes.{Published}
-use Rattle.demands.specs.Outputs.{Output}
+use Rattle.demands.specs.Outputs.{Gave, Output}
 use Rattle.demands.specs.Contracts.{AsksNothing, Tells}
 
 -- ---- demand 1
@@ -55,16 +56,16 @@ pub record Demand1 : Type 0 where
       (a .refusal ≡ 11) × (a .place ≡ p)
   -- a link of an unknown kind is refused at its place, with 6 unless it breaks rule 4 or 5 as well (in a table that is handed over whole: `table-number`)
   pub unknown-link : {s out list ds : List ℕ} {a : Answer} {ls : List Link} {L p : ℕ} → Replays s out a list →
-      LinksBegun s ds L ls p → length ls < L → p + 3 ≤ length s → 1 < linkAt s p .kind →
+      LinksBegun s ds L ls p → length ls < L → p + linkSize baseRecording ≤ length s → 1 < linkAt s p .kind →
       Earns (LinkBreaks ds ls (linkAt s p)) (a .refusal) × ((4 ≤ a .refusal) × (a .refusal ≤ 6)) × (a .place ≡ p)
   -- "Each refusal has its number": of a table; of an event given to a sound state, by its phases; and after any calls by the accepted events alone
-  pub table-number : (T L : ℕ) (D W R K : List ℕ) (m : Made) → Makes T L D W R K m → (n : ℕ) → (m .refusal ≡ n) ↔ TableEarns (firstTasks T D) (firstLinks L W R K) n
+  pub table-number : (T L : ℕ) (D W R K B : List ℕ) (m : Made) → Makes T L D W R K B m → (n : ℕ) → (m .refusal ≡ n) ↔ TableEarns (firstTasks T D) (firstLinks L W R K B) n
   pub event-number : (q : State) (e : Event ℕ) (r : Step) → Gives q e r → IsSound q →
       (n : ℕ) → (r .answer .refusal ≡ n) ↔ Earns (EventBreaks (tableIn q) (standingIn q) e) n
   pub number-there : {T : Table ℕ} {es : List (Event ℕ)} {ns : List ℕ} {q : State} → Calls T es ns q → (e : Event ℕ) (r : Step) → Gives q e r →
       (n : ℕ) → (r .answer .refusal ≡ n) ↔ Earns (EventBreaks T (byHistory (past [] es)) e) n
   -- a table that is refused makes the state of a single task with default 0 and no links
-  pub table-refused : (T L : ℕ) (D W R K : List ℕ) (m : Made) → Makes T L D W R K m → m .refusal ≢ 0 → Makes 1 0 (0 ∷ []) [] [] [] (record { refusal = 0; state = m .state })
+  pub table-refused : (T L : ℕ) (D W R K B : List ℕ) (m : Made) → Makes T L D W R K B m → m .refusal ≢ 0 → Makes 1 0 (0 ∷ []) [] [] [] [] (record { refusal = 0; state = m .state })
   -- "An accepted arrival, start or finish gives the value 0 too."
   pub silent : (q : State) (e : Event ℕ) (r : Step) → Gives q e r → ReadsNothing e → r .answer .value ≡ 0
   -- "in a recording its place too": every answer is that of the first fault of the bytes, or of there being none; and no other answer is
@@ -86,7 +87,7 @@ pub record Demand2 : Type 0 where
   pub one-reading : {s out out′ ds ds′ : List ℕ} {ls ls′ : List Link} {es es′ : List (Event ℕ)} → Genuine s out ds ls es → Genuine s out′ ds′ ls′ es′ →
       (ds ≡ ds′) × (ls ≡ ls′) × (es ≡ es′)
   -- the same of a table and of single events
-  pub table : (T L : ℕ) (D W R K : List ℕ) (m : Made) → Makes T L D W R K m → (m .refusal ≡ 0) ↔ Keeps (firstTasks T D) (firstLinks L W R K)
+  pub table : (T L : ℕ) (D W R K B : List ℕ) (m : Made) → Makes T L D W R K B m → (m .refusal ≡ 0) ↔ Keeps (firstTasks T D) (firstLinks L W R K B)
   pub event : {T : Table ℕ} {es : List (Event ℕ)} {ns : List ℕ} {q : State} → Calls T es ns q → (e : Event ℕ) (r : Step) → Gives q e r →
       (r .answer .refusal ≡ 0) ↔ Possible T (urgent T) (past [] es) e
   -- "Every pointer, mailbox and number read is then the one that the published protocol gives, with at most two mailboxes more than a writer has less urgent
@@ -120,12 +121,16 @@ pub record Demand3 : Type 0 where
   pub order : {T : Table ℕ} {es : List (Event ℕ)} {ns : List ℕ} {q : State} → Calls T es ns q → Order T (mostUrgentFirst T)
   pub no-time : {T : Table ℕ} {es : List (Event ℕ)} {ns : List ℕ} {q : State} → Calls T es ns q →
       EachRead (λ h l n. find l (arrivals h (T .reader l)) (zeroRun T (mostUrgentFirst T) (past [] es)) ≡ there n) [] es ns
-  -- "A direct link gives the output of the writer's last arrival up to and including the reader's own;"
+  -- "A direct link gives the output of the writer's last arrival up to and including the reader's own;" "where there was none, the writer's default"
+  -- (`Output`)
   pub direct : {T : Table ℕ} {es : List (Event ℕ)} {ns : List ℕ} {q : State} → Calls T es ns q →
       EachRead (λ h l n. T .delayed l ≡ false → Output T h (T .writer l) (had T h l) n) [] es ns
-  -- "a delayed link the one before it;" ("where there was none, the writer's default": `Output`)
+  -- "a delayed link the one before it;", where the writer had two arrivals or more
   pub delayed : {T : Table ℕ} {es : List (Event ℕ)} {ns : List ℕ} {q : State} → Calls T es ns q →
-      EachRead (λ h l n. T .delayed l ≡ true → Output T h (T .writer l) (pred (had T h l)) n) [] es ns
+      EachRead (λ h l n. T .delayed l ≡ true → 2 ≤ had T h l → Gave (T .writer l) h (pred (had T h l)) n) [] es ns
+  -- "While the writer has had fewer than two arrivals up to and including the reader's, a delayed link reads the link's start value."
+  pub start-value : {T : Table ℕ} {es : List (Event ℕ)} {ns : List ℕ} {q : State} → Calls T es ns q →
+      EachRead (λ h l n. T .delayed l ≡ true → had T h l < 2 → n ≡ T .startValue l) [] es ns
   -- "The output of an unfinished run is never read.": before the read at least as many of the writer's runs had finished as the number of the run that is read
   pub finished : {T : Table ℕ} {es : List (Event ℕ)} {ns : List ℕ} {q : State} → Calls T es ns q →
       EachRead (λ h l n. runOf (T .delayed l) (had T h l) ≤ finishes h (T .writer l)) [] es ns
@@ -159,7 +164,7 @@ pub record WholeRecordings : Type 0 where
   -- "On refusal the caller also gets the unread rest, from the place of the refusal to the end, as that part of the lent recording; after acceptance that part
   -- is empty.": what `recording::rest` hands back for the place of the answer
   pub rest : {s out list part : List ℕ} {a : Answer} → Replays s out a list → Rests s (a .place) part → Unread s (a .refusal) (a .place) part
-  -- "A whole recording has at most 60,164 bytes"
-  pub longest : {s out ds : List ℕ} {ls : List Link} {es : List (Event ℕ)} → Genuine s out ds ls es → length s ≤ 60164
+  -- "A whole recording has at most 60,164 bytes", and document 02's first byte and four bytes a link more
+  pub longest : {s out ds : List ℕ} {ls : List Link} {es : List (Event ℕ)} → Genuine s out ds ls es → length s ≤ 60293
   -- the two clauses of the replay allow one answer to the same bytes and list
   pub one-answer : {s out list list′ : List ℕ} {a a′ : Answer} → Replays s out a list → Replays s out a′ list′ → (a ≡ a′) × (list ≡ list′)

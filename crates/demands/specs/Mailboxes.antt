@@ -1,15 +1,17 @@
 -- What the published protocol gives for events, and how many mailboxes it takes.
 -- Assumes nothing.
 use mathlib.Core.Path.{_≡_}
+use mathlib.Core.Logic.{_↔_}
 use mathlib.Core.Bool.{Bool, true, _&&_}
 use mathlib.Core.List.{List, []}
-use Prim.Native.Nat.{ℕ, _+_, _≤_, _<_}
+use Prim.Native.Nat.{ℕ, _+_, _≤_, _<_, min}
 use lib.Dec.{eqb}
 use Rattle.lists.specs.Lists.{some, count}
 use Rattle.protocol.specs.Event.{Event}
 use Rattle.protocol.specs.Table.{Table}
-use Rattle.protocol.specs.History.{active, past}
+use Rattle.protocol.specs.History.{arrivals, active, past}
 use Rattle.protocol.specs.Schedule.{policyOf, AllPossible}
+use Rattle.protocol.specs.ZeroTime.{had}
 use Rattle.protocol.specs.Published.{Boxes, Same, Lowest, Run}
 use Rattle.protocol.specs.Published as published
 use Rattle.mailbox.specs.declared.State.{State}
@@ -33,6 +35,12 @@ pub record Mailboxes (T : Table ℕ) (h : List (Event ℕ)) (s : Boxes ℕ) : Ty
   pub present : (l : ℕ) → l < T .links → active h (T .reader l) ≡ true → 1 ≤ s .pointer l
   pub unused : (t p : ℕ) → t < T .tasks → lessUrgentReaders T t + 2 < p → s .cell t p ≡ T .default t
 
+-- "The saved state remembers whether a task has had no, one or more arrivals, and for each delayed link whether the reader's last arrival settled on the start
+-- value. That mark goes when the pointer does."
+pub record Remembered (T : Table ℕ) (h : List (Event ℕ)) (s : Boxes ℕ) : Type 0 where
+  pub seen : (t : ℕ) → t < T .tasks → s .seen t ≡ min 2 (arrivals h t)
+  pub mark : (l : ℕ) → l < T .links → (s .mark l ≡ true) ↔ ((T .delayed l ≡ true) × (had T h l < 2) × (1 ≤ s .pointer l))
+
 -- state q and numbers ns are what the published protocol gives for the events es
 pub record Published (T : Table ℕ) (es : List (Event ℕ)) (ns : List ℕ) (q : State) : Type 0 where
   -- the events could happen on one processor
@@ -45,3 +53,5 @@ pub record Published (T : Table ℕ) (es : List (Event ℕ)) (ns : List ℕ) (q 
   pub numbers : ns ≡ turned (published.numbers T run)
   -- "with at most two mailboxes more than a writer has less urgent readers"
   pub mailboxes : Mailboxes T (past [] es) (boxesIn q)
+  -- arrivals and marks, by the events
+  pub remembered : Remembered T (past [] es) (boxesIn q)

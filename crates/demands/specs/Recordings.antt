@@ -17,7 +17,8 @@ use Rattle.recording_format.specs.Task.{tasks}
 use Rattle.recording_format.specs.Link.{Link, linkSize, links, linkAt}
 use Rattle.recording_format.specs.Event.{events, encodeEvent, EventFits, sizeOf}
 use Rattle.recording_format.specs.Event as event
-use Rattle.recording_format.specs.Recording.{encodeRecording, throughE}
+use Rattle.recording_format.specs.Recording.{encodeFirst, encodeRecording, taskPlace, throughE}
+use Rattle.recording_format.specs.Outcome.{Begins}
 use Rattle.recording.specs.declared.Answer.{Answer}
 use Rattle.demands.specs.Station.{station, Keeps}
 use Rattle.demands.specs.Order.{Happen}
@@ -49,41 +50,45 @@ pub record Genuine (s out : List ℕ) (ds : List Task) (ls : List Link) (es : Li
 
 -- ---- what stands at the beginning of the bytes s, up to the place p, in order
 
--- a count of tasks, and the first tasks
+-- the first byte, a count of tasks, and the first tasks
 pub record TasksBegun (s : List ℕ) (T : ℕ) (ds : List Task) (p : ℕ) : Type 0 where
   pub few : (1 ≤ T) × (T ≤ baseRecording .tasks)
   pub fits : FitEach (tasks baseRecording) ds
-  pub bytes : Stands s 0 (encodeBegun (tasks baseRecording) T ds) p
+  pub bytes : Stands s 0 (encodeFirst baseRecording ++ encodeBegun (tasks baseRecording) T ds) p
 
--- all tasks, a count of links, and the first links, which keep the rules
+-- the first byte, all tasks, a count of links, and the first links, which keep the rules
 pub record LinksBegun (s : List ℕ) (ds : List Task) (L : ℕ) (ls : List Link) (p : ℕ) : Type 0 where
   pub few : L ≤ baseRecording .links
   pub keeps : Keeps ds ls
   pub fits : FitEach (tasks baseRecording) ds × FitEach (links baseRecording) ls
-  pub bytes : Stands s 0 (encodeSection (tasks baseRecording) ds ++ encodeBegun (links baseRecording) L ls) p
+  pub bytes : Stands s 0 (encodeFirst baseRecording ++ (encodeSection (tasks baseRecording) ds ++ encodeBegun (links baseRecording) L ls)) p
 
--- the table, a count of events, and the first events
+-- the first byte, the table, a count of events, and the first events
 pub record EventsBegun (s : List ℕ) (ds : List Task) (ls : List Link) (E : ℕ) (es : List (Event ℕ)) (p : ℕ) : Type 0 where
   pub few : E ≤ baseRecording .events
   pub keeps : Keeps ds ls
   pub fits : FitEach (tasks baseRecording) ds × (FitEach (links baseRecording) ls × FitEach (events baseRecording) es)
-  pub bytes : Stands s 0 (encodeSection (tasks baseRecording) ds ++ (encodeSection (links baseRecording) ls ++ encodeBegun (events baseRecording) E es)) p
+  pub bytes : Stands s 0 (encodeFirst baseRecording ++
+      (encodeSection (tasks baseRecording) ds ++ (encodeSection (links baseRecording) ls ++ encodeBegun (events baseRecording) E es))) p
 
--- ---- refusals whose place is in the tasks, the links or one of the three counts
+-- ---- refusals whose place is the first byte, or in the tasks, the links or one of the three counts
 
 -- `TableFault s r p`: the first fault of the bytes s has the number r and lies there, at the place p
 pub data TableFault (s : List ℕ) : ℕ → ℕ → Type 0 where
+  -- the first byte: 1 where there is none, "another first byte is 2 at 0"
+  noFirst : length s ≡ 0 → TableFault s 1 0
+  otherFirst : 1 ≤ length s → getD s 0 0 ≢ baseRecording .first → TableFault s 2 0
   -- T: 1 "the bytes end inside a count", 2 "T is 0 or above 16"
-  cutTaskCount : length s < baseRecording .taskCountWidth → TableFault s 1 0
-  badTaskCount : baseRecording .taskCountWidth ≤ length s →
-      (numberAt (baseRecording .taskCountWidth) s 0 ≡ 0) ⊎ (baseRecording .tasks < numberAt (baseRecording .taskCountWidth) s 0) → TableFault s 2 0
+  cutTaskCount : Begins baseRecording s → length s < taskPlace + baseRecording .taskCountWidth → TableFault s 1 taskPlace
+  badTaskCount : Begins baseRecording s → taskPlace + baseRecording .taskCountWidth ≤ length s →
+      (numberAt (baseRecording .taskCountWidth) s taskPlace ≡ 0) ⊎ (baseRecording .tasks < numberAt (baseRecording .taskCountWidth) s taskPlace) → TableFault s 2 taskPlace
   -- a task: 1 "the bytes end inside a .. record"
   cutTask : {T p : ℕ} {ds : List Task} → TasksBegun s T ds p → length ds < T → length s < p + baseRecording .valueWidth → TableFault s 1 p
   -- L: 1, 3 "L is above 32"
   cutLinkCount : {p : ℕ} {ds : List Task} → TasksBegun s (length ds) ds p → length s < p + baseRecording .linkCountWidth → TableFault s 1 p
   badLinkCount : {p : ℕ} {ds : List Task} → TasksBegun s (length ds) ds p → p + baseRecording .linkCountWidth ≤ length s →
       baseRecording .links < numberAt (baseRecording .linkCountWidth) s p → TableFault s 3 p
-  -- a link: "any byte missing (1), then rising order", 4 to 9
+  -- a link: "any byte missing (1), then rising order", 4 to 9, 20
   cutLink : {L p : ℕ} {ds : List Task} {ls : List Link} → LinksBegun s ds L ls p → length ls < L → length s < p + linkSize baseRecording → TableFault s 1 p
   badLink : {L p r : ℕ} {ds : List Task} {ls : List Link} → LinksBegun s ds L ls p → length ls < L → p + linkSize baseRecording ≤ length s →
       Earns (LinkBreaks ds ls (linkAt s p)) r → r ≢ 0 → TableFault s r p
@@ -98,9 +103,10 @@ fourCounts a = record { arrivals = a .arrivals; starts = a .starts; reads = a .r
 
 -- "At a refusal whose place is in the tasks, the links or one of the three counts, the state is the fresh one of a single task with default 0 and no links,
 -- all counts are 0, and the list is untouched."
+-- By our reading so too at document 02's first byte, which stands before the tasks
 pub record AtTable (s out : List ℕ) (a : Answer) (list : List ℕ) : Type 0 where
   pub fault : TableFault s (a .refusal) (a .place)
-  pub state : Makes 1 0 (0 ∷ []) [] [] [] (record { refusal = 0; state = a .state })
+  pub state : Makes 1 0 (0 ∷ []) [] [] [] [] (record { refusal = 0; state = a .state })
   pub counted : fourCounts a ≡ record { arrivals = 0; starts = 0; reads = 0; finishes = 0 }
   pub listed : list ≡ out
 

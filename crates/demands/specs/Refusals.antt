@@ -1,5 +1,5 @@
--- Refusals 2 to 9, 12 to 16 and 18, of links, tables and events: one case for each line of document 01's table, in its words; and which of those that fit is
--- given. (1, 10, 11 and 17 are the bytes': Recordings. 19 is a state that is not sound.)
+-- Refusals 2 to 9, 12 to 16, 18 and 20, of links, tables and events: one case for each line of document 01's table, and document 02's, in its words; and which of
+-- those that fit is given. (1, 2 of the first byte, 10, 11 and 17 are the bytes': Recordings. 19 is a state that is not sound.)
 -- Assumes nothing.
 use mathlib.Core.Path.{_≡_}
 use mathlib.Core.Logic.{_≢_, _⊎_}
@@ -36,6 +36,8 @@ pub data LinkBreaks (ds : List Task) (ls : List Link) (l : Link) : ℕ → Type 
   twice : (j : ℕ) → j < length ls → linkOf ls j .writer ≡ l .writer → linkOf ls j .reader ≡ l .reader → LinkBreaks ds ls l 8
   -- 9: "it is the writer's ninth link to a reader behind"
   ninth : aheadOf ds (l .writer) (l .reader) ≡ true → 8 ≤ linksBehind (aheadOf ds) (linkOf ls) (l .writer) (length ls) → LinkBreaks ds ls l 9
+  -- 20: "a direct link must carry 0 there"
+  startsDirect : l .kind ≡ 0 → l .startValue ≢ 0 → LinkBreaks ds ls l 20
 
 -- ---- a table that is handed over whole: its counts first, then the first link at fault
 pub data TableEarns (ds : List Task) (ls : List Link) : ℕ → Type 0 where
@@ -43,7 +45,7 @@ pub data TableEarns (ds : List Task) (ls : List Link) : ℕ → Type 0 where
   tasks : (length ds ≡ 0) ⊎ (base .tasks < length ds) → TableEarns ds ls 2
   -- 3: "L is above 32"
   links : 1 ≤ length ds → length ds ≤ base .tasks → base .links < length ls → TableEarns ds ls 3
-  -- 4 to 9: the links before it keep the rules
+  -- 4 to 9 and 20: the links before it keep the rules
   link : {r : ℕ} → length ls ≤ base .links → (before : List Link) (l : Link) (after : List Link) → ls ≡ before ++ (l ∷ after) → Keeps ds before →
       Earns (LinkBreaks ds before l) r → r ≢ 0 → TableEarns ds ls r
   -- 0

@@ -11,8 +11,10 @@ pub use Rattle.mailbox.specs.States.{IsWhole}
 use Rattle.mailbox.specs.declared.State.{State}
 use Rattle.demands.specs.Refusals.{Standing}
 
--- "A state is sound when its table keeps rules 2 to 9 .., `newest` and `previous` lie in 1 to N + 2, each present pointer does so for its writer, no pointer of
--- an active reader is absent, and every pointer from a writer ahead of an idle reader is absent."; and each phase is one of the three, for there is no other
+-- "A state is sound when its table keeps rules 2 to 9 and any table rule added later" (20), "`newest` and `previous` lie in 1 to N + 2, each present
+-- pointer does so for its writer, no pointer of an active reader is absent, and every pointer from a writer ahead of an idle reader is absent."; "a task
+-- without arrivals is idle; the mark stands only at present pointers" of delayed links, "and at each whose writer has had fewer than two arrivals."; and
+-- each phase, each count of arrivals (0, 1, 2) and each mark (0, 1) is one of its kind, for there is no other
 abbrev pub IsSound : State → Type 0
 IsSound q = StandsSound base (saved q)
 
@@ -20,8 +22,8 @@ IsSound q = StandsSound base (saved q)
 abbrev pub tableIn : State → Table ℕ
 tableIn q = table (aheadIn (saved q)) (saved q)
 
--- its positions, pointers and mailboxes; where no position is (a pointer that is absent is 0) the task's default stands for a mailbox, and no accepted read
--- comes there, for the pointer of an active reader is never absent
+-- its positions, pointers and mailboxes, what is seen of arrivals, and its marks; where no position is (a pointer that is absent is 0) the task's default
+-- stands for a mailbox, and no accepted read comes there, for the pointer of an active reader is never absent
 abbrev pub boxesIn : State → Boxes ℕ
 boxesIn q = boxes (saved q)
 

@@ -9,6 +9,8 @@ fn passed_on() -> Answer {
     let writer = [0u8; State::LINKS];
     let mut reader = [0u8; State::LINKS];
     reader[0] = 1;
+    // a direct link has no start value: 0 stands there. A delayed one would read its own until its writer's second arrival
+    let start_value = [0u32; State::LINKS];
     let made = State::fresh(
         2,
         1,
@@ -16,6 +18,7 @@ fn passed_on() -> Answer {
         writer,
         reader,
         [0u8; State::LINKS],
+        start_value,
     );
     let refusal = made.refusal;
     if refusal != 0 {

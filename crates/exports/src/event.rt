@@ -31,7 +31,7 @@ pub extern "C" fn parnusild_event(
     let call = ask(kind, which, value);
     let Asked::Known(e) = call else {
         *number = 0;
-        if !is_sound(tasks, links, control) {
+        if !is_sound(tasks, links, control, values) {
             return 19;
         }
         return number_of(call);

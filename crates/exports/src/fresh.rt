@@ -21,12 +21,13 @@ pub extern "C" fn parnusild_fresh(
     table_writer: &[u8; LINKS],
     table_reader: &[u8; LINKS],
     table_kind: &[u8; LINKS],
+    table_start_value: &[u32; LINKS],
     tasks: &mut usize,
     links: &mut usize,
     control: &mut [u8; CONTROL],
     values: &mut [u32; VALUES],
 ) -> u8
-    ensures { λ r. ⌜ madeAs r (stateOf (now (tasks .exit)) (now (links .exit)) (now (control .exit)) (now (values .exit))) ≡ made base (firstTasks «table_tasks» (now («table_defaults» .entry))) (firstLinks «table_links» (now («table_writer» .entry)) (now («table_reader» .entry)) (now («table_kind» .entry))) ⌝ }
+    ensures { λ r. ⌜ madeAs r (stateOf (now (tasks .exit)) (now (links .exit)) (now (control .exit)) (now (values .exit))) ≡ made base (firstTasks «table_tasks» (now («table_defaults» .entry))) (firstLinks «table_links» (now («table_writer» .entry)) (now («table_reader» .entry)) (now («table_kind» .entry)) (now («table_start_value» .entry))) ⌝ }
 {
     let made = State::fresh(
         table_tasks,
@@ -35,6 +36,7 @@ pub extern "C" fn parnusild_fresh(
         *table_writer,
         *table_reader,
         *table_kind,
+        *table_start_value,
     );
     put_state(made.state, tasks, links, control, values);
     made.refusal

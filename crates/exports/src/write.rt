@@ -13,7 +13,7 @@ pub extern "C" fn parnusild_write(
     place: &mut usize,
 ) -> u8
     ensures answer { λ r. ⌜ Wrote (now (defaults .entry)) (now (links .entry)) (now (events .entry)) (now (bytes .entry)) r (now (place .exit)) (now (bytes .exit)) ⌝ }
-    ensures numbers { λ r. ⌜ Words (now (defaults .entry)) × Words (now (events .entry)) ⌝ }
+    ensures numbers { λ r. ⌜ Words (now (defaults .entry)) × (Words (now (links .entry)) × Words (now (events .entry))) ⌝ }
 {
     let written = recording_write::write(defaults, links, events, bytes);
     *place = written.place;

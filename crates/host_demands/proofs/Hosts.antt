@@ -112,7 +112,7 @@ pub hosts : Hosts
 hosts = record {
   asks = host-asks;
   tells = host-tells;
-  fresh = λ T L D W R K r q said p h. record { answer = ap (madeAs r) (h .same) ∙ said; whole = h .whole };
+  fresh = λ T L D W R K B r q said p h. record { answer = ap (madeAs r) (h .same) ∙ said; whole = h .whole };
   event = event-is;
   unknown = unknown-is;
   replay = replay-is;

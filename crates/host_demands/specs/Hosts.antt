@@ -44,8 +44,8 @@ use Rattle.exports.proofs.rest.parnusild_rest.Reads as on-rest
 -- ---- what the contracts in the source say
 
 -- `parnusild_fresh`, lent a table: it answers r and leaves the state q
-abbrev pub HostMakes : ℕ → ℕ → List ℕ → List ℕ → List ℕ → List ℕ → ℕ → Saved → Type 0
-HostMakes T L D W R K r q = madeAs r q ≡ made base (firstTasks T D) (firstLinks L W R K)
+abbrev pub HostMakes : ℕ → ℕ → List ℕ → List ℕ → List ℕ → List ℕ → List ℕ → ℕ → Saved → Type 0
+HostMakes T L D W R K B r q = madeAs r q ≡ made base (firstTasks T D) (firstLinks L W R K B)
 
 -- `parnusild_event`, lent the state q: it answers r and the number v, and leaves the state q′
 abbrev pub HostGives : Saved → ℕ → ℕ → ℕ → ℕ → ℕ → Saved → Type 0
@@ -57,7 +57,7 @@ HostReplays s out r m cs q list = Replayed s out r m cs q list × Bytes s
 
 -- `parnusild_write`, lent the defaults ds, the numbers lw of links and ew of events, and a buffer that held `old`: it answers r at the place m and leaves `new`
 abbrev pub HostWrites : List ℕ → List ℕ → List ℕ → List ℕ → ℕ → ℕ → List ℕ → Type 0
-HostWrites ds lw ew old r m new = Wrote ds lw ew old r m new × (Words ds × Words ew)
+HostWrites ds lw ew old r m new = Wrote ds lw ew old r m new × (Words ds × (Words lw × Words ew))
 
 -- `parnusild_rest`, lent the bytes s: it answers n to the place m
 abbrev pub HostRests : List ℕ → ℕ → ℕ → Type 0
@@ -65,7 +65,7 @@ HostRests s m n = n ≡ length (drop m s)
 
 -- "Whatever .. is handed over, an answer comes back": the host's calls ask nothing of what is lent
 pub record HostAsksNothing : Type 0 where
-  pub fresh : (κs : Lfts 8) (lent : Dens κs of-fresh.ps) → on-fresh.Asked κs lent
+  pub fresh : (κs : Lfts 9) (lent : Dens κs of-fresh.ps) → on-fresh.Asked κs lent
   pub event : (κs : Lfts 3) (lent : Dens κs of-event.ps) → on-event.Asked κs lent
   pub replay : (κs : Lfts 8) (lent : Dens κs of-replay.ps) → on-replay.Asked κs lent
   pub write : (κs : Lfts 5) (lent : Dens κs of-write.ps) → on-write.Asked κs lent
@@ -101,9 +101,10 @@ pub record Untouched (before after : Arrays) : Type 0 where
 
 -- the contracts: `lent` are the arguments of a call, in their order, `left` is what the references among them hold after it
 pub record HostTells : Type 0 where
-  pub fresh : (κs : Lfts 8) (lent : Dens κs of-fresh.ps) (r : resT of-fresh.r κs .Denot) (left : AtExit (endedOf 8 of-fresh.ps of-fresh.r) κs) →
+  pub fresh : (κs : Lfts 9) (lent : Dens κs of-fresh.ps) (r : resT of-fresh.r κs .Denot) (left : AtExit (endedOf 9 of-fresh.ps of-fresh.r) κs) →
       on-fresh.Learnt κs lent r left →
-      HostMakes (lent .0) (lent .1 .0) (now (lent .1 .1 .0)) (now (lent .1 .1 .1 .0)) (now (lent .1 .1 .1 .1 .0)) (now (lent .1 .1 .1 .1 .1 .0)) r (stateIn (left .1 .1 .1 .1 .1 .1))
+      HostMakes (lent .0) (lent .1 .0) (now (lent .1 .1 .0)) (now (lent .1 .1 .1 .0)) (now (lent .1 .1 .1 .1 .0)) (now (lent .1 .1 .1 .1 .1 .0))
+      (now (lent .1 .1 .1 .1 .1 .1 .0)) r (stateIn (left .1 .1 .1 .1 .1 .1 .1))
   -- and a refusal leaves both arrays as they were lent
   pub event : (κs : Lfts 3) (lent : Dens κs of-event.ps) (r : resT of-event.r κs .Denot) (left : AtExit (endedOf 3 of-event.ps of-event.r) κs) →
       on-event.Learnt κs lent r left →
@@ -148,8 +149,8 @@ pub record Hosts : Type 0 where
   -- what the sentences below take of a call is what its contract in the source tells
   pub tells : HostTells
   -- a table handed to `parnusild_fresh` makes what it makes by `State::fresh`
-  pub fresh : (T L : ℕ) (D W R K : List ℕ) (r : ℕ) (q : Saved) → HostMakes T L D W R K r q →
-      (p : State) → Holds p q → Makes T L D W R K (record { refusal = r; state = p })
+  pub fresh : (T L : ℕ) (D W R K B : List ℕ) (r : ℕ) (q : Saved) → HostMakes T L D W R K B r q →
+      (p : State) → Holds p q → Makes T L D W R K B (record { refusal = r; state = p })
   -- an event, kinds 1 to 4, is given to the state by `parnusild_event` as by `State::event`
   pub event : (q q′ : Saved) (kind which value r v : ℕ) → HostGives q kind which value r v q′ →
       (e : Event ℕ) → HostSays kind which value e → (p p′ : State) → Holds p q → Holds p′ q′ → Gives p e (record { state = p′; answer = record { refusal = r; value = v } })

@@ -29,48 +29,51 @@ use Rattle.mailbox.specs.declared.State.{State}
 use Rattle.mailbox.specs.declared.Step.{Step}
 use Rattle.mailbox.specs.declared.Made.{Made}
 
--- the control c holds the first links of the arrays W, R and K; k is what it is judged
-module _ (T L : ℕ) (D W R K c : List ℕ) (held : cut c ≡ freshControl (firstLinks (min L (base .links)) W R K))
-    {k : ℕ} (judged : k ≡ judgedTable earlier T (linkHeld c) base L) where
-  -- where there is room for them, it holds all of them
-  held-all : L ≤ base .links → cut c ≡ freshControl (firstLinks L W R K)
-  held-all h = held ∙ ap (λ (n : ℕ). freshControl (firstLinks n W R K)) (min-eq-left h)
+-- the control c and the values v hold the first links of the arrays W, R, K and B, and v the first defaults of D; k is what they are judged
+module _ (T L : ℕ) (D W R K B c v : List ℕ) (held : cut c ≡ freshControl (firstLinks (min L (base .links)) W R K B))
+    (valued : cutValues v ≡ freshValues (firstTasks (min T (base .tasks)) D) (firstLinks (min L (base .links)) W R K B))
+    {k : ℕ} (judged : k ≡ judgedTable earlier T (linkHeld c v) base L) where
+  -- where there is room for them, they hold all of them
+  held-all : L ≤ base .links → cut c ≡ freshControl (firstLinks L W R K B)
+  held-all h = held ∙ ap (λ (n : ℕ). freshControl (firstLinks n W R K B)) (min-eq-left h)
+
+  valued-all : L ≤ base .links → cutValues v ≡ freshValues (firstTasks (min T (base .tasks)) D) (firstLinks L W R K B)
+  valued-all h = valued ∙ ap (λ (n : ℕ). freshValues (firstTasks (min T (base .tasks)) D) (firstLinks n W R K B)) (min-eq-left h)
 
   -- so the table is
-  table-judged : k ≡ judgedLists base (firstTasks T D) (firstLinks L W R K)
+  table-judged : k ≡ judgedLists base (firstTasks T D) (firstLinks L W R K B)
   table-judged =
       judged
-      ∙ judged-agrees earlier base T L (linkHeld c) (linkOf (firstLinks L W R K))
-      (λ h l i. link-held (firstLinks L W R K) c (held-all h) (omega (arith, first-links-length L W R K)) l)
-      ∙ rw (first-tasks-length T D, first-links-length L W R K)
+      ∙ judged-agrees earlier base T L (linkHeld c v) (linkOf (firstLinks L W R K B))
+      (λ h l i. link-held (firstTasks (min T (base .tasks)) D) (firstLinks L W R K B) c v (held-all h) (valued-all h) (omega (arith, first-links-length L W R K B)) l)
+      ∙ rw (first-tasks-length T D, first-links-length L W R K B)
 
-  pub made-refused : (q : State) → (k ≡ 0 → ⊥) → saved q ≡ single base → madeOf (record { refusal = k; state = q }) ≡ made base (firstTasks T D) (firstLinks L W R K)
+  pub made-refused : (q : State) → (k ≡ 0 → ⊥) → saved q ≡ single base → madeOf (record { refusal = k; state = q }) ≡ made base (firstTasks T D) (firstLinks L W R K B)
   unfolding made
   made-refused q n i =
-      let z : eqb (judgedLists base (firstTasks T D) (firstLinks L W R K)) 0 ≡ false = ne-eqb _ 0 (λ j. n (table-judged ∙ j)) in
+      let z : eqb (judgedLists base (firstTasks T D) (firstLinks L W R K B)) 0 ≡ false = ne-eqb _ 0 (λ j. n (table-judged ∙ j)) in
       rw (z, i, table-judged)
 
-  module _ (v : List ℕ) (valued : cutValues v ≡ freshValues (firstTasks (min T (base .tasks)) D)) where
-    fresh-here : k ≡ 0 → stateOf T L c v ≡ freshOf base (firstTasks T D) (firstLinks L W R K)
-    unfolding freshOf
-    fresh-here e =
-        let fits = room _ _ _ base _ (sym table-judged ∙ e) in
-        let t : T ≤ base .tasks = rw (first-tasks-length T D) at (fits .0) in
-        let l : L ≤ base .links = rw (first-links-length L W R K) at (fits .1) in
-        ap (λ (b : List (List ℕ)). fieldsOf T L b (cutValues v)) (held-all l)
-        ∙ ap (λ (b : List (List ℕ)). fieldsOf T L (freshControl (firstLinks L W R K)) b) (valued ∙ ap (λ (n : ℕ). freshValues (firstTasks n D)) (min-eq-left t))
-        ∙ ap (λ (n : ℕ). fieldsOf n L (freshControl (firstLinks L W R K)) (freshValues (firstTasks T D))) (sym (first-tasks-length T D))
-        ∙ ap (λ (n : ℕ). fieldsOf (length (firstTasks T D)) n (freshControl (firstLinks L W R K)) (freshValues (firstTasks T D))) (sym (first-links-length L W R K))
+  fresh-here : k ≡ 0 → stateOf T L c v ≡ freshOf base (firstTasks T D) (firstLinks L W R K B)
+  unfolding freshOf
+  fresh-here e =
+      let fits = room _ _ _ base _ (sym table-judged ∙ e) in
+      let t : T ≤ base .tasks = rw (first-tasks-length T D) at (fits .0) in
+      let l : L ≤ base .links = rw (first-links-length L W R K B) at (fits .1) in
+      ap (λ (b : List (List ℕ)). fieldsOf T L b (cutValues v)) (held-all l)
+      ∙ ap (λ (b : List (List ℕ)). fieldsOf T L (freshControl (firstLinks L W R K B)) b) (valued-all l ∙ ap (λ (n : ℕ). freshValues (firstTasks n D) (firstLinks L W R K B)) (min-eq-left t))
+      ∙ ap (λ (n : ℕ). fieldsOf n L (freshControl (firstLinks L W R K B)) (freshValues (firstTasks T D) (firstLinks L W R K B))) (sym (first-tasks-length T D))
+      ∙ ap (λ (n : ℕ). fieldsOf (length (firstTasks T D)) n (freshControl (firstLinks L W R K B)) (freshValues (firstTasks T D) (firstLinks L W R K B))) (sym (first-links-length L W R K B))
 
-    pub made-fresh : k ≡ 0 → madeOf (record { refusal = 0; state = record { tasks = T; links = L; control = c; values = v } }) ≡ made base (firstTasks T D) (firstLinks L W R K)
-    unfolding made
-    made-fresh e =
-        let z : eqb (judgedLists base (firstTasks T D) (firstLinks L W R K)) 0 ≡ true = eq-eqb _ 0 (sym table-judged ∙ e) in
-        rw (z, fresh-here e)
+  pub made-fresh : (q : State) → q ≡ record { tasks = T; links = L; control = c; values = v } → k ≡ 0 → madeOf (record { refusal = 0; state = q }) ≡ made base (firstTasks T D) (firstLinks L W R K B)
+  unfolding made
+  made-fresh q i e =
+      let z : eqb (judgedLists base (firstTasks T D) (firstLinks L W R K B)) 0 ≡ true = eq-eqb _ 0 (sym table-judged ∙ e) in
+      ap (λ (s : State). madeOf (record { refusal = 0; state = s })) i ∙ rw (z, fresh-here e)
 
 -- the state that a table makes is sound, whatever the numbers
-pub makes-sound : (T L : ℕ) (D W R K : List ℕ) (m : Made) → madeOf m ≡ made base (firstTasks T D) (firstLinks L W R K) → passing (m .state) ≡ true
-makes-sound T L D W R K m i = ap (λ m. testedSound base (m .state)) i ∙ made-sound base (omega arith) (firstTasks T D) (firstLinks L W R K)
+pub makes-sound : (T L : ℕ) (D W R K B : List ℕ) (m : Made) → madeOf m ≡ made base (firstTasks T D) (firstLinks L W R K B) → passing (m .state) ≡ true
+makes-sound T L D W R K B m i = ap (λ m. testedSound base (m .state)) i ∙ made-sound base (omega arith) (firstTasks T D) (firstLinks L W R K B)
 
 -- the same state is the same reply
 pub same-reply : (p q : State) {k x : ℕ} {a : Reply} → p ≡ q → reply (saved q) k x ≡ a → reply (saved p) k x ≡ a

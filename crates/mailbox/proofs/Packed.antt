@@ -27,11 +27,11 @@ packed q = record { tasks = q .tasks; links = q .links; control = joined (contro
 module _ (q : Saved) (S : Shape base q) where
   control-widths : Widths controlWidths (controlOf q)
   unfolding Widths
-  control-widths = (S .phase, (S .newest, (S .previous, (S .pointer, (S .writer, (S .reader, (S .kind, tt)))))))
+  control-widths = (S .phase, (S .newest, (S .previous, (S .seen, (S .pointer, (S .mark, (S .writer, (S .reader, (S .kind, tt)))))))))
 
   value-widths : Widths valueWidths (valuesOf q)
   unfolding Widths
-  value-widths = (S .defaults, (S .cells, tt))
+  value-widths = (S .defaults, (S .startValue, (S .cells, tt)))
 
   -- which it then is
   pub saved-packed : saved (packed q) ≡ q
@@ -85,8 +85,8 @@ given-packed q e S = subst (λ (x : Saved). Gives (packed q) e (stepTo (givenTo 
 abbrev pub madeTo : fresh.Made → Made
 madeTo m = record { refusal = m .refusal; state = packed (m .state) }
 
-pub made-to : (T L : ℕ) (D W R K : List ℕ) → Makes T L D W R K (madeTo (fresh.made base (firstTasks T D) (firstLinks L W R K)))
-made-to T L D W R K =
-    let m = fresh.made base (firstTasks T D) (firstLinks L W R K) in
-    let S : Shape base (fresh.made base (firstTasks T D) (firstLinks L W R K) .state) = made-shape base (firstTasks T D) (firstLinks L W R K) in
+pub made-to : (T L : ℕ) (D W R K B : List ℕ) → Makes T L D W R K B (madeTo (fresh.made base (firstTasks T D) (firstLinks L W R K B)))
+made-to T L D W R K B =
+    let m = fresh.made base (firstTasks T D) (firstLinks L W R K B) in
+    let S : Shape base (fresh.made base (firstTasks T D) (firstLinks L W R K B) .state) = made-shape base (firstTasks T D) (firstLinks L W R K B) in
     record { answer = λ i. record { refusal = m .refusal; state = saved-packed (m .state) S i }; whole = packed-whole (m .state) S }

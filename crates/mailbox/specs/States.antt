@@ -37,9 +37,9 @@ pub record Gives (q : State) (e : Event ℕ) (r : Step) : Type 0 where
   pub lent : IsWhole q
   pub whole : IsWhole (r .state)
 
--- `State::fresh` answers m to T tasks with the defaults D and L links with the writers W, the readers R and the kinds K
-pub record Makes (T L : ℕ) (D W R K : List ℕ) (m : Made) : Type 0 where
-  pub answer : madeOf m ≡ fresh.made base (firstTasks T D) (firstLinks L W R K)
+-- `State::fresh` answers m to T tasks with the defaults D and L links with the writers W, the readers R, the kinds K and the start values B
+pub record Makes (T L : ℕ) (D W R K B : List ℕ) (m : Made) : Type 0 where
+  pub answer : madeOf m ≡ fresh.made base (firstTasks T D) (firstLinks L W R K B)
   pub whole : IsWhole (m .state)
 
 -- whether it passes the test of soundness

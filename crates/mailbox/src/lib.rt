@@ -10,7 +10,7 @@ ghost use Rattle.protocol_state.specs.Saved.{at, base};
 ghost use Rattle.protocol_state.specs.Fresh.{single};
 ghost use Rattle.mailbox_event.specs.Plain.{plain};
 ghost use Rattle.mailbox.specs.States.{saved, IsWhole, Makes, Gives, passing, StaysSound};
-use crate::tables::control_of;
+use crate::tables::put_links;
 use crate::tables::values_of;
 use mailbox_base::numbers::EVENTS;
 use mailbox_base::numbers::LINKS;
@@ -21,11 +21,14 @@ use mailbox_layout::CELL;
 use mailbox_layout::CONTROL;
 use mailbox_layout::DEFAULT;
 use mailbox_layout::KIND;
+use mailbox_layout::MARK;
 use mailbox_layout::NEWEST;
 use mailbox_layout::PHASE;
 use mailbox_layout::POINTER;
 use mailbox_layout::PREVIOUS;
 use mailbox_layout::READER;
+use mailbox_layout::SEEN;
+use mailbox_layout::START_VALUE;
 use mailbox_layout::VALUES;
 use mailbox_layout::WRITER;
 use mailbox_layout::control_at;
@@ -71,8 +74,8 @@ impl State {
 
     pub const EVENTS: usize = EVENTS;
 
-    // The fresh state of a table: so many tasks with these defaults, so many links with these writers, readers and kinds.
-    // Refusals: 2 and 3 the counts, 4 to 9 the first link at fault; the state is then that of a single task with default 0.
+    // The fresh state of a table: so many tasks with these defaults, so many links with these writers, readers, kinds and start values.
+    // Refusals: 2 and 3 the counts, 4 to 9 and 20 the first link at fault; the state is then that of a single task with default 0.
     pub fn fresh(
         tasks: usize,
         links: usize,
@@ -80,27 +83,38 @@ impl State {
         writer: [u8; LINKS],
         reader: [u8; LINKS],
         kind: [u8; LINKS],
+        start_value: [u32; LINKS],
     ) -> Made
-        ensures answer { λ r. ⌜ Makes tasks links defaults writer reader kind r ⌝ }
+        ensures answer { λ r. ⌜ Makes tasks links defaults writer reader kind «start_value» r ⌝ }
         ensures sound { λ r. ⌜ passing (r .state) ≡ true ⌝ }
     {
-        let control = control_of(links, &writer, &reader, &kind);
-        let refusal = judge_table(tasks, links, &control);
+        let mut control = fresh_control();
+        let mut values = values_of(tasks, &defaults);
+        put_links(
+            links,
+            &writer,
+            &reader,
+            &kind,
+            &start_value,
+            &mut control,
+            &mut values,
+        );
+        let refusal = judge_table(tasks, links, &control, &values);
         if refusal != 0 {
             return Made {
                 refusal,
                 state: State::single(),
             };
         }
-        let values = values_of(tasks, &defaults);
+        let state = State {
+            tasks,
+            links,
+            control,
+            values,
+        };
         Made {
             refusal: 0,
-            state: State {
-                tasks,
-                links,
-                control,
-                values,
-            },
+            state: state.itself(),
         }
     }
 
@@ -173,7 +187,8 @@ impl State {
         ensures { λ r. ⌜ r ≡ passing self ⌝ }
     {
         let control = self.control;
-        is_sound(self.tasks, self.links, &control)
+        let values = self.values;
+        is_sound(self.tasks, self.links, &control, &values)
     }
 
     // The fresh state of a single task with default 0 and no links.
@@ -221,6 +236,14 @@ impl State {
         control_at(&control, PREVIOUS, t)
     }
 
+    // Whether it has had no, one or more arrivals: 0, 1, 2.
+    pub fn seen(self, t: usize) -> u8
+        ensures { λ r. ⌜ r ≡ at (saved self .seen) t ⌝ }
+    {
+        let control = self.control;
+        control_at(&control, SEEN, t)
+    }
+
     // The number at place `i` of the positions: position p of task t at t * 10 + p - 1.
     pub fn cells(self, i: usize) -> u32
         ensures { λ r. ⌜ r ≡ at (saved self .cells) i ⌝ }
@@ -253,11 +276,27 @@ impl State {
         control_at(&control, KIND, l)
     }
 
+    // Its start value, which it reads while it is marked; 0 of a direct link in a sound state.
+    pub fn start_value(self, l: usize) -> u32
+        ensures { λ r. ⌜ r ≡ at (saved self .startValue) l ⌝ }
+    {
+        let values = self.values;
+        value_at(&values, START_VALUE, l)
+    }
+
     // Its pointer, a position of its writer; 0: absent.
     pub fn pointer(self, l: usize) -> u8
         ensures { λ r. ⌜ r ≡ at (saved self .pointer) l ⌝ }
     {
         let control = self.control;
         control_at(&control, POINTER, l)
+    }
+
+    // Its mark: 1 where its pointer is there and the last arrival of its reader settled on its start value, else 0.
+    pub fn mark(self, l: usize) -> u8
+        ensures { λ r. ⌜ r ≡ at (saved self .mark) l ⌝ }
+    {
+        let control = self.control;
+        control_at(&control, MARK, l)
     }
 }

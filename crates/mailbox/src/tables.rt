@@ -1,7 +1,8 @@
 // The arrays of a table, in a fresh state.
 ghost use mathlib.Core.Path.{_≡_};
+ghost use mathlib.Core.List.{List, []};
 ghost use Prim.Native.Nat.{min};
-ghost use Rattle.protocol_state.specs.Records.{firstTasks, firstLinks};
+ghost use Rattle.protocol_state.specs.Records.{Task, firstTasks, firstLinks};
 ghost use Rattle.protocol_state.specs.Saved.{base};
 ghost use Rattle.mailbox_layout.specs.Layout.{cut, cutValues};
 ghost use Rattle.mailbox_layout.specs.Fresh.{freshControl, freshValues};
@@ -12,32 +13,42 @@ use mailbox_layout::CONTROL;
 use mailbox_layout::DEFAULT;
 use mailbox_layout::VALUES;
 use mailbox_layout::fresh::fill_cells;
-use mailbox_layout::fresh::fresh_control;
 use mailbox_layout::fresh::put_link;
 use mailbox_layout::put_value;
 
-// The control of the first `n` links, no more than there is room for; the slots past them hold 0.
-pub(crate) fn control_of(
+// Puts the first `n` links, no more than there is room for, into arrays without links; the slots past them hold 0.
+pub(crate) fn put_links(
     n: usize,
     writer: &[u8; LINKS],
     reader: &[u8; LINKS],
     kind: &[u8; LINKS],
-) -> [u8; CONTROL]
-    ensures { λ r. ⌜ cut r ≡ freshControl (firstLinks (min n (base .links)) (now (writer .entry)) (now (reader .entry)) (now (kind .entry))) ⌝ }
+    start_value: &[u32; LINKS],
+    control: &mut [u8; CONTROL],
+    values: &mut [u32; VALUES],
+)
+    ensures control { λ _. ⌜ (cut (now (control .entry)) ≡ freshControl [] → cut (now (control .exit)) ≡ freshControl (firstLinks (min n (base .links)) (now (writer .entry)) (now (reader .entry)) (now (kind .entry)) (now («start_value» .entry)))) ⌝ }
+    ensures values { λ _. ⌜ ((ts : List Task) → cutValues (now (values .entry)) ≡ freshValues ts [] → cutValues (now (values .exit)) ≡ freshValues ts (firstLinks (min n (base .links)) (now (writer .entry)) (now (reader .entry)) (now (kind .entry)) (now («start_value» .entry)))) ⌝ }
 {
     let end = few(n, LINKS);
-    let mut control = fresh_control();
     let mut l = 0;
     while l < end {
-        put_link(&mut control, l, writer[l], reader[l], kind[l]);
+        put_link(
+            control,
+            values,
+            l,
+            writer[l],
+            reader[l],
+            kind[l],
+            start_value[l],
+        );
         l += 1;
     }
-    control
 }
 
-// The values of the first `n` defaults, no more than there is room for: the slots past them hold 0, and each position its task's default.
+// The values of the first `n` defaults, no more than there is room for, without links: the slots past them hold 0, and each position its
+// task's default.
 pub(crate) fn values_of(n: usize, defaults: &[u32; TASKS]) -> [u32; VALUES]
-    ensures { λ r. ⌜ cutValues r ≡ freshValues (firstTasks (min n (base .tasks)) (now (defaults .entry))) ⌝ }
+    ensures { λ r. ⌜ cutValues r ≡ freshValues (firstTasks (min n (base .tasks)) (now (defaults .entry))) [] ⌝ }
 {
     let end = few(n, TASKS);
     let mut values = [0u32; VALUES];

@@ -1,15 +1,17 @@
 // What an arrival does: the writers' part, with the phases, then the readers' part.
 ghost use mathlib.Core.Path.{_≡_};
-ghost use mathlib.Core.Bool.{_&&_};
+ghost use mathlib.Core.Bool.{cond, _&&_};
 ghost use Prim.Native.Nat.{ℕ, _≤_, _<_, min};
 ghost use lib.Dec.{eqb, ltb};
 ghost use Rattle.lists.specs.Lists.{some};
 ghost use Rattle.protocol.specs.Event.{has};
+ghost use Rattle.protocol.specs.Table.{marked};
+ghost use Rattle.protocol.specs.Published.{seenOnce};
 ghost use Rattle.protocol.specs.Free.{holds, lowestFree};
-ghost use Rattle.protocol_state.specs.Saved.{at, base};
-ghost use Rattle.protocol_state.specs.Next.{aimed, arrived};
+ghost use Rattle.protocol_state.specs.Saved.{at, base, delayedKind};
+ghost use Rattle.protocol_state.specs.Next.{arrived};
 ghost use Rattle.protocol_state.specs.Records.{earlier};
-ghost use Rattle.mailbox_free.specs.Marks.{lastBit};
+ghost use Rattle.mailbox_free.specs.Bits.{lastBit};
 ghost use Rattle.mailbox_free.specs.Pattern.{AllLowest};
 ghost use Rattle.mailbox_layout.specs.Layout.{Becomes, newestIn, previousIn, pointerIn, writerIn, readerIn};
 ghost use Rattle.mailbox_arrival.specs.Arrives.{movedAt, moved, pointedAt, pointed};
@@ -20,16 +22,18 @@ use mailbox_base::numbers::LINKS;
 use mailbox_base::numbers::TASKS;
 use mailbox_base::numbers::has;
 use mailbox_base::numbers::pick;
-use mailbox_free::marks::lowest_unmarked;
-use mailbox_free::marks::mark;
+use mailbox_free::bits::lowest_outside;
+use mailbox_free::bits::taken_bit;
 use mailbox_free::table::PATTERNS;
 use mailbox_layout::CONTROL;
 use mailbox_layout::KIND;
+use mailbox_layout::MARK;
 use mailbox_layout::NEWEST;
 use mailbox_layout::PHASE;
 use mailbox_layout::POINTER;
 use mailbox_layout::PREVIOUS;
 use mailbox_layout::READER;
+use mailbox_layout::SEEN;
 use mailbox_layout::WRITER;
 use mailbox_layout::control_at;
 use mailbox_layout::put_control;
@@ -68,19 +72,19 @@ fn held(control: &[u8; CONTROL], links: usize, t: u8, p: u8) -> bool
     found
 }
 
-// The marks of the positions of task `t` that the links hold.
-fn held_marks(control: &[u8; CONTROL], links: usize, t: u8) -> u16
+// The bits of the positions of task `t` that the links hold.
+fn held_bits(control: &[u8; CONTROL], links: usize, t: u8) -> u16
     ensures { λ r. ⌜ ((p : ℕ) → p < lastBit → has r p ≡ some (holds earlier (at (writerIn (now (control .entry)))) (at (readerIn (now (control .entry)))) (at (pointerIn (now (control .entry)))) t p) links) ⌝ }
 {
-    let mut marks = 0;
+    let mut bits = 0;
     let mut l = 0;
     while l < links {
         let w = control_at(control, WRITER, l);
         let r = control_at(control, READER, l);
-        marks = mark(is_behind(w, r, t), control_at(control, POINTER, l)) | marks;
+        bits = taken_bit(is_behind(w, r, t), control_at(control, POINTER, l)) | bits;
         l += 1;
     }
-    marks
+    bits
 }
 
 // The lowest free position of task `t`, whose newest is `x`. Mostly no link holds the lowest position other than `x`, and one look at the
@@ -92,11 +96,18 @@ fn lowest_free(lowest: &[u8; PATTERNS], control: &[u8; CONTROL], links: usize, t
     if !held(control, links, t, next) {
         return next;
     }
-    lowest_unmarked(lowest, mark(true, x) | held_marks(control, links, t))
+    lowest_outside(lowest, taken_bit(true, x) | held_bits(control, links, t))
+}
+
+// One arrival more, where no, one or more (0, 1, 2) were seen.
+fn seen_once(a: u8) -> u8
+    ensures { λ r. ⌜ r ≡ seenOnce a ⌝ }
+{
+    pick(a == 0, 1, 2)
 }
 
 // The writers' part for task `t`, where it is in the set: its newest position becomes its previous, its lowest free one its newest,
-// and it is waiting.
+// one more of its arrivals is seen, and it is waiting.
 fn move_task(lowest: &[u8; PATTERNS], set: u32, t: usize, links: usize, control: &mut [u8; CONTROL])
     requires { ⌜ t < base .tasks ⌝ }
     ensures { λ _. ⌜ (AllLowest (now (lowest .entry)) → (T : ℕ) → Becomes (movedAt set t) T links (now (control .entry)) (now (control .exit))) ⌝ }
@@ -107,8 +118,10 @@ fn move_task(lowest: &[u8; PATTERNS], set: u32, t: usize, links: usize, control:
     let x = control_at(control, NEWEST, t);
     let free = lowest_free(lowest, control, links, t as u8, x);
     let phase = decide(ARRIVAL, control_at(control, PHASE, t));
+    let seen = seen_once(control_at(control, SEEN, t));
     put_control(control, PREVIOUS, t, x);
     put_control(control, NEWEST, t, free);
+    put_control(control, SEEN, t, seen);
     put_control(control, PHASE, t, phase);
 }
 
@@ -130,43 +143,47 @@ fn move_tasks(
     }
 }
 
-// What becomes of the pointer `x` of a link from `w` to `r` of kind `k`: a delayed link (1) shows the writer's previous position.
-fn pointer_at(set: u32, w: u8, r: u8, k: u8, control: &[u8; CONTROL], x: u8) -> u8
-    ensures { λ res. ⌜ res ≡ aimed set w r k (at (newestIn (now (control .entry)))) (at (previousIn (now (control .entry)))) x ⌝ }
+// Where the pointer of a link from `w` of kind `k` goes: a delayed link (1) shows the writer's previous position.
+fn aim(w: u8, k: u8, control: &[u8; CONTROL]) -> u8
+    ensures { λ r. ⌜ r ≡ cond (delayedKind k) (at (previousIn (now (control .entry))) w) (at (newestIn (now (control .entry))) w) ⌝ }
 {
-    if has(set, r as usize) {
-        pick(
-            k == 1,
-            control_at(control, PREVIOUS, w as usize),
-            control_at(control, NEWEST, w as usize),
-        )
-    } else {
-        x
-    }
+    pick(
+        k == 1,
+        control_at(control, PREVIOUS, w as usize),
+        control_at(control, NEWEST, w as usize),
+    )
 }
 
-// The readers' part for link `l`.
-fn set_pointer(set: u32, l: usize, control: &mut [u8; CONTROL])
+// The mark of a link of kind `k` whose writer has had no, one or more arrivals: a delayed link is marked before the second.
+fn mark_of(k: u8, seen: u8) -> u8
+    ensures { λ r. ⌜ r ≡ cond (marked (delayedKind k) seen) 1 0 ⌝ }
+{
+    pick((k == 1) & (seen < 2), 1, 0)
+}
+
+// The readers' part for link `l`, where its reader is in the set: its pointer, and its mark by the arrivals of its writer.
+fn point_link(set: u32, l: usize, control: &mut [u8; CONTROL])
     ensures { λ _. ⌜ ((T L : ℕ) → Becomes (pointedAt set l) T L (now (control .entry)) (now (control .exit))) ⌝ }
 {
-    let x = pointer_at(
-        set,
-        control_at(control, WRITER, l),
-        control_at(control, READER, l),
-        control_at(control, KIND, l),
-        control,
-        control_at(control, POINTER, l),
-    );
+    let r = control_at(control, READER, l);
+    if !has(set, r as usize) {
+        return;
+    }
+    let w = control_at(control, WRITER, l);
+    let k = control_at(control, KIND, l);
+    let x = aim(w, k, control);
+    let m = mark_of(k, control_at(control, SEEN, w as usize));
     put_control(control, POINTER, l, x);
+    put_control(control, MARK, l, m);
 }
 
-// The readers' part: the pointers of the links whose reader is in the set.
-fn set_pointers(set: u32, links: usize, control: &mut [u8; CONTROL])
+// The readers' part: the pointers and marks of the links whose reader is in the set.
+fn point_links(set: u32, links: usize, control: &mut [u8; CONTROL])
     ensures { λ _. ⌜ ((T L : ℕ) → Becomes (pointed set links) T L (now (control .entry)) (now (control .exit))) ⌝ }
 {
     let mut l = 0;
     while l < links {
-        set_pointer(set, l, control);
+        point_link(set, l, control);
         l += 1;
     }
 }
@@ -184,5 +201,5 @@ pub fn arrive(
 {
     let n = few(links, LINKS);
     move_tasks(lowest, set, few(tasks, TASKS), n, control);
-    set_pointers(set, n, control);
+    point_links(set, n, control);
 }

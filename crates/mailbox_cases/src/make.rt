@@ -6,11 +6,14 @@ use mailbox_base::numbers::LINKS;
 use mailbox_base::numbers::TASKS;
 use mailbox_layout::CELL;
 use mailbox_layout::KIND;
+use mailbox_layout::MARK;
 use mailbox_layout::NEWEST;
 use mailbox_layout::PHASE;
 use mailbox_layout::POINTER;
 use mailbox_layout::PREVIOUS;
 use mailbox_layout::READER;
+use mailbox_layout::SEEN;
+use mailbox_layout::START_VALUE;
 use mailbox_layout::WRITER;
 use mailbox_layout::put_control;
 use mailbox_layout::put_value;
@@ -25,6 +28,7 @@ pub struct Table {
     writer: [u8; LINKS],
     reader: [u8; LINKS],
     kind: [u8; LINKS],
+    start_value: [u32; LINKS],
 }
 
 impl Table {
@@ -36,16 +40,18 @@ impl Table {
             writer: [77u8; LINKS],
             reader: [77u8; LINKS],
             kind: [77u8; LINKS],
+            start_value: [77u32; LINKS],
         }
     }
 
     // One link more, as long as there is a slot.
-    pub(crate) fn link(mut self, w: u8, r: u8, k: u8) -> Table {
+    pub(crate) fn link(mut self, w: u8, r: u8, k: u8, v: u32) -> Table {
         let l = self.links;
         if l < LINKS {
             self.writer[l] = w;
             self.reader[l] = r;
             self.kind[l] = k;
+            self.start_value[l] = v;
             self.links = l + 1;
         }
         self
@@ -62,7 +68,16 @@ impl Table {
         let writer = self.writer;
         let reader = self.reader;
         let kind = self.kind;
-        State::fresh(self.tasks, self.links, DEFAULTS, writer, reader, kind)
+        let start_value = self.start_value;
+        State::fresh(
+            self.tasks,
+            self.links,
+            DEFAULTS,
+            writer,
+            reader,
+            kind,
+            start_value,
+        )
     }
 }
 
@@ -74,10 +89,20 @@ fn with_control(mut s: State, region: usize, i: usize, x: u8) -> State {
     s
 }
 
-// The state with `x` in the field that this letter names, at `i` where it is an array; as it is for any other letter.
-pub(crate) fn with(mut s: State, field: u8, i: usize, x: u8) -> State {
+// The same of its values.
+fn with_value(mut s: State, region: usize, i: usize, x: u32) -> State {
+    let mut values = s.values;
+    put_value(&mut values, region, i, x);
+    s.values = values;
+    s
+}
+
+// The state with `x` in the field that this letter names, at `i` where it is an array; as it is for any other letter. Of what is put into its
+// control the low byte counts.
+pub(crate) fn with(mut s: State, field: u8, i: usize, x: u32) -> State {
     let t = i % TASKS;
     let l = i % LINKS;
+    let b = (x % 256) as u8;
     match field {
         b't' => {
             s.tasks = x as usize;
@@ -87,19 +112,17 @@ pub(crate) fn with(mut s: State, field: u8, i: usize, x: u8) -> State {
             s.links = x as usize;
             s
         }
-        b'p' => with_control(s, PHASE, t, x),
-        b'n' => with_control(s, NEWEST, t, x),
-        b'o' => with_control(s, PREVIOUS, t, x),
-        b'c' => {
-            let mut values = s.values;
-            put_value(&mut values, CELL, i % CELLS, x as u32);
-            s.values = values;
-            s
-        }
-        b'w' => with_control(s, WRITER, l, x),
-        b'r' => with_control(s, READER, l, x),
-        b'k' => with_control(s, KIND, l, x),
-        b'x' => with_control(s, POINTER, l, x),
+        b'p' => with_control(s, PHASE, t, b),
+        b'n' => with_control(s, NEWEST, t, b),
+        b'o' => with_control(s, PREVIOUS, t, b),
+        b's' => with_control(s, SEEN, t, b),
+        b'c' => with_value(s, CELL, i % CELLS, x),
+        b'w' => with_control(s, WRITER, l, b),
+        b'r' => with_control(s, READER, l, b),
+        b'k' => with_control(s, KIND, l, b),
+        b'v' => with_value(s, START_VALUE, l, x),
+        b'x' => with_control(s, POINTER, l, b),
+        b'm' => with_control(s, MARK, l, b),
         _ => s,
     }
 }

@@ -12,11 +12,14 @@ pub(crate) fn entry_of(s: State, field: u8, i: usize) -> u32 {
         b'p' => s.phase(i) as u32,
         b'n' => s.newest(i) as u32,
         b'o' => s.previous(i) as u32,
+        b's' => s.seen(i) as u32,
         b'c' => s.cells(i),
         b'w' => s.writer(i) as u32,
         b'r' => s.reader(i) as u32,
         b'k' => s.kind(i) as u32,
+        b'v' => s.start_value(i),
         b'x' => s.pointer(i) as u32,
+        b'm' => s.mark(i) as u32,
         _ => 0,
     }
 }
@@ -25,7 +28,7 @@ pub(crate) fn entry_of(s: State, field: u8, i: usize) -> u32 {
 pub(crate) fn size_of(field: u8) -> usize {
     match field {
         b'c' => CELLS,
-        b'd' | b'p' | b'n' | b'o' => TASKS,
+        b'd' | b'p' | b'n' | b'o' | b's' => TASKS,
         _ => LINKS,
     }
 }
@@ -50,6 +53,7 @@ pub(crate) fn same_table(a: State, b: State) -> bool {
         & same_field(a, b, b'w')
         & same_field(a, b, b'r')
         & same_field(a, b, b'k')
+        & same_field(a, b, b'v')
 }
 
 // The fields that events change.
@@ -58,7 +62,9 @@ fn same_boxes(a: State, b: State) -> bool {
         & same_field(a, b, b'p')
         & same_field(a, b, b'n')
         & same_field(a, b, b'o')
+        & same_field(a, b, b's')
         & same_field(a, b, b'x')
+        & same_field(a, b, b'm')
 }
 
 pub(crate) fn same(a: State, b: State) -> bool {

@@ -12,9 +12,10 @@ use mailbox_event::Event;
 // Numbers have at most 19 digits; the remainder only keeps the sum from wrapping.
 const DIGITS: u64 = 1000000000000000000;
 
-// A word of a line: a letter and at most three numbers with commas between, the last one in `z`.
+// A word of a line: a letter and at most four numbers with commas between, the last one in `z`.
 pub struct Word {
     letter: u8,
+    w: u64,
     x: u64,
     y: u64,
     z: u64,
@@ -24,6 +25,7 @@ impl Word {
     fn none() -> Word {
         Word {
             letter: 0,
+            w: 0,
             x: 0,
             y: 0,
             z: 0,
@@ -35,6 +37,7 @@ impl Word {
         if self.letter == 0 {
             self.letter = c;
         } else if c == b',' {
+            self.w = self.x;
             self.x = self.y;
             self.y = self.z;
             self.z = 0;
@@ -144,29 +147,36 @@ impl Desk {
 
     // The end of a word.
     fn done(mut self) -> Desk {
-        let w = self.word;
-        let letter = w.letter;
+        let word = self.word;
+        let letter = word.letter;
         self.word = Word::none();
         match letter {
-            b'T' | b'L' | b'C' => self.tabled(w),
+            b'T' | b'L' | b'C' => self.tabled(word),
             b'M' => self.made(),
-            b'A' => self.given(Event::Arrival(number(w.z))),
-            b'S' => self.given(Event::Start(narrow(w.z))),
-            b'R' => self.given(Event::Read(narrow(w.z))),
-            b'F' => self.given(Event::Finish(narrow(w.y), number(w.z))),
+            b'A' => self.given(Event::Arrival(number(word.z))),
+            b'S' => self.given(Event::Start(narrow(word.z))),
+            b'R' => self.given(Event::Read(narrow(word.z))),
+            b'F' => self.given(Event::Finish(narrow(word.y), number(word.z))),
             b'J' => self.looked(),
-            _ => self.spoiled(w),
+            _ => self.spoiled(word),
         }
     }
 
     // The table begun anew, with one link more, or with another count.
-    fn tabled(mut self, w: Word) -> Desk {
+    fn tabled(mut self, word: Word) -> Desk {
         let t = self.table;
-        let letter = w.letter;
+        let letter = word.letter;
         match letter {
-            b'T' => self.table = Table::of(w.z as usize),
-            b'L' => self.table = t.link(narrow(w.x), narrow(w.y), narrow(w.z)),
-            _ => self.table = t.count(w.z as usize),
+            b'T' => self.table = Table::of(word.z as usize),
+            b'L' => {
+                self.table = t.link(
+                    narrow(word.w),
+                    narrow(word.x),
+                    narrow(word.y),
+                    number(word.z),
+                )
+            }
+            _ => self.table = t.count(word.z as usize),
         }
         self
     }
@@ -205,9 +215,9 @@ impl Desk {
     }
 
     // A number of the state changed.
-    fn spoiled(mut self, w: Word) -> Desk {
+    fn spoiled(mut self, word: Word) -> Desk {
         let s = self.now;
-        self.now = with(s, w.letter, w.y as usize, narrow(w.z));
+        self.now = with(s, word.letter, word.y as usize, number(word.z));
         self
     }
 }

@@ -85,31 +85,37 @@ fn entries(before: State, after: State, field: u8) {
     }
 }
 
-// Phases, newest and previous of its tasks, pointers of its links.
+// Phases, newest, previous and seen of its tasks, pointers and marks of its links.
 fn boxes(s: State) {
     list(b" phase", s, b'p', s.tasks);
     list(b" newest", s, b'n', s.tasks);
     list(b" previous", s, b'o', s.tasks);
+    list(b" seen", s, b's', s.tasks);
     list(b" pointer", s, b'x', s.links);
+    list(b" mark", s, b'm', s.links);
 }
 
-// Writers, readers and kinds of its links.
+// Writers, readers, kinds and start values of its links.
 fn ends(s: State) {
     list(b" writer", s, b'w', s.links);
     list(b" reader", s, b'r', s.links);
     list(b" kind", s, b'k', s.links);
+    list(b" start-value", s, b'v', s.links);
 }
 
-// The largest number past the counts in phase, newest, previous, writer, reader, kind and pointer.
+// The largest number past the counts in phase, newest, previous, seen, writer, reader, kind, start value, pointer and mark.
 pub(crate) fn past(s: State) {
     text(b" past");
     number(largest(s, b'p', s.tasks) as u64);
     number(largest(s, b'n', s.tasks) as u64);
     number(largest(s, b'o', s.tasks) as u64);
+    number(largest(s, b's', s.tasks) as u64);
     number(largest(s, b'w', s.links) as u64);
     number(largest(s, b'r', s.links) as u64);
     number(largest(s, b'k', s.links) as u64);
+    number(largest(s, b'v', s.links) as u64);
     number(largest(s, b'x', s.links) as u64);
+    number(largest(s, b'm', s.links) as u64);
 }
 
 // What a table made.

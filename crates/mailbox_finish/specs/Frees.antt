@@ -4,20 +4,21 @@ use Prim.Native.Nat.{ℕ}
 use lib.ListN.{set}
 use Rattle.lists.specs.Lists.{upto}
 use Rattle.protocol_state.specs.Saved.{Saved, at}
-use Rattle.protocol_state.specs.Next.{withPhase, withPointer, freedAt, phasesAfter}
+use Rattle.protocol_state.specs.Next.{withPhase, withPointer, withMark, freedAt, phasesAfter}
 use Rattle.protocol_state.specs.Records.{earlier}
 
--- as t finishes: what becomes of the pointer x of link l
+-- as t finishes: what becomes of the pointer, or of the mark, x of link l
 abbrev pub freedOn : ℕ → Saved → ℕ → ℕ → ℕ
 freedOn t q = freedAt earlier t (at (q .writer)) (at (q .reader))
 
--- the pointer of link l
+-- the pointer and the mark of link l
 abbrev pub freedOne : ℕ → ℕ → Saved → Saved
-freedOne t l q = withPointer (set (q .pointer) l (freedOn t q l (at (q .pointer) l))) q
+freedOne t l q =
+    withMark (set (q .mark) l (freedOn t q l (at (q .mark) l))) (withPointer (set (q .pointer) l (freedOn t q l (at (q .pointer) l))) q)
 
 -- and those of the first L links
 abbrev pub freedFirst : ℕ → ℕ → Saved → Saved
-freedFirst t L q = withPointer (upto (freedOn t q) L (q .pointer)) q
+freedFirst t L q = withMark (upto (freedOn t q) L (q .mark)) (withPointer (upto (freedOn t q) L (q .pointer)) q)
 
 -- the next phase of task t, at an event of kind k
 abbrev pub advanced : ℕ → ℕ → Saved → Saved

@@ -4,7 +4,7 @@ ghost use Prim.Native.Nat.{ℕ, min};
 ghost use Rattle.protocol_state.specs.Saved.{at, base};
 ghost use Rattle.protocol_state.specs.Next.{numberRead, freed, released, finished};
 ghost use Rattle.protocol_state.specs.Records.{earlier};
-ghost use Rattle.mailbox_layout.specs.Layout.{Becomes, stateOf, writerIn, pointerIn, cellsIn};
+ghost use Rattle.mailbox_layout.specs.Layout.{Becomes, stateOf, writerIn, pointerIn, markIn, startValueIn, cellsIn};
 ghost use Rattle.mailbox_finish.specs.Frees.{freedOne, freedFirst, advanced};
 use lists::few;
 use mailbox_base::decision::FINISH;
@@ -12,16 +12,19 @@ use mailbox_base::decision::decide;
 use mailbox_base::numbers::LINKS;
 use mailbox_base::numbers::pick;
 use mailbox_layout::CONTROL;
+use mailbox_layout::MARK;
 use mailbox_layout::NEWEST;
 use mailbox_layout::PHASE;
 use mailbox_layout::POINTER;
 use mailbox_layout::READER;
+use mailbox_layout::START_VALUE;
 use mailbox_layout::VALUES;
 use mailbox_layout::WRITER;
 use mailbox_layout::cell_at;
 use mailbox_layout::control_at;
 use mailbox_layout::put_cell;
 use mailbox_layout::put_control;
+use mailbox_layout::value_at;
 
 // The next phase of task `t`, at an event of this kind.
 pub fn advance(kind: usize, t: u8, control: &mut [u8; CONTROL])
@@ -32,11 +35,14 @@ pub fn advance(kind: usize, t: u8, control: &mut [u8; CONTROL])
     put_control(control, PHASE, i, next);
 }
 
-// The number that link `l` reads: the one at its pointer in its writer's positions.
+// The number that link `l` reads: its start value where it is marked, else the one at its pointer in its writer's positions.
 pub fn number_of(l: u8, control: &[u8; CONTROL], values: &[u32; VALUES]) -> u32
-    ensures { λ r. ⌜ r ≡ numberRead l (at (writerIn (now (control .entry)))) (at (pointerIn (now (control .entry)))) (at (cellsIn (now (values .entry)))) ⌝ }
+    ensures { λ r. ⌜ r ≡ numberRead l (at (writerIn (now (control .entry)))) (at (pointerIn (now (control .entry)))) (at (markIn (now (control .entry)))) (at (startValueIn (now (values .entry)))) (at (cellsIn (now (values .entry)))) ⌝ }
 {
     let i = l as usize;
+    if control_at(control, MARK, i) == 1 {
+        return value_at(values, START_VALUE, i);
+    }
     cell_at(
         values,
         control_at(control, WRITER, i),
@@ -44,42 +50,42 @@ pub fn number_of(l: u8, control: &[u8; CONTROL], values: &[u32; VALUES]) -> u32
     )
 }
 
-// What becomes of the pointer `x` of a link from `w` to `r`, as `t` finishes.
+// What becomes of the pointer or mark `x` of a link from `w` to `r`, as `t` finishes.
 fn freed_at(t: u8, w: u8, r: u8, x: u8) -> u8
     ensures { λ res. ⌜ res ≡ freed earlier t w r x ⌝ }
 {
     pick((r == t) & (w < t), 0, x)
 }
 
-// The pointer of link `l` becomes absent, if `t` reads by it from a writer ahead of it.
-fn free_pointer(t: u8, l: usize, control: &mut [u8; CONTROL])
+// The pointer of link `l` becomes absent and its mark goes, if `t` reads by it from a writer ahead of it.
+fn free_link(t: u8, l: usize, control: &mut [u8; CONTROL])
     ensures { λ _. ⌜ ((T L : ℕ) → Becomes (freedOne t l) T L (now (control .entry)) (now (control .exit))) ⌝ }
 {
-    let x = freed_at(
-        t,
-        control_at(control, WRITER, l),
-        control_at(control, READER, l),
-        control_at(control, POINTER, l),
-    );
+    let w = control_at(control, WRITER, l);
+    let r = control_at(control, READER, l);
+    let x = freed_at(t, w, r, control_at(control, POINTER, l));
+    let m = freed_at(t, w, r, control_at(control, MARK, l));
     put_control(control, POINTER, l, x);
+    put_control(control, MARK, l, m);
 }
 
-// The pointers by which `t` reads from writers ahead of it become absent.
-fn free_pointers(t: u8, links: usize, control: &mut [u8; CONTROL])
+// The pointers by which `t` reads from writers ahead of it become absent, and their marks go.
+fn free_links(t: u8, links: usize, control: &mut [u8; CONTROL])
     ensures { λ _. ⌜ ((T L : ℕ) → Becomes (freedFirst t links) T L (now (control .entry)) (now (control .exit))) ⌝ }
 {
     let mut l = 0;
     while l < links {
-        free_pointer(t, l, control);
+        free_link(t, l, control);
         l += 1;
     }
 }
 
-// What a finish that is allowed does to the control: pointers become absent, and `t` is idle. A count above the room is taken as the room.
+// What a finish that is allowed does to the control: pointers become absent, their marks go, and `t` is idle.
+// A count above the room is taken as the room.
 pub fn release(t: u8, links: usize, control: &mut [u8; CONTROL])
     ensures { λ _. ⌜ ((T : ℕ) → Becomes (released earlier t) T (min links (base .links)) (now (control .entry)) (now (control .exit))) ⌝ }
 {
-    free_pointers(t, few(links, LINKS), control);
+    free_links(t, few(links, LINKS), control);
     advance(FINISH, t, control);
 }
 

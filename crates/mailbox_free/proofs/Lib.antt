@@ -1,4 +1,4 @@
 -- Laws that the proofs cite, and what an entry says.
 pub mod Entries
-pub mod Marked
+pub mod TakenBits
 pub mod Rule

@@ -1,3 +1,3 @@
--- Patterns of taken positions, and marks on positions.
-pub mod Marks
+-- Patterns of taken positions, and their bits in a word.
+pub mod Bits
 pub mod Pattern

@@ -1,3 +1,3 @@
-// Free positions: by table from the pattern of those that are taken, and the pattern from marks.
-pub mod marks;
+// Free positions: by table from the pattern of those that are taken, and the pattern from the bits of a word.
+pub mod bits;
 pub mod table;

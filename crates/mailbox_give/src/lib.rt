@@ -27,7 +27,7 @@ pub fn give(
     ensures kept { λ r. ⌜ (r ≢ 0 → (now (control .exit) ≡ now (control .entry)) × (now (values .exit) ≡ now (values .entry))) ⌝ }
 {
     *number = 0;
-    if !is_sound(tasks, links, control) {
+    if !is_sound(tasks, links, control, values) {
         return 19;
     }
     let refusal = judge(e, tasks, links, control);

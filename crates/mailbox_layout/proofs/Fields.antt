@@ -5,8 +5,8 @@ use mathlib.Core.List.{List}
 use Prim.Native.Nat.{ℕ}
 use lib.ListN.{set}
 use Rattle.regions.specs.Regions.{regions}
-use Rattle.protocol_state.specs.Next.{withPhase, withNewest, withPrevious, withCells, withPointer}
-use Rattle.mailbox_layout.specs.Layout.{phaseRegion, newestRegion, previousRegion, pointerRegion, cellRegion, cut, cutValues, fieldsOf, stateOf}
+use Rattle.protocol_state.specs.Next.{withPhase, withNewest, withPrevious, withSeen, withCells, withPointer, withMark}
+use Rattle.mailbox_layout.specs.Layout.{phaseRegion, newestRegion, previousRegion, seenRegion, pointerRegion, markRegion, cellRegion, cut, cutValues, fieldsOf, stateOf}
 
 module _ (T L : ℕ) (c c′ v : List ℕ) where
   same : (k : ℕ) (y : List ℕ) → cut c′ ≡ set (cut c) k y → stateOf T L c′ v ≡ fieldsOf T L (set (cut c) k y) (cutValues v)
@@ -23,6 +23,14 @@ module _ (T L : ℕ) (c c′ v : List ℕ) where
   pub previous-put : {y : List ℕ} → cut c′ ≡ set (cut c) previousRegion y → stateOf T L c′ v ≡ withPrevious y (stateOf T L c v)
   unfolding regions
   previous-put {y} e = same previousRegion y e
+
+  pub seen-put : {y : List ℕ} → cut c′ ≡ set (cut c) seenRegion y → stateOf T L c′ v ≡ withSeen y (stateOf T L c v)
+  unfolding regions
+  seen-put {y} e = same seenRegion y e
+
+  pub mark-put : {y : List ℕ} → cut c′ ≡ set (cut c) markRegion y → stateOf T L c′ v ≡ withMark y (stateOf T L c v)
+  unfolding regions
+  mark-put {y} e = same markRegion y e
 
   pub pointer-put : {y : List ℕ} → cut c′ ≡ set (cut c) pointerRegion y → stateOf T L c′ v ≡ withPointer y (stateOf T L c v)
   unfolding regions

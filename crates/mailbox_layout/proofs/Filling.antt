@@ -8,7 +8,7 @@ use Rattle.lists.specs.Lists.{upto}
 use Rattle.lists.proofs.Lists.{at-bound, upto-none, upto-more}
 use Rattle.protocol_state.specs.Saved.{base, at, positions}
 use Rattle.regions.specs.Regions.{regions, region}
-use Rattle.mailbox_layout.specs.Layout.{cellRegion, previousRegion, newestRegion, defaultRegion, controlSize, cut, cutValues, defaultsIn, cellsIn}
+use Rattle.mailbox_layout.specs.Layout.{cellRegion, previousRegion, newestRegion, defaultRegion, controlSize, cut, cutValues, defaultsIn, startValueIn, cellsIn}
 use Rattle.mailbox_layout.specs.Fresh.{freshControl, withNumber, eachDefault}
 
 -- the first t tasks have the position 1
@@ -20,6 +20,8 @@ firstOnes t =
     replicate (base .tasks) 0
     ∷ ones t
     ∷ ones t
+    ∷ replicate (base .tasks) 0
+    ∷ replicate (base .links) 0
     ∷ replicate (base .links) 0
     ∷ replicate (base .links) 0
     ∷ replicate (base .links) 0
@@ -39,24 +41,24 @@ pub ones-end : (i : ℕ) {c : List (List ℕ)} → c ≡ firstOnes i → i ≤ b
 unfolding firstOnes ones upto
 ones-end i e l h = at-bound firstOnes i (base .tasks) e l h
 
--- the first i cells hold their task's default
-pub firstCells : ℕ → List ℕ → List ℕ → List (List ℕ)
-firstCells i D C = D ∷ upto (λ k x. at D (k / positions)) i C ∷ []
+-- the first i cells hold their task's default; the start values B stay
+pub firstCells : ℕ → List ℕ → List ℕ → List ℕ → List (List ℕ)
+firstCells i D B C = D ∷ B ∷ upto (λ k x. at D (k / positions)) i C ∷ []
 
 module _ (v : List ℕ) where
-  pub cells-none : cutValues v ≡ firstCells 0 (defaultsIn v) (cellsIn v)
+  pub cells-none : cutValues v ≡ firstCells 0 (defaultsIn v) (startValueIn v) (cellsIn v)
   unfolding regions firstCells
   cells-none = rw (upto-none (λ k x. at (defaultsIn v) (k / positions)) (cellsIn v))
 
-  pub cells-end : (i : ℕ) {n : List (List ℕ)} → n ≡ firstCells i (defaultsIn v) (cellsIn v) → i ≤ base .tasks * positions → base .tasks * positions ≤ i →
+  pub cells-end : (i : ℕ) {n : List (List ℕ)} → n ≡ firstCells i (defaultsIn v) (startValueIn v) (cellsIn v) → i ≤ base .tasks * positions → base .tasks * positions ≤ i →
       n ≡ set (cutValues v) cellRegion (eachDefault (defaultsIn v) (cellsIn v))
   unfolding regions firstCells
-  cells-end i e l h = at-bound (λ (k : ℕ). firstCells k (defaultsIn v) (cellsIn v)) i (base .tasks * positions) e l h
+  cells-end i e l h = at-bound (λ (k : ℕ). firstCells k (defaultsIn v) (startValueIn v) (cellsIn v)) i (base .tasks * positions) e l h
 
-pub cells-more : (i : ℕ) (D C : List ℕ) {n n′ : List (List ℕ)} {x : ℕ} → n ≡ firstCells i D C → x ≡ at (region n defaultRegion) (i / positions) → n′ ≡ withNumber cellRegion i x n →
-    n′ ≡ firstCells (i + 1) D C
+pub cells-more : (i : ℕ) (D B C : List ℕ) {n n′ : List (List ℕ)} {x : ℕ} → n ≡ firstCells i D B C → x ≡ at (region n defaultRegion) (i / positions) → n′ ≡ withNumber cellRegion i x n →
+    n′ ≡ firstCells (i + 1) D B C
 unfolding firstCells
-cells-more i D C {n} {n′} {x} e d p =
+cells-more i D B C {n} {n′} {x} e d p =
     let f : ℕ → ℕ → ℕ = λ k y. at D (k / positions) in
     let o : x ≡ at D (i / positions) = d ∙ ap (λ (rs : List (List ℕ)). at (region rs 0) (i / positions)) e in
-    p ∙ ap (withNumber cellRegion i x) e ∙ ap (λ (ys : List ℕ). D ∷ ys ∷ []) (upto-more f i C 0 refl o)
+    p ∙ ap (withNumber cellRegion i x) e ∙ ap (λ (ys : List ℕ). D ∷ B ∷ ys ∷ []) (upto-more f i C 0 refl o)

@@ -5,11 +5,12 @@ use mathlib.Core.Logic.{_≢_}
 use mathlib.Core.List.{List, [], _++_}
 use Prim.Native.Nat.{ℕ, _+_, _-_, _*_, _≤_, _<_}
 use native.Mathlib.Omega.{arith}
-use lib.ListN.{replicate, List·getD-eq-default}
+use lib.ListN.{take, drop, replicate, List·getD-eq-default}
+use lib.Seq.{drop-drop}
 use Rattle.protocol_state.specs.Saved.{base, positions}
-use Rattle.regions.specs.Regions.{start, width, extent, place}
+use Rattle.regions.specs.Regions.{regions, start, width, extent, place}
 use Rattle.regions.proofs.Regions.{start-even, start-after, width-even, width-after, place-is, place-none}
-use Rattle.mailbox_layout.specs.Layout.{byTask, byLink, controlWidths, valueWidths, controlSize, valueSize}
+use Rattle.mailbox_layout.specs.Layout.{byTask, byLink, defaultRegion, startValueRegion, cellRegion, controlWidths, valueWidths, controlSize, valueSize, cellsIn}
 
 byLinks : List ℕ
 byLinks = replicate byLink (base .links) ++ []
@@ -77,23 +78,30 @@ no-region k i h =
     let w : width controlWidths k ≡ 0 = List·getD-eq-default controlWidths 0 {n = k} h in
     sym control-extent ∙ sym (place-none controlWidths k i (omega arith))
 
--- the regions of the values: the defaults, the cells, and none past them
-module _ (k i : ℕ) where
-  pub default-place : k ≡ 0 → i < base .tasks → i ≡ place valueWidths k i
+-- the regions of the values: the defaults, the start values, the cells, and none past them
+module _ (i : ℕ) where
+  pub default-place : i < base .tasks → i ≡ place valueWidths defaultRegion i
   unfolding start
-  default-place e l = rw (e, place-is valueWidths 0 i l) (omega arith)
+  default-place l = rw (place-is valueWidths defaultRegion i l) (omega arith)
 
-  pub default-none : k ≡ 0 → base .tasks ≤ i → valueSize ≡ place valueWidths k i
-  default-none e l = rw e (sym value-extent ∙ sym (place-none valueWidths 0 i l))
-
-  pub cell-place : k ≡ 1 → i < base .tasks * positions → base .tasks + i ≡ place valueWidths k i
+  pub start-place : i < base .links → base .tasks + i ≡ place valueWidths startValueRegion i
   unfolding start
-  cell-place e l = rw (e, place-is valueWidths 1 i l) (omega arith)
+  start-place l = rw (place-is valueWidths startValueRegion i l) (omega arith)
 
-  pub cell-none : k ≡ 1 → base .tasks * positions ≤ i → valueSize ≡ place valueWidths k i
-  cell-none e l = rw e (sym value-extent ∙ sym (place-none valueWidths 1 i l))
+  pub cell-place : i < base .tasks * positions → base .tasks + base .links + i ≡ place valueWidths cellRegion i
+  unfolding start
+  cell-place l = rw (place-is valueWidths cellRegion i l) (omega arith)
 
-  pub no-values : k ≢ 0 → k ≢ 1 → valueSize ≡ place valueWidths k i
-  no-values z o =
+  -- past a region
+  pub value-none : (j k : ℕ) → k ≡ j → width valueWidths j ≤ i → valueSize ≡ place valueWidths k i
+  value-none j k e l = rw e (sym value-extent ∙ sym (place-none valueWidths j i l))
+
+  pub no-values : (k : ℕ) → k ≢ defaultRegion → k ≢ startValueRegion → k ≢ cellRegion → valueSize ≡ place valueWidths k i
+  no-values k z o c =
       let w : width valueWidths k ≡ 0 = List·getD-eq-default valueWidths 0 {n = k} (omega arith) in
-      sym value-extent ∙ sym (place-none valueWidths k i (omega arith))
+      value-none k k refl (omega arith)
+
+-- the cells are what follows the defaults and the start values
+pub cells-part : (v : List ℕ) → take (base .tasks * positions) (drop (base .tasks + base .links) v) ≡ cellsIn v
+unfolding regions
+cells-part v = ap (take (base .tasks * positions)) (sym (drop-drop (base .links) (base .tasks) v))

@@ -7,13 +7,13 @@ use lib.ListN.{length, length-map, length-append, set, replicate, List·getD-app
 use lib.Seq.{getD-append-seam}
 use Rattle.lists.specs.Lists.{upto}
 use Rattle.lists.proofs.Lists.{upto-more}
-use Rattle.protocol_state.specs.Records.{Task, defaultOf, Link, linkOf}
+use Rattle.protocol_state.specs.Records.{Task, defaultOf, Link, linkOf, linkFrom}
 use Rattle.protocol_state.specs.Saved.{base, at, positions}
 use Rattle.protocol_state.specs.Fresh.{copied}
 use Rattle.protocol_state.proofs.Records.{copied-same, column-whole}
 use Rattle.regions.specs.Regions.{regions, region}
-use Rattle.mailbox_layout.specs.Layout.{defaultRegion, cellRegion, valueSize, cut, cutValues, defaultsIn, cellsIn, linkHeld}
-use Rattle.mailbox_layout.specs.Fresh.{column, freshControl, linkPut, emptyValues, freshValues, withNumber, eachDefault}
+use Rattle.mailbox_layout.specs.Layout.{writerRegion, readerRegion, kindRegion, defaultRegion, startValueRegion, cellRegion, valueSize, cut, cutValues, defaultsIn, startValueIn, cellsIn, linkHeld}
+use Rattle.mailbox_layout.specs.Fresh.{column, freshControl, linkPut, startPut, emptyValues, freshValues, withNumber, eachDefault}
 
 -- a list copied to its room, and one number more behind it
 copied-more : (size : ℕ) (xs : List ℕ) (v : ℕ) → set (copied size (length xs) xs) (length xs) v ≡ copied size (length xs + 1) (xs ++ (v ∷ []))
@@ -36,7 +36,7 @@ pub task-put : (ts : List Task) (d : Task) {t : ℕ} {rs rs′ : List (List ℕ)
     rs′ ≡ emptyValues (ts ++ (d ∷ []))
 task-put ts d {t} e n p =
     p ∙ ap (withNumber defaultRegion t (defaultOf d)) e ∙ ap (λ (i : ℕ). withNumber defaultRegion i (defaultOf d) (emptyValues ts)) n
-    ∙ ap (λ (ys : List ℕ). ys ∷ replicate {A = ℕ} (base .tasks * positions) 0 ∷ []) (field-more (base .tasks) defaultOf ts d)
+    ∙ ap (λ (ys : List ℕ). ys ∷ replicate {A = ℕ} (base .links) 0 ∷ replicate {A = ℕ} (base .tasks * positions) 0 ∷ []) (field-more (base .tasks) defaultOf ts d)
 
 -- no task yet
 pub no-tasks : cutValues (replicate valueSize 0) ≡ emptyValues []
@@ -45,8 +45,9 @@ no-tasks = refl
 
 -- the positions filled
 pub values-filled : (ts : List Task) (v : List ℕ) {rs : List (List ℕ)} → cutValues v ≡ emptyValues ts →
-    rs ≡ set (cutValues v) cellRegion (eachDefault (defaultsIn v) (cellsIn v)) → rs ≡ freshValues ts
-values-filled ts v e p = p ∙ ap (λ (b : List (List ℕ)). set b 1 (eachDefault (region b 0) (region b 1))) e
+    rs ≡ set (cutValues v) cellRegion (eachDefault (defaultsIn v) (cellsIn v)) → rs ≡ freshValues ts []
+unfolding upto
+values-filled ts v e p = p ∙ ap (λ (b : List (List ℕ)). set b cellRegion (eachDefault (region b defaultRegion) (region b cellRegion))) e
 
 -- the link k put behind the links ls
 pub link-put : (ls : List Link) (k : Link) {l : ℕ} {rs rs′ : List (List ℕ)} → rs ≡ freshControl ls → l ≡ length ls → rs′ ≡ linkPut rs l k → rs′ ≡ freshControl (ls ++ (k ∷ []))
@@ -58,12 +59,22 @@ link-put ls k {l} e n p =
       field-more (base .links) (λ (k : Link). k .kind) ls k,
     )
 
+-- and its start value
+pub start-put : (ts : List Task) (ls : List Link) (k : Link) {l : ℕ} {rs rs′ : List (List ℕ)} → rs ≡ freshValues ts ls → l ≡ length ls → rs′ ≡ startPut rs l k →
+    rs′ ≡ freshValues ts (ls ++ (k ∷ []))
+start-put ts ls k {l} e n p =
+    p ∙ ap (λ (b : List (List ℕ)). startPut b l k) e ∙ ap (λ (i : ℕ). startPut (freshValues ts ls) i k) n
+    ∙ rw (field-more (base .links) (λ (k : Link). k .startValue) ls k)
+
 -- and link l is the one that was put
-pub link-held : (ls : List Link) (c : List ℕ) → cut c ≡ freshControl ls → length ls ≤ base .links → (l : ℕ) → linkHeld c l ≡ linkOf ls l
-link-held ls c e h l =
-    ap (λ (b : List (List ℕ)). record { writer = at (region b 4) l; reader = at (region b 5) l; kind = at (region b 6) l }) e
+pub link-held : (ts : List Task) (ls : List Link) (c v : List ℕ) → cut c ≡ freshControl ls → cutValues v ≡ freshValues ts ls → length ls ≤ base .links → (l : ℕ)
+    → linkHeld c v l ≡ linkOf ls l
+link-held ts ls c v e f h l =
+    ap (λ (b : List (List ℕ)). linkFrom (region b writerRegion) (region b readerRegion) (region b kindRegion) (startValueIn v) l) e
+    ∙ ap (λ (b : List (List ℕ)). linkFrom (column (base .links) (λ (k : Link). k .writer) ls) (column (base .links) (λ (k : Link). k .reader) ls) (column (base .links) (λ (k : Link). k .kind) ls) (region b startValueRegion) l) f
     ∙ (λ i. record {
       writer = column-whole (base .links) (λ (k : Link). k .writer) refl ls h l i;
       reader = column-whole (base .links) (λ (k : Link). k .reader) refl ls h l i;
       kind = column-whole (base .links) (λ (k : Link). k .kind) refl ls h l i;
+      startValue = column-whole (base .links) (λ (k : Link). k .startValue) refl ls h l i;
     })

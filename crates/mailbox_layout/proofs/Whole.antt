@@ -30,9 +30,12 @@ filled-shape T L c v f =
       phase = full 0;
       newest = full 1;
       previous = full 2;
-      cells = filled 1;
-      writer = full 4;
-      reader = full 5;
-      kind = full 6;
-      pointer = full 3;
+      seen = full 3;
+      cells = filled 2;
+      writer = full 6;
+      reader = full 7;
+      kind = full 8;
+      startValue = filled 1;
+      pointer = full 4;
+      mark = full 5;
     }

@@ -8,39 +8,49 @@ use Rattle.protocol_state.specs.Records.{Task, defaultOf, Link}
 use Rattle.protocol_state.specs.Saved.{base, at, positions}
 use Rattle.protocol_state.specs.Fresh.{copied, filled}
 use Rattle.regions.specs.Regions.{region}
-use Rattle.mailbox_layout.specs.Layout.{writerRegion, readerRegion, kindRegion}
+use Rattle.mailbox_layout.specs.Layout.{writerRegion, readerRegion, kindRegion, startValueRegion}
 
 -- one field of the records xs in a region of this size: 0 past them
 abbrev pub column : {A : Type 0} → ℕ → (A → ℕ) → List A → List ℕ
 column size f xs = copied size (length xs) (map f xs)
 
--- the control of a fresh state with the links ls, region by region: every task idle, newest and previous at 1, every pointer absent
+-- the control of a fresh state with the links ls, region by region: every task idle, newest and previous at 1, no arrivals; every pointer absent, no marks
 abbrev pub freshControl : List Link → List (List ℕ)
 freshControl ls =
     replicate (base .tasks) 0
     ∷ replicate (base .tasks) 1
     ∷ replicate (base .tasks) 1
+    ∷ replicate (base .tasks) 0
+    ∷ replicate (base .links) 0
     ∷ replicate (base .links) 0
     ∷ column (base .links) (λ (k : Link). k .writer) ls
     ∷ column (base .links) (λ (k : Link). k .reader) ls
     ∷ column (base .links) (λ (k : Link). k .kind) ls
     ∷ []
 
--- the values of the tasks ts before a position is filled
+-- the values of the tasks ts before a position is filled, and before any link
 abbrev pub emptyValues : List Task → List (List ℕ)
-emptyValues ts = column (base .tasks) defaultOf ts ∷ replicate (base .tasks * positions) 0 ∷ []
+emptyValues ts = column (base .tasks) defaultOf ts ∷ replicate (base .links) 0 ∷ replicate (base .tasks * positions) 0 ∷ []
 
--- and those of a fresh state: each position of a task holds its default
-abbrev pub freshValues : List Task → List (List ℕ)
-freshValues ts = column (base .tasks) defaultOf ts ∷ filled (base .tasks) (column (base .tasks) defaultOf ts) ∷ []
+-- and those of a fresh state with the links ls: each position of a task holds its default
+abbrev pub freshValues : List Task → List Link → List (List ℕ)
+freshValues ts ls =
+    column (base .tasks) defaultOf ts
+    ∷ column (base .links) (λ (k : Link). k .startValue) ls
+    ∷ filled (base .tasks) (column (base .tasks) defaultOf ts)
+    ∷ []
 
 -- with the number x at place l of region k
 abbrev pub withNumber : ℕ → ℕ → ℕ → List (List ℕ) → List (List ℕ)
 withNumber k l x rs = set rs k (set (region rs k) l x)
 
--- the link k put at place l
+-- the link k put at place l: in the control its writer, reader and kind
 abbrev pub linkPut : List (List ℕ) → ℕ → Link → List (List ℕ)
 linkPut rs l k = withNumber kindRegion l (k .kind) (withNumber readerRegion l (k .reader) (withNumber writerRegion l (k .writer) rs))
+
+-- and in the values its start value
+abbrev pub startPut : List (List ℕ) → ℕ → Link → List (List ℕ)
+startPut rs l k = withNumber startValueRegion l (k .startValue) rs
 
 -- the cells C with each position of a task holding its default D
 abbrev pub eachDefault : List ℕ → List ℕ → List ℕ

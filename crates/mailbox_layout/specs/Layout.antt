@@ -4,31 +4,31 @@ use mathlib.Core.Path.{_≡_}
 use mathlib.Core.List.{List, [], _∷_, _++_}
 use Prim.Native.Nat.{ℕ, _+_, _*_, min}
 use lib.ListN.{length, replicate}
-use Rattle.protocol_state.specs.Records.{Link}
-use Rattle.protocol_state.specs.Saved.{Saved, base, positions, at}
+use Rattle.protocol_state.specs.Records.{Link, linkFrom}
+use Rattle.protocol_state.specs.Saved.{Saved, base, positions}
 use Rattle.regions.specs.Regions.{regions, region}
 
--- so many regions of the control are by task: phase, newest, previous
+-- so many regions of the control are by task: phase, newest, previous, seen
 abbrev pub byTask : ℕ
-byTask = 3
+byTask = 4
 
--- then so many are by link: pointer, writer, reader, kind
+-- then so many are by link: pointer, mark, writer, reader, kind
 abbrev pub byLink : ℕ
-byLink = 4
+byLink = 5
 
 abbrev pub controlWidths : List ℕ
 controlWidths = replicate byTask (base .tasks) ++ (replicate byLink (base .links) ++ [])
 
--- the values: by task default; the cells
+-- the values: by task default; by link start value; the cells
 abbrev pub valueWidths : List ℕ
-valueWidths = base .tasks ∷ base .tasks * positions ∷ []
+valueWidths = base .tasks ∷ base .links ∷ base .tasks * positions ∷ []
 
 -- how many bytes and numbers these are
 abbrev pub controlSize : ℕ
 controlSize = byTask * base .tasks + byLink * base .links
 
 abbrev pub valueSize : ℕ
-valueSize = base .tasks + base .tasks * positions
+valueSize = base .tasks + base .links + base .tasks * positions
 
 -- the number of each region: of the control
 abbrev pub phaseRegion : ℕ
@@ -40,24 +40,33 @@ newestRegion = 1
 abbrev pub previousRegion : ℕ
 previousRegion = 2
 
+abbrev pub seenRegion : ℕ
+seenRegion = 3
+
 abbrev pub pointerRegion : ℕ
-pointerRegion = 3
+pointerRegion = 4
+
+abbrev pub markRegion : ℕ
+markRegion = 5
 
 abbrev pub writerRegion : ℕ
-writerRegion = 4
+writerRegion = 6
 
 abbrev pub readerRegion : ℕ
-readerRegion = 5
+readerRegion = 7
 
 abbrev pub kindRegion : ℕ
-kindRegion = 6
+kindRegion = 8
 
 -- and of the values
 abbrev pub defaultRegion : ℕ
 defaultRegion = 0
 
+abbrev pub startValueRegion : ℕ
+startValueRegion = 1
+
 abbrev pub cellRegion : ℕ
-cellRegion = 1
+cellRegion = 2
 
 -- the control and the values, cut
 abbrev pub cut : List ℕ → List (List ℕ)
@@ -79,6 +88,9 @@ previousIn c = region (cut c) previousRegion
 abbrev pub pointerIn : List ℕ → List ℕ
 pointerIn c = region (cut c) pointerRegion
 
+abbrev pub markIn : List ℕ → List ℕ
+markIn c = region (cut c) markRegion
+
 abbrev pub writerIn : List ℕ → List ℕ
 writerIn c = region (cut c) writerRegion
 
@@ -88,16 +100,19 @@ readerIn c = region (cut c) readerRegion
 abbrev pub kindIn : List ℕ → List ℕ
 kindIn c = region (cut c) kindRegion
 
--- its link l
-abbrev pub linkHeld : List ℕ → ℕ → Link
-linkHeld c l = record { writer = at (writerIn c) l; reader = at (readerIn c) l; kind = at (kindIn c) l }
-
 -- and of the values
 abbrev pub defaultsIn : List ℕ → List ℕ
 defaultsIn v = region (cutValues v) defaultRegion
 
+abbrev pub startValueIn : List ℕ → List ℕ
+startValueIn v = region (cutValues v) startValueRegion
+
 abbrev pub cellsIn : List ℕ → List ℕ
 cellsIn v = region (cutValues v) cellRegion
+
+-- the links of both
+abbrev pub linkHeld : List ℕ → List ℕ → ℕ → Link
+linkHeld c v = linkFrom (writerIn c) (readerIn c) (kindIn c) (startValueIn v)
 
 -- the saved state of T tasks and L links with these regions of control and of values
 abbrev pub fieldsOf : ℕ → ℕ → List (List ℕ) → List (List ℕ) → Saved
@@ -108,19 +123,22 @@ fieldsOf T L c v = record {
   phase = region c phaseRegion;
   newest = region c newestRegion;
   previous = region c previousRegion;
+  seen = region c seenRegion;
   cells = region v cellRegion;
   writer = region c writerRegion;
   reader = region c readerRegion;
   kind = region c kindRegion;
+  startValue = region v startValueRegion;
   pointer = region c pointerRegion;
+  mark = region c markRegion;
 }
 
 -- the regions of the control and of the values, from the fields of a state
 abbrev pub controlOf : Saved → List (List ℕ)
-controlOf q = q .phase ∷ q .newest ∷ q .previous ∷ q .pointer ∷ q .writer ∷ q .reader ∷ q .kind ∷ []
+controlOf q = q .phase ∷ q .newest ∷ q .previous ∷ q .seen ∷ q .pointer ∷ q .mark ∷ q .writer ∷ q .reader ∷ q .kind ∷ []
 
 abbrev pub valuesOf : Saved → List (List ℕ)
-valuesOf q = q .defaults ∷ q .cells ∷ []
+valuesOf q = q .defaults ∷ q .startValue ∷ q .cells ∷ []
 
 -- the saved state that the control c and the values v are
 abbrev pub stateOf : ℕ → ℕ → List ℕ → List ℕ → Saved

@@ -3,7 +3,7 @@ ghost use mathlib.Core.Path.{_≡_};
 ghost use mathlib.Core.List.{[]};
 ghost use lib.ListN.{set};
 ghost use Rattle.mailbox_layout.specs.Layout.{cellRegion, cut, cutValues, cellsIn, defaultsIn};
-ghost use Rattle.mailbox_layout.specs.Fresh.{freshControl, linkPut, eachDefault};
+ghost use Rattle.mailbox_layout.specs.Fresh.{freshControl, linkPut, startPut, eachDefault};
 use crate::CELL;
 use crate::CONTROL;
 use crate::DEFAULT;
@@ -11,6 +11,7 @@ use crate::KIND;
 use crate::NEWEST;
 use crate::PREVIOUS;
 use crate::READER;
+use crate::START_VALUE;
 use crate::VALUES;
 use crate::WRITER;
 use crate::put_control;
@@ -20,7 +21,7 @@ use mailbox_base::numbers::CELLS;
 use mailbox_base::numbers::POSITIONS;
 use mailbox_base::numbers::TASKS;
 
-// The control of a fresh state without links: newest and previous at 1, every task idle, every pointer absent.
+// The control of a fresh state without links: newest and previous at 1, every task idle and without arrivals, every pointer absent, no mark.
 pub fn fresh_control() -> [u8; CONTROL]
     ensures { λ r. ⌜ cut r ≡ freshControl [] ⌝ }
 {
@@ -34,13 +35,23 @@ pub fn fresh_control() -> [u8; CONTROL]
     control
 }
 
-// Puts link `l`: its writer, its reader and its kind.
-pub fn put_link(control: &mut [u8; CONTROL], l: usize, w: u8, r: u8, k: u8)
-    ensures { λ _. ⌜ cut (now (control .exit)) ≡ linkPut (cut (now (control .entry))) l (record { writer = w; reader = r; kind = k }) ⌝ }
+// Puts link `l`: its writer, its reader and its kind into the control, its start value into the values.
+pub fn put_link(
+    control: &mut [u8; CONTROL],
+    values: &mut [u32; VALUES],
+    l: usize,
+    w: u8,
+    r: u8,
+    k: u8,
+    v: u32,
+)
+    ensures control { λ _. ⌜ cut (now (control .exit)) ≡ linkPut (cut (now (control .entry))) l (record { writer = w; reader = r; kind = k; startValue = v }) ⌝ }
+    ensures values { λ _. ⌜ cutValues (now (values .exit)) ≡ startPut (cutValues (now (values .entry))) l (record { writer = w; reader = r; kind = k; startValue = v }) ⌝ }
 {
     put_control(control, WRITER, l, w);
     put_control(control, READER, l, r);
     put_control(control, KIND, l, k);
+    put_value(values, START_VALUE, l, v);
 }
 
 // Each position of a task holds its default.

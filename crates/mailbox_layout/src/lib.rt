@@ -1,5 +1,6 @@
-// The state of the mailboxes in two lent arrays, each cut into regions: bytes (control: phases, positions, pointers, links) and numbers of
-// 32 bits (values: defaults, mailboxes). Every access to them goes through these functions; what is above speaks of the fields of a state.
+// The state of the mailboxes in two lent arrays, each cut into regions: bytes (control: phases, positions, arrivals, pointers, marks,
+// links) and numbers of 32 bits (values: defaults, start values, mailboxes). Every access to them goes through these functions; what is
+// above speaks of the fields of a state.
 // A field more is one region here and in specs/Layout, one field of the view there, and one accessor of the state.
 ghost use mathlib.Core.Path.{_≡_};
 ghost use lib.ListN.{set};
@@ -20,30 +21,39 @@ pub const NEWEST: usize = 1;
 
 pub const PREVIOUS: usize = 2;
 
+pub const SEEN: usize = 3;
+
 // then those by link.
-pub const POINTER: usize = 3;
+pub const POINTER: usize = 4;
 
-pub const WRITER: usize = 4;
+pub const MARK: usize = 5;
 
-pub const READER: usize = 5;
+pub const WRITER: usize = 6;
 
-pub const KIND: usize = 6;
+pub const READER: usize = 7;
+
+pub const KIND: usize = 8;
 
 // How many are by task and by link.
-const BY_TASK: usize = 3;
+const BY_TASK: usize = 4;
 
-const BY_LINK: usize = 4;
+const BY_LINK: usize = 5;
 
 // The bytes of a state's control.
 pub const CONTROL: usize = BY_TASK * TASKS + BY_LINK * LINKS;
 
-// The regions of the values: by task, then the positions of all tasks.
+// The regions of the values: by task, by link, then the positions of all tasks.
 pub const DEFAULT: usize = 0;
 
-pub const CELL: usize = 1;
+pub const START_VALUE: usize = 1;
+
+pub const CELL: usize = 2;
+
+// The positions begin after the defaults and the start values.
+const CELLS_FROM: usize = TASKS + LINKS;
 
 // The numbers of a state's values.
-pub const VALUES: usize = TASKS + CELLS;
+pub const VALUES: usize = CELLS_FROM + CELLS;
 
 // Where place `i` of region `k` of the control stands, by task or by link: at the end, if there is no such place.
 fn control_place(k: usize, i: usize) -> usize
@@ -87,9 +97,13 @@ fn value_place(k: usize, i: usize) -> usize
         if i < TASKS {
             return i;
         }
+    } else if k == START_VALUE {
+        if i < LINKS {
+            return TASKS + i;
+        }
     } else if k == CELL {
         if i < CELLS {
-            return TASKS + i;
+            return CELLS_FROM + i;
         }
     }
     VALUES
@@ -126,7 +140,7 @@ pub fn cells_in(values: &[u32; VALUES]) -> &[u32]
     ensures { λ r. ⌜ now r ≡ cellsIn (now (values .entry)) ⌝ }
 {
     let all: &[u32] = values;
-    &all[TASKS..VALUES]
+    &all[CELLS_FROM..VALUES]
 }
 
 // The number at position `p` of task `t`, 0 for what is none.

@@ -1,3 +1,3 @@
-// The rules of a table, on the lent control of a state.
+// The rules of a table, on the lent arrays of a state.
 pub mod links;
 pub mod table;

@@ -1,7 +1,8 @@
-// The rules of a table, refusals 2 to 9.
+// The rules of a table, refusals 2 to 9 and 20.
 ghost use mathlib.Core.Path.{_≡_};
 ghost use mathlib.Core.Bool.{cond};
-ghost use Prim.Native.Nat.{_≤_, _<_, min};
+ghost use mathlib.Core.List.{List};
+ghost use Prim.Native.Nat.{ℕ, _≤_, _<_, min};
 ghost use lib.Dec.{eqb};
 ghost use Rattle.lists.specs.Lists.{leading};
 ghost use Rattle.protocol_state.specs.Saved.{base};
@@ -16,14 +17,19 @@ use mailbox_base::numbers::pick;
 use mailbox_layout::CONTROL;
 use mailbox_layout::KIND;
 use mailbox_layout::READER;
+use mailbox_layout::START_VALUE;
+use mailbox_layout::VALUES;
 use mailbox_layout::WRITER;
 use mailbox_layout::control_at;
+use mailbox_layout::value_at;
 
-// The refusal that a link from `w` to `r` of kind `k` earns, the lowest that applies; `twice` and `n` speak of its writer's earlier links.
-fn fault_of(tasks: usize, w: u8, r: u8, k: u8, twice: bool, n: usize) -> u8
-    ensures { λ res. ⌜ res ≡ faultOf earlier tasks (record { writer = w; reader = r; kind = k }) twice n ⌝ }
+// The refusal that a link from `w` to `r` of kind `k` with start value `v` earns, the lowest that applies; `twice` and `n` speak of its
+// writer's earlier links.
+fn fault_of(tasks: usize, w: u8, r: u8, k: u8, v: u32, twice: bool, n: usize) -> u8
+    ensures { λ res. ⌜ res ≡ faultOf earlier tasks (record { writer = w; reader = r; kind = k; startValue = v }) twice n ⌝ }
 {
-    let nine = pick((w < r) & (8 <= n), 9, 0);
+    let twenty = pick((k == 0) & !(v == 0), 20, 0);
+    let nine = pick((w < r) & (8 <= n), 9, twenty);
     let eight = pick(twice, 8, nine);
     let seven = pick((k == 0) & (r < w), 7, eight);
     let six = pick(1 < k, 6, seven);
@@ -31,19 +37,28 @@ fn fault_of(tasks: usize, w: u8, r: u8, k: u8, twice: bool, n: usize) -> u8
     pick((tasks <= w as usize) | (tasks <= r as usize), 4, five)
 }
 
-// The refusal that a link from `w` to `r` of kind `k` earns after the first `n` links, no more than there is room for.
-pub fn fault_after(tasks: usize, control: &[u8; CONTROL], n: usize, w: u8, r: u8, k: u8) -> u8
-    ensures { λ res. ⌜ res ≡ faultAfter earlier tasks (linkHeld (now (control .entry))) (min n (base .links)) (record { writer = w; reader = r; kind = k }) ⌝ }
+// The refusal that a link from `w` to `r` of kind `k` with start value `v` earns after the first `n` links, no more than there is room
+// for. Whatever start values these have, it is the same.
+pub fn fault_after(
+    tasks: usize,
+    control: &[u8; CONTROL],
+    n: usize,
+    w: u8,
+    r: u8,
+    k: u8,
+    v: u32,
+) -> u8
+    ensures { λ res. ⌜ ((b : List ℕ) → res ≡ faultAfter earlier tasks (linkHeld (now (control .entry)) b) (min n (base .links)) (record { writer = w; reader = r; kind = k; startValue = v })) ⌝ }
 {
     let twice = has_pair(control, n, w, r);
     let behind = readers_behind(control, n, w as usize);
-    fault_of(tasks, w, r, k, twice, behind)
+    fault_of(tasks, w, r, k, v, twice, behind)
 }
 
 // The refusal that link `l` earns, 0 for none.
-fn fault_at(tasks: usize, control: &[u8; CONTROL], l: usize) -> u8
+fn fault_at(tasks: usize, control: &[u8; CONTROL], values: &[u32; VALUES], l: usize) -> u8
     requires { ⌜ l < base .links ⌝ }
-    ensures { λ r. ⌜ r ≡ fault earlier tasks (linkHeld (now (control .entry))) l ⌝ }
+    ensures { λ r. ⌜ r ≡ fault earlier tasks (linkHeld (now (control .entry)) (now (values .entry))) l ⌝ }
 {
     fault_after(
         tasks,
@@ -52,34 +67,46 @@ fn fault_at(tasks: usize, control: &[u8; CONTROL], l: usize) -> u8
         control_at(control, WRITER, l),
         control_at(control, READER, l),
         control_at(control, KIND, l),
+        value_at(values, START_VALUE, l),
     )
 }
 
 // The first fault: `before` where there is one, else that of link `l`.
-fn fault_or(before: u8, tasks: usize, control: &[u8; CONTROL], l: usize) -> u8
+fn fault_or(
+    before: u8,
+    tasks: usize,
+    control: &[u8; CONTROL],
+    values: &[u32; VALUES],
+    l: usize,
+) -> u8
     requires { ⌜ l < base .links ⌝ }
-    ensures { λ r. ⌜ r ≡ cond (eqb before 0) (fault earlier tasks (linkHeld (now (control .entry))) l) before ⌝ }
+    ensures { λ r. ⌜ r ≡ cond (eqb before 0) (fault earlier tasks (linkHeld (now (control .entry)) (now (values .entry))) l) before ⌝ }
 {
-    pick(before == 0, fault_at(tasks, control, l), before)
+    pick(before == 0, fault_at(tasks, control, values, l), before)
 }
 
 // The refusal of the first link at fault, 0 for none.
-fn first_fault(tasks: usize, links: usize, control: &[u8; CONTROL]) -> u8
+fn first_fault(tasks: usize, links: usize, control: &[u8; CONTROL], values: &[u32; VALUES]) -> u8
     requires { ⌜ links ≤ base .links ⌝ }
-    ensures { λ r. ⌜ r ≡ leading (fault earlier tasks (linkHeld (now (control .entry)))) links ⌝ }
+    ensures { λ r. ⌜ r ≡ leading (fault earlier tasks (linkHeld (now (control .entry)) (now (values .entry)))) links ⌝ }
 {
     let mut found: u8 = 0;
     let mut l = 0;
     while l < links {
-        found = fault_or(found, tasks, control, l);
+        found = fault_or(found, tasks, control, values, l);
         l += 1;
     }
     found
 }
 
 // The refusal that a table earns, 0 for none: its counts, then the first link at fault.
-pub fn judge_table(tasks: usize, links: usize, control: &[u8; CONTROL]) -> u8
-    ensures { λ r. ⌜ r ≡ judgedTable earlier tasks (linkHeld (now (control .entry))) base links ⌝ }
+pub fn judge_table(
+    tasks: usize,
+    links: usize,
+    control: &[u8; CONTROL],
+    values: &[u32; VALUES],
+) -> u8
+    ensures { λ r. ⌜ r ≡ judgedTable earlier tasks (linkHeld (now (control .entry)) (now (values .entry))) base links ⌝ }
 {
     if (tasks == 0) | (TASKS < tasks) {
         return 2;
@@ -87,5 +114,5 @@ pub fn judge_table(tasks: usize, links: usize, control: &[u8; CONTROL]) -> u8
     if LINKS < links {
         return 3;
     }
-    first_fault(tasks, links, control)
+    first_fault(tasks, links, control, values)
 }

@@ -1,19 +1,23 @@
-// Soundness of a state, on its lent control: what refusal 19 tests.
+// Soundness of a state, on its lent arrays: what refusal 19 tests.
 ghost use mathlib.Core.Path.{_≡_};
 ghost use mathlib.Core.Bool.{cond};
 ghost use mathlib.Core.List.{List};
 ghost use Prim.Native.Nat.{ℕ, _≤_};
 ghost use Rattle.lists.specs.Lists.{every};
 ghost use Rattle.protocol_state.specs.Saved.{base};
-ghost use Rattle.protocol_state.specs.Sound.{within, taskIs, taskOk, pointerIs, pointerOk, isSound};
+ghost use Rattle.protocol_state.specs.Sound.{within, taskIs, seenIs, markIs, taskOk, pointerIs, pointerOk, markOk, taskStands, linkStands, isSound};
 ghost use Rattle.protocol_state.specs.Records.{earlier};
 ghost use Rattle.mailbox_layout.specs.Layout.{stateOf};
 use mailbox_layout::CONTROL;
+use mailbox_layout::KIND;
+use mailbox_layout::MARK;
 use mailbox_layout::NEWEST;
 use mailbox_layout::PHASE;
 use mailbox_layout::POINTER;
 use mailbox_layout::PREVIOUS;
 use mailbox_layout::READER;
+use mailbox_layout::SEEN;
+use mailbox_layout::VALUES;
 use mailbox_layout::WRITER;
 use mailbox_layout::control_at;
 use mailbox_rules::links::readers_behind;
@@ -35,7 +39,14 @@ fn task_is(phase: u8, newest: u8, previous: u8, n: usize) -> bool
     (phase < 3) & (is_within(n, newest) & is_within(n, previous))
 }
 
-// Whether task `t` is as it may be: its links to readers behind are counted.
+// Whether a task with this phase may have had so many arrivals: no, one or more (0, 1, 2), and without any it is idle.
+fn seen_is(phase: u8, seen: u8) -> bool
+    ensures { λ r. ⌜ r ≡ seenIs phase seen ⌝ }
+{
+    (seen < 3) & (!(seen == 0) | (phase == 0))
+}
+
+// Whether task `t` has a phase and positions that it may have: its links to readers behind are counted.
 fn task_ok(links: usize, control: &[u8; CONTROL], t: usize) -> bool
     requires { ⌜ links ≤ base .links ⌝ }
     ensures { λ r. ⌜ ((T : ℕ) (v : List ℕ) → r ≡ taskOk earlier (stateOf T links (now (control .entry)) v) t) ⌝ }
@@ -49,15 +60,24 @@ fn task_ok(links: usize, control: &[u8; CONTROL], t: usize) -> bool
     )
 }
 
-// Whether each task is as it may be.
-fn tasks_ok(tasks: usize, links: usize, control: &[u8; CONTROL]) -> bool
+// Whether task `t` is as it may be.
+fn task_stands(links: usize, control: &[u8; CONTROL], t: usize) -> bool
     requires { ⌜ links ≤ base .links ⌝ }
-    ensures { λ r. ⌜ ((T : ℕ) (v : List ℕ) → r ≡ every (taskOk earlier (stateOf T links (now (control .entry)) v)) tasks) ⌝ }
+    ensures { λ r. ⌜ ((T : ℕ) (v : List ℕ) → r ≡ taskStands earlier (stateOf T links (now (control .entry)) v) t) ⌝ }
+{
+    let seen_stands = seen_is(control_at(control, PHASE, t), control_at(control, SEEN, t));
+    task_ok(links, control, t) & seen_stands
+}
+
+// Whether each task is as it may be.
+fn tasks_stand(tasks: usize, links: usize, control: &[u8; CONTROL]) -> bool
+    requires { ⌜ links ≤ base .links ⌝ }
+    ensures { λ r. ⌜ ((T : ℕ) (v : List ℕ) → r ≡ every (taskStands earlier (stateOf T links (now (control .entry)) v)) tasks) ⌝ }
 {
     let mut ok = true;
     let mut t = 0;
     while t < tasks {
-        ok = task_ok(links, control, t) & ok;
+        ok = task_stands(links, control, t) & ok;
         t += 1;
     }
     ok
@@ -91,29 +111,64 @@ fn pointer_ok(links: usize, control: &[u8; CONTROL], l: usize) -> bool
     pointer_is(w, r, control_at(control, POINTER, l), phase, n)
 }
 
-// Whether each pointer is as it may be.
-fn pointers_ok(links: usize, control: &[u8; CONTROL]) -> bool
+// Whether a link of kind `k` with pointer `y` may have the mark `m`, where its writer has had so many arrivals: at a present pointer of a
+// delayed link a mark until the writer's second arrival, and from then on either; elsewhere none.
+fn mark_is(k: u8, y: u8, seen: u8, m: u8) -> bool
+    ensures { λ r. ⌜ r ≡ markIs k y seen m ⌝ }
+{
+    pick_test(
+        (k == 1) & (1 <= y),
+        pick_test(seen < 2, m == 1, m <= 1),
+        m == 0,
+    )
+}
+
+// Whether link `l` has a mark that it may have: its writer's arrivals are looked up.
+fn mark_ok(control: &[u8; CONTROL], l: usize) -> bool
+    ensures { λ r. ⌜ ((T L : ℕ) (v : List ℕ) → r ≡ markOk (stateOf T L (now (control .entry)) v) l) ⌝ }
+{
+    let w = control_at(control, WRITER, l);
+    let seen = control_at(control, SEEN, w as usize);
+    mark_is(
+        control_at(control, KIND, l),
+        control_at(control, POINTER, l),
+        seen,
+        control_at(control, MARK, l),
+    )
+}
+
+// Whether link `l` is as it may be.
+fn link_stands(links: usize, control: &[u8; CONTROL], l: usize) -> bool
     requires { ⌜ links ≤ base .links ⌝ }
-    ensures { λ r. ⌜ ((T : ℕ) (v : List ℕ) → r ≡ every (pointerOk earlier (stateOf T links (now (control .entry)) v)) links) ⌝ }
+    ensures { λ r. ⌜ ((T : ℕ) (v : List ℕ) → r ≡ linkStands earlier (stateOf T links (now (control .entry)) v) l) ⌝ }
+{
+    let mark_stands = mark_ok(control, l);
+    pointer_ok(links, control, l) & mark_stands
+}
+
+// Whether each link is as it may be.
+fn links_stand(links: usize, control: &[u8; CONTROL]) -> bool
+    requires { ⌜ links ≤ base .links ⌝ }
+    ensures { λ r. ⌜ ((T : ℕ) (v : List ℕ) → r ≡ every (linkStands earlier (stateOf T links (now (control .entry)) v)) links) ⌝ }
 {
     let mut ok = true;
     let mut l = 0;
     while l < links {
-        ok = pointer_ok(links, control, l) & ok;
+        ok = link_stands(links, control, l) & ok;
         l += 1;
     }
     ok
 }
 
-// Whether a state with this control is sound: its table keeps the rules, and each task and each pointer is as it may be.
-pub fn is_sound(tasks: usize, links: usize, control: &[u8; CONTROL]) -> bool
-    ensures { λ r. ⌜ ((v : List ℕ) → r ≡ isSound earlier base (stateOf tasks links (now (control .entry)) v)) ⌝ }
+// Whether a state is sound: its table keeps the rules, and each task and each link is as it may be.
+pub fn is_sound(tasks: usize, links: usize, control: &[u8; CONTROL], values: &[u32; VALUES]) -> bool
+    ensures { λ r. ⌜ r ≡ isSound earlier base (stateOf tasks links (now (control .entry)) (now (values .entry))) ⌝ }
 {
-    let refusal = judge_table(tasks, links, control);
+    let refusal = judge_table(tasks, links, control, values);
     if refusal != 0 {
         return false;
     }
-    let a = tasks_ok(tasks, links, control);
-    let b = pointers_ok(links, control);
+    let a = tasks_stand(tasks, links, control);
+    let b = links_stand(links, control);
     a & b
 }

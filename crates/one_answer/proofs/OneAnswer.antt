@@ -99,7 +99,7 @@ one-step {q} {e} {a} {b} x y =
       answer = record { refusal = r i .refusal; value = r i .value };
     }
 
-one-made : {T L : ℕ} {D W R K : List ℕ} (a b : Made) → Makes T L D W R K a → Makes T L D W R K b → a ≡ b
+one-made : {T L : ℕ} {D W R K B : List ℕ} (a b : Made) → Makes T L D W R K B a → Makes T L D W R K B b → a ≡ b
 one-made a b x y =
     let m = same (x .answer) (y .answer) in
     λ i. record { refusal = m i .refusal; state = saved-same (a .state) (b .state) (x .whole) (y .whole) (ap (λ (s : fresh.Made). s .state) m) i }
@@ -132,11 +132,14 @@ one-answer = record {
   state-phase = λ κs lent a b left left′ x y. same x y;
   state-newest = λ κs lent a b left left′ x y. same x y;
   state-previous = λ κs lent a b left left′ x y. same x y;
+  state-seen = λ κs lent a b left left′ x y. same x y;
   state-cells = λ κs lent a b left left′ x y. same x y;
   state-writer = λ κs lent a b left left′ x y. same x y;
   state-reader = λ κs lent a b left left′ x y. same x y;
   state-kind = λ κs lent a b left left′ x y. same x y;
+  state-start-value = λ κs lent a b left left′ x y. same x y;
   state-pointer = λ κs lent a b left left′ x y. same x y;
+  state-mark = λ κs lent a b left left′ x y. same x y;
   replay = λ κs lent a b left left′ x y. let e = reply-parts (x .1 .0) (y .1 .0) (same (x .0) (y .0)) in λ i. (e .0 i, e .1 i);
   rest = λ κs lent a b left left′ x y. same x y;
   read-event = λ κs lent a b left left′ x y. one-next a b (same x y);

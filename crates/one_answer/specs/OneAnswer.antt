@@ -47,6 +47,8 @@ use Rattle.mailbox.proofs.State.newest.Kinds as of-state-newest
 use Rattle.mailbox.proofs.State.newest.Reads as on-state-newest
 use Rattle.mailbox.proofs.State.previous.Kinds as of-state-previous
 use Rattle.mailbox.proofs.State.previous.Reads as on-state-previous
+use Rattle.mailbox.proofs.State.seen.Kinds as of-state-seen
+use Rattle.mailbox.proofs.State.seen.Reads as on-state-seen
 use Rattle.mailbox.proofs.State.cells.Kinds as of-state-cells
 use Rattle.mailbox.proofs.State.cells.Reads as on-state-cells
 use Rattle.mailbox.proofs.State.writer.Kinds as of-state-writer
@@ -55,8 +57,12 @@ use Rattle.mailbox.proofs.State.reader.Kinds as of-state-reader
 use Rattle.mailbox.proofs.State.reader.Reads as on-state-reader
 use Rattle.mailbox.proofs.State.kind.Kinds as of-state-kind
 use Rattle.mailbox.proofs.State.kind.Reads as on-state-kind
+use Rattle.mailbox.proofs.State.start_value.Kinds as of-state-start-value
+use Rattle.mailbox.proofs.State.start_value.Reads as on-state-start-value
 use Rattle.mailbox.proofs.State.pointer.Kinds as of-state-pointer
 use Rattle.mailbox.proofs.State.pointer.Reads as on-state-pointer
+use Rattle.mailbox.proofs.State.mark.Kinds as of-state-mark
+use Rattle.mailbox.proofs.State.mark.Reads as on-state-mark
 use Rattle.mailbox.proofs.State.itself.Kinds as of-itself
 use Rattle.mailbox.proofs.State.itself.Reads as on-itself
 use Rattle.recording.proofs.replay.Kinds as of-replay
@@ -120,11 +126,14 @@ pub record OneAnswer : Type 0 where
   pub state-phase : One 0 of-state-phase.ps of-state-phase.r on-state-phase.Learnt ℕ (λ κs n left. n)
   pub state-newest : One 0 of-state-newest.ps of-state-newest.r on-state-newest.Learnt ℕ (λ κs n left. n)
   pub state-previous : One 0 of-state-previous.ps of-state-previous.r on-state-previous.Learnt ℕ (λ κs n left. n)
+  pub state-seen : One 0 of-state-seen.ps of-state-seen.r on-state-seen.Learnt ℕ (λ κs n left. n)
   pub state-cells : One 0 of-state-cells.ps of-state-cells.r on-state-cells.Learnt ℕ (λ κs n left. n)
   pub state-writer : One 0 of-state-writer.ps of-state-writer.r on-state-writer.Learnt ℕ (λ κs n left. n)
   pub state-reader : One 0 of-state-reader.ps of-state-reader.r on-state-reader.Learnt ℕ (λ κs n left. n)
   pub state-kind : One 0 of-state-kind.ps of-state-kind.r on-state-kind.Learnt ℕ (λ κs n left. n)
+  pub state-start-value : One 0 of-state-start-value.ps of-state-start-value.r on-state-start-value.Learnt ℕ (λ κs n left. n)
   pub state-pointer : One 0 of-state-pointer.ps of-state-pointer.r on-state-pointer.Learnt ℕ (λ κs n left. n)
+  pub state-mark : One 0 of-state-mark.ps of-state-mark.r on-state-mark.Learnt ℕ (λ κs n left. n)
   -- `recording`: the answer, and the lent list; a part of the recording by its bytes
   pub replay : One 2 of-replay.ps of-replay.r on-replay.Learnt (Answer × List ℕ) (λ κs a left. (a, now (left .1 .0)))
   pub rest : One 1 of-rest.ps of-rest.r on-rest.Learnt (List ℕ) (λ κs part left. now part)
@@ -151,7 +160,7 @@ pub record OneAnswer : Type 0 where
   -- `recording_make`: the answer, and the lent buffer
   pub make-recording : One 2 of-make-recording.ps of-make-recording.r on-make-recording.Learnt (make.Made × List ℕ) (λ κs a left. (a, now (left .1 .0)))
   -- what hosts link: the refusal, and all that is lent to be changed; of a state, what its arrays hold
-  pub host-fresh : One 8 of-host-fresh.ps of-host-fresh.r on-host-fresh.Learnt (ℕ × Saved) (λ κs r left. (r, stateIn (left .1 .1 .1 .1 .1 .1)))
+  pub host-fresh : One 9 of-host-fresh.ps of-host-fresh.r on-host-fresh.Learnt (ℕ × Saved) (λ κs r left. (r, stateIn (left .1 .1 .1 .1 .1 .1 .1)))
   pub host-event : One 3 of-host-event.ps of-host-event.r on-host-event.Learnt (ℕ × (ℕ × Saved)) (λ κs r left. (r, (now (left .1 .1 .1 .0), stateWith 0 0 (left .1 .1 .1 .1 .1 .1))))
   pub host-replay : One 8 of-host-replay.ps of-host-replay.r on-host-replay.Learnt (ℕ × (ℕ × (List ℕ × (Saved × List ℕ)))) (λ κs r left. (r, (now (left .1 .1 .0), (now (left .1 .1 .1 .0), (stateIn (left .1 .1 .1 .1), now (left .1 .0))))))
   pub host-write : One 5 of-host-write.ps of-host-write.r on-host-write.Learnt (ℕ × (ℕ × List ℕ)) (λ κs r left. (r, (now (left .1 .1 .1 .1 .0), now (left .1 .1 .1 .0))))

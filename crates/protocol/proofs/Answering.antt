@@ -29,7 +29,7 @@ module _ {Val : Type 0} (policy : Table Val → Policy Val) (A : Answerer Val) (
     answers-dues (arrival m ∷ h) P = answers-dues h (P .1)
     answers-dues (start t ∷ h) P = answers-dues h (P .1)
     answers-dues (read l ∷ h) P =
-        rw (D .number T L h (P .1) l (P .0), zero-time T (policy T) L F (lowest-only T) (answers-run h (P .1)) (P .1) (P .0) .0, answers-dues h (P .1))
+        rw (D .number T L h (P .1) l (P .0), zero-time T (policy T) L F (lowest-only T) (answers-run h (P .1)) (P .1) l (P .0) .0, answers-dues h (P .1))
     answers-dues (finish t v ∷ h) P = answers-dues h (P .1)
 
     -- so they are the closed form's

@@ -8,15 +8,15 @@ use Prim.Native.Nat.{ℕ, zero, suc, _<_}
 use lib.Dec.{eqb}
 use Rattle.protocol.specs.Event.{has}
 use Rattle.protocol.specs.Given.{Given, there}
-use Rattle.protocol.specs.Table.{Table, startOf}
+use Rattle.protocol.specs.Table.{Table, early, startOf}
 use Rattle.protocol.specs.History.{tick}
-use Rattle.protocol.specs.ZeroTime.{runOf, early}
+use Rattle.protocol.specs.ZeroTime.{runOf}
 use Rattle.protocol.specs.Instant.{LogEntry}
 
 -- how often task t arrived, by the arrival sets
-unfoldable pub seen : List ℕ → ℕ → ℕ
-seen [] t = 0
-seen (m ∷ ms) t = tick (has m t) (seen ms t)
+unfoldable pub arrivalsIn : List ℕ → ℕ → ℕ
+arrivalsIn [] t = 0
+arrivalsIn (m ∷ ms) t = tick (has m t) (arrivalsIn ms t)
 
 -- the sets hold tasks of the table only
 unfoldable pub Known : ℕ → List ℕ → Type 0
@@ -30,11 +30,11 @@ module _ {Val : Type 0} (T : Table Val) (out : ℕ → ℕ → Given Val) where
 
   -- after the arrivals ms
   abbrev pub told : List ℕ → ℕ → Given Val
-  told ms l = gives l (seen ms (T .writer l))
+  told ms l = gives l (arrivalsIn ms (T .writer l))
 
   -- task t's read by link l after the arrivals ms
   abbrev pub entry : List ℕ → ℕ → ℕ → LogEntry Val
-  entry ms t l = record { job = seen ms t; link = l; given = told ms l }
+  entry ms t l = record { job = arrivalsIn ms t; link = l; given = told ms l }
 
   -- task t reads those of the first n links that are its own
   unfoldable pub closed-reads : List ℕ → ℕ → ℕ → List (LogEntry Val) → List (LogEntry Val)

@@ -4,17 +4,24 @@ use mathlib.Core.Path.{_≡_, refl}
 use mathlib.Core.Logic.{_≢_}
 use mathlib.Core.Bool.{Bool, true, false, cond}
 use mathlib.Core.List.{List, [], _∷_}
-use Prim.Native.Nat.{ℕ, suc, _≤_, _<_}
+use Prim.Native.Nat.{ℕ, suc, pred, _≤_, _<_}
 use native.Mathlib.Omega.{arith}
 use native.Mathlib.Decide.{ℕ-discrete}
-use borrow.Author.Tests.{eq-eqb, ne-eqb}
+use borrow.Author.Tests.{eq-eqb, ne-eqb, ltb-false}
 use Rattle.protocol.specs.Given.{there, missing}
+use Rattle.protocol.specs.Table.{early}
 use Rattle.protocol.specs.Event.{Event, arrival, start, read, finish, has}
 use Rattle.protocol.specs.History.{arrivals, starts, finishes, clock, upTo, output, stamp}
+use Rattle.protocol.specs.ZeroTime.{runOf}
 
 -- an output is not nothing
 pub there-there : {Val : Type 0} (v : Val) → there v ≡ missing → ⊥
 there-there v e = let z : _≡_ {A = ℕ} 0 1 = cc in omega arith
+
+-- where it is not early, a run is asked for, and no run has the number 0
+pub runOf-some : (b : Bool) (n : ℕ) → early b n ≡ false → 1 ≤ runOf b n
+runOf-some true n e = let q : 1 ≤ pred n = omega (arith, ltb-false n _ e) in q
+runOf-some false n e = let q : 1 ≤ n = omega (arith, ltb-false n _ e) in q
 
 module _ {Val : Type 0} (h : List (Event Val)) where
   pub arrivals-in : (m t : ℕ) → has m t ≡ true → arrivals (arrival m ∷ h) t ≡ suc (arrivals h t)

@@ -8,8 +8,8 @@ use borrow.Author.Tests.{lt-ltb, eq-eqb, ne-eqb}
 use lib.Dec.{eqb, ltb}
 use Rattle.lists.proofs.Bools.{and-if}
 use Rattle.protocol.specs.Event.{has}
-use Rattle.protocol.specs.Table.{Table, behind}
-use Rattle.protocol.specs.Published.{Boxes, Choice, Arrived, Finished}
+use Rattle.protocol.specs.Table.{Table, behind, marks}
+use Rattle.protocol.specs.Published.{Boxes, seenOnce, Choice, Arrived, Finished}
 
 module _ {Val : Type 0} (T : Table Val) where
   module _ {choice : Choice Val} {m : ℕ} {s s′ : Boxes Val} (A : Arrived T choice m s s′) where
@@ -20,6 +20,14 @@ module _ {Val : Type 0} (T : Table Val) where
     -- who does not arrive keeps it
     pub previous-out : (t : ℕ) → has m t ≡ false → s′ .previous t ≡ s .previous t
     previous-out t e = rw (A .previous t, e)
+
+    -- one more arrival of who arrives is seen
+    pub seen-in : (t : ℕ) → has m t ≡ true → s′ .seen t ≡ seenOnce (s .seen t)
+    seen-in t e = rw (A .seen t, e)
+
+    -- and none of who does not
+    pub seen-out : (t : ℕ) → has m t ≡ false → s′ .seen t ≡ s .seen t
+    seen-out t e = rw (A .seen t, e)
 
     -- an arriving reader's direct link points to its writer's newest position
     pub pointer-direct : (l : ℕ) → l < T .links → has m (T .reader l) ≡ true → T .delayed l ≡ false → s′ .pointer l ≡ s′ .newest (T .writer l)
@@ -32,6 +40,14 @@ module _ {Val : Type 0} (T : Table Val) where
     -- the link of a reader that does not arrive keeps its pointer
     pub pointer-out : (l : ℕ) → has m (T .reader l) ≡ false → s′ .pointer l ≡ s .pointer l
     pointer-out l e = rw (A .pointer l, and-if (ltb l (T .links)) (has m (T .reader l)) (λ k. e))
+
+    -- an arriving reader's link is marked by its writer's arrivals
+    pub mark-in : (l : ℕ) → l < T .links → has m (T .reader l) ≡ true → s′ .mark l ≡ marks T l (s′ .seen (T .writer l))
+    mark-in l k e = rw (A .mark l, lt-ltb l (T .links) k, e)
+
+    -- the link of a reader that does not arrive keeps its mark
+    pub mark-out : (l : ℕ) → has m (T .reader l) ≡ false → s′ .mark l ≡ s .mark l
+    mark-out l e = rw (A .mark l, and-if (ltb l (T .links)) (has m (T .reader l)) (λ k. e))
 
   module _ {t : ℕ} {v : Val} {s s′ : Boxes Val} (F : Finished T t v s s′) where
     -- the value is at the newest position

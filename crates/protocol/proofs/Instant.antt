@@ -11,12 +11,12 @@ use borrow.Author.Tests.{eqb-true, eqb-false, eq-eqb, ne-eqb}
 use lib.Dec.{eqb}
 use Rattle.protocol.specs.Given.{Given, there, missing}
 use Rattle.protocol.specs.Event.{has}
-use Rattle.protocol.specs.Table.{Table, startOf, Lawful}
+use Rattle.protocol.specs.Table.{Table, early, startOf, Lawful}
 use Rattle.protocol.specs.History.{tick}
-use Rattle.protocol.specs.ZeroTime.{runOf, early}
+use Rattle.protocol.specs.ZeroTime.{runOf}
 use Rattle.protocol.specs.Instant.{LogEntry, Moment, ask, readLinks, runWhole, work, come, carried, mem, Sorted, Order, find, AllThere}
-use Rattle.protocol.proofs.Counts.{there-there}
-use Rattle.protocol.proofs.ClosedForm.{seen, Known, gives, told, entry, closed-reads, closed-work, closed}
+use Rattle.protocol.proofs.Counts.{there-there, runOf-some}
+use Rattle.protocol.proofs.ClosedForm.{arrivalsIn, Known, gives, told, entry, closed-reads, closed-work, closed}
 
 -- the first of a list is in it
 mem-here : (t : ℕ) (ts : List ℕ) → mem t (t ∷ ts) ≡ true
@@ -76,9 +76,9 @@ module _ {Val : Type 0} (T : Table Val) (out : ℕ → ℕ → Given Val) where
       k : ℕ
       k = runOf (T .delayed l) (s .arrived (T .writer l))
 
-      go : (b : Bool) → eqb k 0 ≡ b → cond b (there (startOf T l)) (s .made (T .writer l) k) ≡ cond b (there (startOf T l)) (out (T .writer l) k)
+      go : (b : Bool) → early (T .delayed l) (s .arrived (T .writer l)) ≡ b → cond b (there (startOf T l)) (s .made (T .writer l) k) ≡ cond b (there (startOf T l)) (out (T .writer l) k)
       go true e = refl
-      go false e = D (T .writer l) k (omega (arith, eqb-false k 0 e)) q
+      go false e = D (T .writer l) k (runOf-some (T .delayed l) (s .arrived (T .writer l)) e) q
 
   -- a task that runs adds its output
   made-whole : (s : Moment Val) (t : ℕ) → Made s → Made (runWhole T out t s)
@@ -94,8 +94,8 @@ module _ {Val : Type 0} (T : Table Val) (out : ℕ → ℕ → Given Val) where
       go (no x) = rw (ne-eqb t w x) (D w k p)
 
   -- a task that runs reads what the closed form says
-  reads-closed : (ms : List ℕ) (es : List (LogEntry Val)) (s : Moment Val) (t : ℕ) → Made s → s .log ≡ es → ((u : ℕ) → s .arrived u ≡ seen ms u)
-      → suc (s .runs t) ≡ seen ms t → ((l : ℕ) → l < T .links → T .reader l ≡ t → Ready s l) → (n : ℕ) → n ≤ T .links
+  reads-closed : (ms : List ℕ) (es : List (LogEntry Val)) (s : Moment Val) (t : ℕ) → Made s → s .log ≡ es → ((u : ℕ) → s .arrived u ≡ arrivalsIn ms u)
+      → suc (s .runs t) ≡ arrivalsIn ms t → ((l : ℕ) → l < T .links → T .reader l ≡ t → Ready s l) → (n : ℕ) → n ≤ T .links
       → readLinks T s t n ≡ closed-reads T out ms t n es
   unfolding readLinks closed-reads
   reads-closed ms es s t D g a j p zero q = g
@@ -110,8 +110,8 @@ module _ {Val : Type 0} (T : Table Val) (out : ℕ → ℕ → Given Val) where
   -- after all tasks of a set
   pub record Done (ms : List ℕ) (es : List (LogEntry Val)) (s : Moment Val) : Type 0 where
     pub log : s .log ≡ es
-    pub arrived : (u : ℕ) → s .arrived u ≡ seen ms u
-    pub runs : (u : ℕ) → s .runs u ≡ seen ms u
+    pub arrived : (u : ℕ) → s .arrived u ≡ arrivalsIn ms u
+    pub runs : (u : ℕ) → s .runs u ≡ arrivalsIn ms u
     pub made : Made s
 
   module _ (L : Lawful T) where
@@ -136,13 +136,13 @@ module _ {Val : Type 0} (T : Table Val) (out : ℕ → ℕ → Given Val) where
 
     -- the tasks of a set, one after the other, read what the closed form says
     work-closed : (ms : List ℕ) (m : ℕ) (ts : List ℕ) (es : List (LogEntry Val)) (s : Moment Val) → Sorted (T .ahead) ts → Mid m ts s → Made s → s .log ≡ es
-        → ((u : ℕ) → s .arrived u ≡ seen ms u) → Done ms (closed-work T out ms m ts es) (work T out m ts s)
+        → ((u : ℕ) → s .arrived u ≡ arrivalsIn ms u) → Done ms (closed-work T out ms m ts es) (work T out m ts s)
     unfolding work closed-work Sorted mem runWhole
     work-closed ms m [] es s S M D g a = record { log = g; arrived = a; runs = λ u. sym (rw (and-false (has m u)) at (M u)) ∙ a u; made = D }
     work-closed ms m (t ∷ ts) es s S M D g a = go (has m t) refl (λ es s. work-closed ms m ts es s (S .2))
       where
         go : (b : Bool) → has m t ≡ b
-            → ((es : List (LogEntry Val)) (s : Moment Val) → Mid m ts s → Made s → s .log ≡ es → ((u : ℕ) → s .arrived u ≡ seen ms u)
+            → ((es : List (LogEntry Val)) (s : Moment Val) → Mid m ts s → Made s → s .log ≡ es → ((u : ℕ) → s .arrived u ≡ arrivalsIn ms u)
             → Done ms (closed-work T out ms m ts es) (work T out m ts s))
             → Done ms (closed-work T out ms m ts (cond b (closed-reads T out ms t (T .links) es) es)) (work T out m ts (cond b (runWhole T out t s) s))
         go true e i =
@@ -152,7 +152,7 @@ module _ {Val : Type 0} (T : Table Val) (out : ℕ → ℕ → Given Val) where
 
     -- the whole run is the closed form
     pub carried-closed : (order : List ℕ) → Order T order → (ms : List ℕ) → Known (T .tasks) ms → Done ms (closed T out order ms) (carried T out order ms)
-    unfolding carried closed Known seen come
+    unfolding carried closed Known arrivalsIn come
     carried-closed order O [] K = record { log = refl; arrived = λ u. refl; runs = λ u. refl; made = λ w k p q. absurd (omega arith) }
     carried-closed order O (m ∷ ms) K =
         let D = carried-closed order O ms (K .1) in
@@ -182,7 +182,7 @@ module _ {Val : Type 0} (T : Table Val) (out : ℕ → ℕ → Given Val) where
     there-reads ms t es G (suc l) = go (eqb (T .reader l) t) (there-reads ms t es G l)
       where
         go : (b : Bool) → AllThere (closed-reads T out ms t l es) → AllThere (cond b (entry T out ms t l ∷ closed-reads T out ms t l es) (closed-reads T out ms t l es))
-        go true i = (gives-there l (seen ms (T .writer l)), i)
+        go true i = (gives-there l (arrivalsIn ms (T .writer l)), i)
         go false i = i
 
     -- of a set
@@ -206,14 +206,14 @@ module _ {Val : Type 0} (T : Table Val) (out : ℕ → ℕ → Given Val) where
     always-there L order O ms K = rw (carried-closed L order O ms K .log) (there-closed order ms)
 
   -- a task's reads leave what run number j of l's reader read by l, unless they are that run's
-  find-reads : (ms : List ℕ) (t : ℕ) (es : List (LogEntry Val)) (l j : ℕ) → (T .reader l ≡ t → seen ms t ≡ j → ⊥)
+  find-reads : (ms : List ℕ) (t : ℕ) (es : List (LogEntry Val)) (l j : ℕ) → (T .reader l ≡ t → arrivalsIn ms t ≡ j → ⊥)
       → (n : ℕ) → find l j (closed-reads T out ms t n es) ≡ find l j es
   unfolding closed-reads find
   find-reads ms t es l j x zero = refl
   find-reads ms t es l j x (suc k) = go (eqb (T .reader k) t) refl (find-reads ms t es l j x k)
     where
-      miss : eqb (T .reader k) t ≡ true → Dec (k ≡ l) → eqb k l && eqb (seen ms t) j ≡ false
-      miss e (yes y) = rw (ne-eqb (seen ms t) j (x (rw y at (eqb-true (T .reader k) t e)))) (and-false (eqb k l))
+      miss : eqb (T .reader k) t ≡ true → Dec (k ≡ l) → eqb k l && eqb (arrivalsIn ms t) j ≡ false
+      miss e (yes y) = rw (ne-eqb (arrivalsIn ms t) j (x (rw y at (eqb-true (T .reader k) t e)))) (and-false (eqb k l))
       miss e (no y) = rw (ne-eqb k l y)
 
       go : (b : Bool) → eqb (T .reader k) t ≡ b → find l j (closed-reads T out ms t k es) ≡ find l j es
@@ -222,7 +222,7 @@ module _ {Val : Type 0} (T : Table Val) (out : ℕ → ℕ → Given Val) where
       go false e i = i
 
   -- so do the reads of a set, unless its reader is in the set and that run is its last
-  find-work : (ms : List ℕ) (m : ℕ) (ts : List ℕ) (es : List (LogEntry Val)) (l j : ℕ) → (has m (T .reader l) ≡ true → seen ms (T .reader l) ≡ j → ⊥)
+  find-work : (ms : List ℕ) (m : ℕ) (ts : List ℕ) (es : List (LogEntry Val)) (l j : ℕ) → (has m (T .reader l) ≡ true → arrivalsIn ms (T .reader l) ≡ j → ⊥)
       → find l j (closed-work T out ms m ts es) ≡ find l j es
   unfolding closed-work
   find-work ms m [] es l j x = refl
@@ -234,7 +234,7 @@ module _ {Val : Type 0} (T : Table Val) (out : ℕ → ℕ → Given Val) where
 
   -- the last run of l's reader read by l what the closed form says
   abbrev Read : List ℕ → ℕ → List (LogEntry Val) → Type 0
-  Read ms l es = find l (seen ms (T .reader l)) es ≡ told T out ms l
+  Read ms l es = find l (arrivalsIn ms (T .reader l)) es ≡ told T out ms l
 
   -- the reader's own reads hold it
   read-own : (ms : List ℕ) (es : List (LogEntry Val)) (l n : ℕ) → l < n → Read ms l (closed-reads T out ms (T .reader l) n es)
@@ -244,7 +244,7 @@ module _ {Val : Type 0} (T : Table Val) (out : ℕ → ℕ → Given Val) where
     where
       go : Dec (k ≡ l) → (b : Bool) → eqb (T .reader k) (T .reader l) ≡ b → (l < k → Read ms l (closed-reads T out ms (T .reader l) k es))
           → Read ms l (cond b (entry T out ms (T .reader l) k ∷ closed-reads T out ms (T .reader l) k es) (closed-reads T out ms (T .reader l) k es))
-      go (yes y) true e i = rw (y, eq-eqb l l refl, eq-eqb (seen ms (T .reader l)) (seen ms (T .reader l)) refl)
+      go (yes y) true e i = rw (y, eq-eqb l l refl, eq-eqb (arrivalsIn ms (T .reader l)) (arrivalsIn ms (T .reader l)) refl)
       go (yes y) false e i = absurd (eqb-false (T .reader k) (T .reader l) e (rw y))
       go (no y) true e i = rw (ne-eqb k l y) (i (omega arith))
       go (no y) false e i = i (omega arith)
@@ -257,7 +257,7 @@ module _ {Val : Type 0} (T : Table Val) (out : ℕ → ℕ → Given Val) where
     where
       go : (b : Bool) → Dec (T .reader l ≡ t) → Read ms l (cond b (closed-reads T out ms t (T .links) es) es)
       go true (yes x) = rw (← x) (read-own ms es l (T .links) q)
-      go true (no x) = find-reads ms t es l (seen ms (T .reader l)) (λ r k. x r) (T .links) ∙ i
+      go true (no x) = find-reads ms t es l (arrivalsIn ms (T .reader l)) (λ r k. x r) (T .links) ∙ i
       go false x = i
 
   -- a set that holds the reader reads it
@@ -281,7 +281,7 @@ module _ {Val : Type 0} (T : Table Val) (out : ℕ → ℕ → Given Val) where
   find-new order m ms l q e f = read-in (m ∷ ms) m order (closed T out order ms) l q e f
 
   -- later arrivals leave what was read
-  pub find-old : (order : List ℕ) (m : ℕ) (ms : List ℕ) (l j : ℕ) → j ≤ seen ms (T .reader l)
+  pub find-old : (order : List ℕ) (m : ℕ) (ms : List ℕ) (l j : ℕ) → j ≤ arrivalsIn ms (T .reader l)
       → find l j (closed T out order (m ∷ ms)) ≡ find l j (closed T out order ms)
-  unfolding closed seen
+  unfolding closed arrivalsIn
   find-old order m ms l j q = find-work (m ∷ ms) m order (closed T out order ms) l j (λ e k. omega (arith, rw e at k))

@@ -72,13 +72,13 @@ module _ {Val : Type 0} (T : Table Val) where
   -- the function does what the published protocol allows, with the lowest free position
   next-step : (e : Event Val) (s : Boxes Val) → Step T (Lowest T) e s (nextBoxes T e s)
   unfolding Step
-  next-step (arrival m) s = record { previous = λ t. refl; chosen = λ t i. rw i (lowest-exists T s t); kept = λ t i. rw i; pointer = λ l. refl; cell = λ t p. refl }
+  next-step (arrival m) s = record { previous = λ t. refl; chosen = λ t i. rw i (lowest-exists T s t); kept = λ t i. rw i; seen = λ t. refl; pointer = λ l. refl; mark = λ l. refl; cell = λ t p. refl }
   next-step (start t) s = refl
   next-step (read l) s = refl
-  next-step (finish t v) s = record { newest = λ u. refl; previous = λ u. refl; pointer = λ l. refl; cell = λ u p. refl }
+  next-step (finish t v) s = record { newest = λ u. refl; previous = λ u. refl; seen = λ u. refl; pointer = λ l. refl; mark = λ l. refl; cell = λ u p. refl }
 
   fresh-fresh : Fresh T (freshBoxes T)
-  fresh-fresh = record { newest = λ t. refl; previous = λ t. refl; pointer = λ l. refl; cell = λ t p. refl }
+  fresh-fresh = record { newest = λ t. refl; previous = λ t. refl; seen = λ t. refl; pointer = λ l. refl; mark = λ l. refl; cell = λ t p. refl }
 
   -- so every history leads to one of its runs
   pub lowest-run : (h : List (Event Val)) → Run T (Lowest T) (boxesOf T h) h

@@ -5,22 +5,25 @@ use mathlib.Core.Path.{_≡_, refl, sym, ap, _∙_}
 use mathlib.Core.Logic.{_≢_}
 use mathlib.Core.Bool.{Bool, true, false, cond}
 use mathlib.Core.List.{List, [], _∷_}
-use Prim.Native.Nat.{ℕ, suc, pred, _≤_, _<_}
+use Prim.Native.Nat.{ℕ, zero, suc, pred, _≤_, _<_}
 use native.Mathlib.Omega.{arith}
 use native.Mathlib.Decide.{decLe}
-use borrow.Author.Tests.{lt-ltb, eqb-false}
+use borrow.Author.Tests.{lt-ltb, le-ltb, le-leb, ne-eqb}
+use lib.Dec.{eqb}
 use lib.ListN.{length}
 use Rattle.protocol.specs.Given.{Given, there, missing, values}
 use Rattle.protocol.specs.Event.{Event, arrival, start, read, finish}
-use Rattle.protocol.specs.Table.{Table, startOf, Lawful}
+use Rattle.protocol.specs.Table.{Table, early, marked, startOf, marks, Lawful}
 use Rattle.protocol.specs.History.{arrivals, finishes, reads, upTo, output}
 use Rattle.protocol.specs.Schedule.{Policy, Fair, Possible, AllPossible}
-use Rattle.protocol.specs.ZeroTime.{runOf, early, had, wanted, due, dues, ideals, Settled}
+use Rattle.protocol.specs.ZeroTime.{runOf, had, wanted, due, dues, ideals, Settled}
 use Rattle.protocol.specs.Instant.{theres}
-use Rattle.protocol.specs.Published.{Boxes, Choice, Lowest, OnlyFree, number, Step, Run, fresh, next, numbers}
-use Rattle.protocol.proofs.Counts.{there-there, arrivals-upTo, stamp-seen, output-there}
+use Rattle.protocol.specs.Ranges.{Ranged}
+use Rattle.protocol.specs.Published.{Boxes, Free, Choice, Lowest, OnlyFree, number, Step, Run, fresh, next, numbers}
+use Rattle.protocol.proofs.Counts.{there-there, runOf-some, arrivals-upTo, stamp-seen, output-there}
 use Rattle.protocol.proofs.Schedule.{counted}
-use Rattle.protocol.proofs.Invariant.{unfinished, invariant}
+use Rattle.protocol.proofs.Invariant.{unfinished, LinkOk, invariant}
+use Rattle.protocol.proofs.Ranges.{ranged}
 
 -- the values of outputs that are there
 pub values-theres : {Val : Type 0} (vs : List Val) → values (theres vs) ≡ vs
@@ -39,7 +42,15 @@ module _ {Val : Type 0} (T : Table Val) where
   unfolding Step
   weaken w (fresh f) = fresh f
   weaken w (next {s = s} {s′ = s′} (arrival m) r A) =
-      next (arrival m) (weaken w r) (record { previous = A .previous; chosen = λ t e. w s t (s′ .newest t) (A .chosen t e); kept = A .kept; pointer = A .pointer; cell = A .cell })
+      next (arrival m) (weaken w r) (record {
+        previous = A .previous;
+        chosen = λ t e. w s t (s′ .newest t) (A .chosen t e);
+        kept = A .kept;
+        seen = A .seen;
+        pointer = A .pointer;
+        mark = A .mark;
+        cell = A .cell;
+      })
   weaken w (next (start t) r q) = next (start t) (weaken w r) q
   weaken w (next (read l) r q) = next (read l) (weaken w r) q
   weaken w (next (finish t v) r q) = next (finish t v) (weaken w r) q
@@ -70,14 +81,38 @@ module _ {Val : Type 0} (T : Table Val) where
     settled (read l ∷ h) P = (finished-then h l (P .1) (P .0 .0) (P .0 .2), settled h (P .1))
     settled (finish t v ∷ h) P = settled h (P .1)
 
+    -- a link's number, by what stands at its pointer and whether it is marked: where the run wanted has finished, it is what is due
+    number-due : {s : Boxes Val} {h : List (Event Val)} {l : ℕ} → LinkOk T h s l → s .mark l ≡ marks T l (had T h l) → wanted T h l ≤ finishes h (T .writer l)
+        → there (number T s l) ≡ due T h l
+    number-due {s} {h} {l} o m q = rw m (go (T .delayed l) (had T h l) (o .have q))
+      where
+        w : ℕ
+        w = T .writer l
+
+        x : Val
+        x = s .cell w (s .pointer l)
+
+        -- by the kind and by the writer's arrivals
+        go : (b : Bool) (n : ℕ) → there x ≡ cond (eqb (runOf b n) 0) (there (T .default w)) (output h w (runOf b n))
+            → there (cond (marked b n) (T .startValue l) x) ≡ cond (early b n) (there (cond b (T .startValue l) (T .default w))) (output h w (runOf b n))
+        go true zero e = refl
+        go true (suc zero) e = refl
+        go true (suc (suc n)) e = rw (le-ltb (suc (suc n)) 2 (omega arith)) (rw (ne-eqb (suc n) 0 (λ z. omega arith)) at e)
+        go false zero e = e
+        go false (suc n) e = rw (le-ltb (suc n) 1 (omega arith)) (rw (ne-eqb (suc n) 0 (λ z. omega arith)) at e)
+
     module _ {choice : Choice Val} (free : OnlyFree T choice) where
       -- at each read: the number is the one due, and the run that made it is finished
-      pub zero-time : {s : Boxes Val} {h : List (Event Val)} {l : ℕ} → Run T choice s h → AllPossible T may h → Possible T may h (read l)
+      pub zero-time : {s : Boxes Val} {h : List (Event Val)} → Run T choice s h → AllPossible T may h → (l : ℕ) → Possible T may h (read l)
           → (there (number T s l) ≡ due T h l) × (wanted T h l ≤ finishes h (T .writer l))
       unfolding Possible
-      zero-time {s} {h} {l} r P p =
+      zero-time {s} {h} r P l p =
           let d = finished-then h l P (p .0) (p .2) in
-          (invariant T may L F (weaken free r) P .links l (p .0) (omega (arith, unfinished T may h P (T .reader l) (p .1))) .have d, d)
+          let w : Run T (Free T) s h = weaken free r in
+          let a : finishes h (T .reader l) < arrivals h (T .reader l) = omega (arith, unfinished T may h P (T .reader l) (p .1)) in
+          let g : Ranged T h s = ranged T may w P in
+          let m : s .mark l ≡ marks T l (had T h l) = g .mark l (p .0) ∙ rw (le-leb 1 (s .pointer l) (g .present l (p .0) (lt-ltb _ _ a))) in
+          (number-due (invariant T may L F w P .links l (p .0) a) m d, d)
 
       -- all the numbers read are those due: none is missing
       pub numbers-due : {s : Boxes Val} {h : List (Event Val)} (r : Run T choice s h) → AllPossible T may h → theres (numbers T r) ≡ dues T h
@@ -85,7 +120,7 @@ module _ {Val : Type 0} (T : Table Val) where
       numbers-due (fresh f) P = refl
       numbers-due (next (arrival m) r q) P = numbers-due r (P .1)
       numbers-due (next (start t) r q) P = numbers-due r (P .1)
-      numbers-due (next (read l) r q) P = rw (zero-time r (P .1) (P .0) .0, numbers-due r (P .1))
+      numbers-due (next (read l) r q) P = rw (zero-time r (P .1) l (P .0) .0, numbers-due r (P .1))
       numbers-due (next (finish t v) r q) P = numbers-due r (P .1)
 
       -- so they are the ideal ones
@@ -119,7 +154,7 @@ due-there T h l q = go (early (T .delayed l) (had T h l)) refl
   where
     go : (b : Bool) → early (T .delayed l) (had T h l) ≡ b → cond b (there (startOf T l)) (output h (T .writer l) (wanted T h l)) ≢ missing
     go true e = there-there (startOf T l)
-    go false e = output-there h (T .writer l) (wanted T h l) (omega (arith, eqb-false (wanted T h l) 0 e)) q
+    go false e = output-there h (T .writer l) (wanted T h l) (runOf-some (T .delayed l) (had T h l) e) q
 
 module _ {Val : Type 0} (T : Table Val) (may : Policy Val) (L : Lawful T) (F : Fair T may) where
   -- nothing due is missing: what is due is numbers

@@ -1,6 +1,6 @@
 -- Two answers allowed for one input are equal: answer functions that meet demands 1 and 2 agree on every refusal, position, pointer, mailbox and number.
 -- Assumes nothing.
-use mathlib.Core.Path.{_≡_, refl, sym, ap, _∙_}
+use mathlib.Core.Path.{_≡_, refl, sym, _∙_}
 use mathlib.Core.Bool.{Bool, true, false}
 use mathlib.Core.List.{List, _∷_}
 use Prim.Native.Nat.{ℕ}
@@ -19,7 +19,9 @@ module _ {Val : Type 0} (T : Table Val) where
   fresh-same F G = record {
     newest = λ t. F .newest t ∙ sym (G .newest t);
     previous = λ t. F .previous t ∙ sym (G .previous t);
+    seen = λ t. F .seen t ∙ sym (G .seen t);
     pointer = λ l. F .pointer l ∙ sym (G .pointer l);
+    mark = λ l. F .mark l ∙ sym (G .mark l);
     cell = λ t p. F .cell t p ∙ sym (G .cell t p);
   }
 
@@ -32,7 +34,7 @@ module _ {Val : Type 0} (T : Table Val) where
 
     -- each link reads the same number
     pub number-same : (l : ℕ) → number T s l ≡ number T r l
-    number-same l = S .cell (T .writer l) (s .pointer l) ∙ ap (r .cell (T .writer l)) (S .pointer l)
+    number-same l = rw (S .mark l, S .cell (T .writer l) (s .pointer l), S .pointer l)
 
     -- there is one lowest free position
     lowest-same : {t p q : ℕ} → Lowest T s t p → Lowest T r t q → p ≡ q
@@ -43,7 +45,9 @@ module _ {Val : Type 0} (T : Table Val) where
       arrived-same {m} A B = record {
         newest = newest;
         previous = previous;
+        seen = seen;
         pointer = λ l. A .pointer l ∙ rw (newest (T .writer l), previous (T .writer l), S .pointer l) (sym (B .pointer l));
+        mark = λ l. A .mark l ∙ rw (seen (T .writer l), S .mark l) (sym (B .mark l));
         cell = λ t p. A .cell t p ∙ S .cell t p ∙ sym (B .cell t p);
       }
         where
@@ -57,11 +61,16 @@ module _ {Val : Type 0} (T : Table Val) where
           previous : (t : ℕ) → s′ .previous t ≡ r′ .previous t
           previous t = A .previous t ∙ rw (S .newest t, S .previous t) (sym (B .previous t))
 
+          seen : (t : ℕ) → s′ .seen t ≡ r′ .seen t
+          seen t = A .seen t ∙ rw (S .seen t) (sym (B .seen t))
+
       finished-same : {t : ℕ} {v : Val} → Finished T t v s s′ → Finished T t v r r′ → Same s′ r′
       finished-same {t} F G = record {
         newest = λ u. F .newest u ∙ S .newest u ∙ sym (G .newest u);
         previous = λ u. F .previous u ∙ S .previous u ∙ sym (G .previous u);
+        seen = λ u. F .seen u ∙ S .seen u ∙ sym (G .seen u);
         pointer = λ l. F .pointer l ∙ rw (S .pointer l) (sym (G .pointer l));
+        mark = λ l. F .mark l ∙ rw (S .mark l) (sym (G .mark l));
         cell = λ u p. F .cell u p ∙ rw (S .newest t, S .cell u p) (sym (G .cell u p));
       }
 

@@ -19,7 +19,7 @@ use Rattle.protocol.specs.Instant.{Order, sets, carried, zeroRun, find, 
 use Rattle.protocol.proofs.Counts.{arrivals-out, upTo-in, upTo-out}
 use Rattle.protocol.proofs.Schedule.{has-below, counted}
 use Rattle.protocol.proofs.Theorem.{values-theres, finished-then, ideals-there}
-use Rattle.protocol.proofs.ClosedForm.{seen, Known, gives, closed}
+use Rattle.protocol.proofs.ClosedForm.{arrivalsIn, Known, gives, closed}
 use Rattle.protocol.proofs.Instant.{carried-closed, always-there, find-new, find-old}
 
 -- two lists of numbers are the same where what they give is the same
@@ -43,8 +43,8 @@ module _ {Val : Type 0} where
   onward e (more f g) = more f (onward e g)
 
   -- a history's arrivals are those of its sets
-  arrivals-seen : (h : List (Event Val)) (t : ℕ) → arrivals h t ≡ seen (sets h) t
-  unfolding arrivals sets seen
+  arrivals-seen : (h : List (Event Val)) (t : ℕ) → arrivals h t ≡ arrivalsIn (sets h) t
+  unfolding arrivals sets arrivalsIn
   arrivals-seen [] t = refl
   arrivals-seen (arrival m ∷ h) t = ap (tick (has m t)) (arrivals-seen h t)
   arrivals-seen (start u ∷ h) t = arrivals-seen h t

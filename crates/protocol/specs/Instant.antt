@@ -7,9 +7,9 @@ use Prim.Native.Nat.{ℕ, zero, suc, _<_}
 use lib.Dec.{eqb}
 use Rattle.protocol.specs.Event.{Event, arrival, start, read, finish, has}
 use Rattle.protocol.specs.Given.{Given, there, missing}
-use Rattle.protocol.specs.Table.{Table, startOf}
+use Rattle.protocol.specs.Table.{Table, early, startOf}
 use Rattle.protocol.specs.History.{tick, arrivals, output}
-use Rattle.protocol.specs.ZeroTime.{runOf, early}
+use Rattle.protocol.specs.ZeroTime.{runOf}
 
 -- one read: by link `link`, in run number `job` of its reader
 pub record LogEntry (Val : Type 0) : Type 0 where

@@ -1,13 +1,13 @@
 -- The protocol with the lowest free position, as a function: one of the answer functions that the demands allow.
 -- Assumes nothing.
-use mathlib.Core.Bool.{cond, _&&_}
+use mathlib.Core.Bool.{false, cond, _&&_}
 use mathlib.Core.List.{List, [], _∷_}
 use Prim.Native.Nat.{ℕ, _+_}
 use lib.Dec.{eqb}
 use Rattle.protocol.specs.Event.{Event, arrival, start, read, finish, has}
-use Rattle.protocol.specs.Table.{Table, N}
+use Rattle.protocol.specs.Table.{Table, N, marks}
 use Rattle.protocol.specs.Schedule.{Policy, judged}
-use Rattle.protocol.specs.Published.{Boxes, comes, leaves, number}
+use Rattle.protocol.specs.Published.{Boxes, seenOnce, comes, leaves, number}
 use Rattle.protocol.specs.Free.{lowestOf}
 use Rattle.protocol.specs.Answering.{Answerer}
 
@@ -18,7 +18,7 @@ module _ {Val : Type 0} (T : Table Val) where
 
   -- fresh boxes, as the published protocol has them
   abbrev pub freshBoxes : Boxes Val
-  freshBoxes = record { newest = λ t. 1; previous = λ t. 1; pointer = λ l. 0; cell = λ t p. T .default t }
+  freshBoxes = record { newest = λ t. 1; previous = λ t. 1; seen = λ t. 0; pointer = λ l. 0; mark = λ l. false; cell = λ t p. T .default t }
 
   -- the writers' part of an arrival: newest becomes the lowest free position
   abbrev pub newestThen : ℕ → Boxes Val → ℕ → ℕ
@@ -28,12 +28,18 @@ module _ {Val : Type 0} (T : Table Val) where
   abbrev pub previousThen : ℕ → Boxes Val → ℕ → ℕ
   previousThen m s t = cond (has m t) (s .newest t) (s .previous t)
 
+  -- and one more arrival is seen
+  abbrev pub seenThen : ℕ → Boxes Val → ℕ → ℕ
+  seenThen m s t = cond (has m t) (seenOnce (s .seen t)) (s .seen t)
+
   -- what an accepted event makes of the boxes
   abbrev pub nextBoxes : Event Val → Boxes Val → Boxes Val
   nextBoxes (arrival m) s = record {
     newest = newestThen m s;
     previous = previousThen m s;
+    seen = seenThen m s;
     pointer = λ l. cond (comes T m l) (cond (T .delayed l) (previousThen m s (T .writer l)) (newestThen m s (T .writer l))) (s .pointer l);
+    mark = λ l. cond (comes T m l) (marks T l (seenThen m s (T .writer l))) (s .mark l);
     cell = s .cell;
   }
   nextBoxes (start t) s = s
@@ -41,7 +47,9 @@ module _ {Val : Type 0} (T : Table Val) where
   nextBoxes (finish t v) s = record {
     newest = s .newest;
     previous = s .previous;
+    seen = s .seen;
     pointer = λ l. cond (leaves T t l) 0 (s .pointer l);
+    mark = λ l. cond (leaves T t l) false (s .mark l);
     cell = λ u p. cond (eqb u t && eqb p (s .newest t)) v (s .cell u p);
   }
 

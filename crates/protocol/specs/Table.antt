@@ -2,20 +2,30 @@
 -- Assumes nothing.
 use mathlib.Core.Path.{_≡_}
 use mathlib.Core.Logic.{_≢_}
-use mathlib.Core.Bool.{Bool, true, false, _&&_}
+use mathlib.Core.Bool.{Bool, true, false, cond, _&&_}
 use Prim.Native.Nat.{ℕ, _<_}
-use lib.Dec.{eqb}
+use lib.Dec.{eqb, ltb}
 use Rattle.lists.specs.Lists.{count}
 
--- `ahead u t`: task u is more urgent than task t. The order is a parameter: under fixed priorities the earlier task is ahead
+-- `ahead u t`: task u is more urgent than task t. The order is a parameter: under fixed priorities the earlier task is ahead.
+-- `startValue l`: "each unit delay has its own initial value"; nothing reads that of a direct link
 pub record Table (Val : Type 0) : Type 0 where
   pub tasks : ℕ
   pub links : ℕ
   pub default : ℕ → Val
+  pub startValue : ℕ → Val
   pub writer : ℕ → ℕ
   pub reader : ℕ → ℕ
   pub delayed : ℕ → Bool
   pub ahead : ℕ → ℕ → Bool
+
+-- a link's writer has had n arrivals, too few for a run that the link could give: none if it is direct, "fewer than two" if it is delayed
+abbrev pub early : Bool → ℕ → Bool
+early delayed n = ltb n (cond delayed 2 1)
+
+-- an arrival of its reader then settles a delayed link on its start value: it is marked. A direct link has no mark
+abbrev pub marked : Bool → ℕ → Bool
+marked delayed n = delayed && early delayed n
 
 -- link l is one of task t's links to readers behind; W and R are the links' writers and readers
 abbrev pub toBehind : (ℕ → ℕ → Bool) → (ℕ → ℕ) → (ℕ → ℕ) → ℕ → ℕ → Bool
@@ -26,9 +36,13 @@ abbrev pub behinds : (ℕ → ℕ → Bool) → (ℕ → ℕ) → (ℕ → ℕ) 
 behinds ahead W R t n = count (toBehind ahead W R t) n
 
 module _ {Val : Type 0} (T : Table Val) where
-  -- what link l gives while its writer has no run for it: its writer's default
+  -- what link l gives while its writer has no run for it: its own start value if it is delayed, its writer's default if it is direct
   abbrev pub startOf : ℕ → Val
-  startOf l = T .default (T .writer l)
+  startOf l = cond (T .delayed l) (T .startValue l) (T .default (T .writer l))
+
+  -- an arrival of its reader marks link l, whose writer has had n arrivals
+  abbrev pub marks : ℕ → ℕ → Bool
+  marks l n = marked (T .delayed l) n
 
   -- link l goes to a reader behind its writer
   abbrev pub behind : ℕ → Bool

@@ -3,19 +3,14 @@
 use mathlib.Core.Bool.{Bool, cond}
 use mathlib.Core.List.{List, [], _∷_}
 use Prim.Native.Nat.{ℕ, pred, _≤_}
-use lib.Dec.{eqb}
 use Rattle.protocol.specs.Event.{Event, arrival, start, read, finish}
 use Rattle.protocol.specs.Given.{Given, there, values}
-use Rattle.protocol.specs.Table.{Table, startOf}
+use Rattle.protocol.specs.Table.{Table, early, startOf}
 use Rattle.protocol.specs.History.{arrivals, finishes, upTo, output}
 
--- of a writer's n arrivals, a direct link gives the last run, a delayed link the one before it; runs are numbered from 1
+-- of a writer's n arrivals, unless they are too few (`early`), a direct link gives the last run, a delayed link the one before it; runs are numbered from 1
 abbrev pub runOf : Bool → ℕ → ℕ
 runOf delayed n = cond delayed (pred n) n
-
--- of n arrivals of its writer none has a run for the link: a direct link needs one, a delayed one two
-abbrev pub early : Bool → ℕ → Bool
-early delayed n = eqb (runOf delayed n) 0
 
 module _ {Val : Type 0} (T : Table Val) where
   -- how often link l's writer had arrived up to and including the last arrival of its reader

@@ -8,11 +8,13 @@ use borrow.Author.Tests.{lt-ltb}
 use lib.Dec.{ltb}
 use lib.ListN.{getD}
 use Rattle.protocol.specs.Event.{has}
+use Rattle.protocol.specs.Table.{marked}
+use Rattle.protocol.specs.Published.{seenOnce}
 use Rattle.protocol.specs.Free.{lowestFree}
 use Rattle.protocol.proofs.Schedule.{has-below}
 use Rattle.protocol_state.specs.Saved.{Size, Saved, Shape, at, delayedKind}
 use Rattle.protocol_state.specs.Decision.{decided}
-use Rattle.protocol_state.specs.Next.{newestAfter, previousAfter, pointerAfter, phaseAfter}
+use Rattle.protocol_state.specs.Next.{newestAfter, previousAfter, seenAfter, pointerAfter, markAfter, phaseAfter}
 use Rattle.protocol_state.proofs.Places.{changed}
 use Rattle.protocol_state.proofs.Free.{lowestAt}
 
@@ -38,6 +40,11 @@ module _ {size : Size} (q : Saved) (S : Shape size q) (s : ℕ) (small : s < 2 ^
     unfolding previousAfter
     previous-at t d = changed (has s) (λ i x. at (q .newest) i) (q .tasks) (q .previous) (omega (arith, S .previous)) t d ∙ rw (in-set t)
 
+    -- one more arrival of it is seen
+    pub seen-at : (t : ℕ) → at (seenAfter s q) t ≡ cond (has s t) (seenOnce (at (q .seen) t)) (at (q .seen) t)
+    unfolding seenAfter
+    seen-at t = changed (has s) (λ i x. seenOnce x) (q .tasks) (q .seen) (omega (arith, S .seen)) t 0 ∙ rw (in-set t)
+
     -- it comes to the phase that the table decides
     pub phase-at : (t : ℕ) → at (phaseAfter s q) t ≡ cond (has s t) (decided 0 (at (q .phase) t)) (at (q .phase) t)
     unfolding phaseAfter
@@ -52,3 +59,13 @@ pub pointer-at : (ahead : ℕ → ℕ → Bool) {size : Size} (q : Saved) → Sh
     → at (pointerAfter ahead s q) l ≡ cond (ltb l (q .links) && has s (at (q .reader) l)) (aim ahead s q l) (at (q .pointer) l)
 unfolding pointerAfter
 pointer-at ahead q S s fits l = changed (λ i. has s (at (q .reader) i)) (λ i x. aim ahead s q i) (q .links) (q .pointer) (omega (arith, S .pointer)) l 0
+
+-- the mark that link l gets, once the writers' part is done
+abbrev pub markOf : ℕ → Saved → ℕ → ℕ
+markOf s q l = cond (marked (delayedKind (at (q .kind) l)) (at (seenAfter s q) (at (q .writer) l))) 1 0
+
+-- a link whose reader is in the set gets it, and no other
+pub mark-at : {size : Size} (q : Saved) → Shape size q → (s : ℕ) → q .links ≤ size .links → (l : ℕ)
+    → at (markAfter s q) l ≡ cond (ltb l (q .links) && has s (at (q .reader) l)) (markOf s q l) (at (q .mark) l)
+unfolding markAfter
+mark-at q S s fits l = changed (λ i. has s (at (q .reader) i)) (λ i x. markOf s q i) (q .links) (q .mark) (omega (arith, S .mark)) l 0

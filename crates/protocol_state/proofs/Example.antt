@@ -14,17 +14,17 @@ use Rattle.protocol_state.specs.Saved.{Saved, base, at, table}
 use Rattle.protocol_state.specs.Rules.{fault, judgedTable}
 use Rattle.protocol_state.specs.Decision.{decided}
 use Rattle.protocol_state.specs.Judge.{judgedArrival, judgedTask, judgedRead}
-use Rattle.protocol_state.specs.Next.{newestAfter, previousAfter, pointerAfter, phaseAfter}
+use Rattle.protocol_state.specs.Next.{newestAfter, previousAfter, seenAfter, pointerAfter, markAfter, phaseAfter}
 use Rattle.protocol_state.specs.Sound.{isSound}
 use Rattle.protocol_state.specs.Fresh.{freshOf}
 use Rattle.protocol_state.specs.Give.{Progress, settled, begin, afterEvent, replay}
 
--- four tasks with defaults 0, 100, 0, 0; links 1 to 0 delayed, 1 to 2 direct, 1 to 3 direct
+-- four tasks with defaults 0, 100, 0, 0; links 1 to 0 delayed with start value 90, 1 to 2 direct, 1 to 3 direct
 abbrev station : Saved
-station = freshOf base (0 ∷ 100 ∷ 0 ∷ 0 ∷ []) (link 1 0 1 ∷ link 1 2 0 ∷ link 1 3 0 ∷ [])
+station = freshOf base (0 ∷ 100 ∷ 0 ∷ 0 ∷ []) (link 1 0 1 90 ∷ link 1 2 0 0 ∷ link 1 3 0 0 ∷ [])
   where
-    link : ℕ → ℕ → ℕ → Link
-    link w r k = record { writer = w; reader = r; kind = k }
+    link : ℕ → ℕ → ℕ → ℕ → Link
+    link w r k v = record { writer = w; reader = r; kind = k; startValue = v }
 
 -- the 35 events, up to just after the first arrival, the second, the third arrival of task 1, and the rest
 abbrev first-part : List (Event ℕ)
@@ -54,9 +54,9 @@ all = replay earlier base three last-part
 abbrev newest-of-1 : Progress → ℕ
 newest-of-1 o = at (o .state .newest) 1
 
--- the eight numbers, the last one first
+-- the eight numbers, the last one first: the first read gives the start value
 abbrev eight : List ℕ
-eight = 103 ∷ 102 ∷ 101 ∷ 102 ∷ 102 ∷ 101 ∷ 101 ∷ 100 ∷ []
+eight = 103 ∷ 102 ∷ 101 ∷ 102 ∷ 102 ∷ 101 ∷ 101 ∷ 90 ∷ []
 
 -- newest of task 1 goes 2, 1, 3; the machine reads the eight numbers, the closed form says them, the run carried out has them; counts 11, 11, 8, 11
 pub long-example :
@@ -65,5 +65,5 @@ pub long-example :
     × (ideals (table earlier station) (all .history) ≡ eight)
     × (looked (table earlier station) (zeroRun (table earlier station) (upward 0 4) (all .history)) (all .history) ≡ theres eight)
     × (counts (table earlier station) (all .history) ≡ record { arrivals = 11; starts = 11; reads = 8; finishes = 11 })
-unfolding upto every some count first leading sum has fault judgedTable decided judgedArrival judgedTask judgedRead newestAfter previousAfter pointerAfter phaseAfter isSound freshOf settled afterEvent replay arrivals starts reads finishes upTo output dues values ask readLinks runWhole work come carried upward sets find looked theres
+unfolding upto every some count first leading sum has fault judgedTable decided judgedArrival judgedTask judgedRead newestAfter previousAfter seenAfter pointerAfter markAfter phaseAfter isSound freshOf settled afterEvent replay arrivals starts reads finishes upTo output dues values ask readLinks runWhole work come carried upward sets find looked theres
 long-example = (refl, refl, refl, refl, refl, refl, refl, refl)

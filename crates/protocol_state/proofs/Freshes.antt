@@ -12,7 +12,7 @@ use lib.ListN.{length, replicate, length-replicate, List·getD-eq-default}
 use Rattle.lists.proofs.Lists.{upto-at, length-upto}
 use Rattle.protocol.specs.History.{arrivals, starts, finishes}
 use Rattle.protocol.specs.Published.{Fresh}
-use Rattle.protocol_state.specs.Records.{Task, defaultOf, Link, linkOf, writers, readers, kinds, aheadOf}
+use Rattle.protocol_state.specs.Records.{Task, defaultOf, Link, linkOf, writers, readers, kinds, startValues, aheadOf}
 use Rattle.protocol_state.specs.Saved.{Size, Shape, at, cellOf, positions, oneTo, linkIn, aheadIn, table, boxes}
 use Rattle.protocol_state.specs.Rules.{fault, judgedTable}
 use Rattle.protocol_state.specs.Sound.{isSound, Sound}
@@ -69,11 +69,14 @@ module _ (size : Size) (ts : List Task) (ls : List Link) where
     phase = length-replicate {A = ℕ} (size .tasks) 0;
     newest = length-replicate {A = ℕ} (size .tasks) _;
     previous = length-replicate {A = ℕ} (size .tasks) _;
+    seen = length-replicate {A = ℕ} (size .tasks) 0;
     cells = filled-length (size .tasks) ds;
     writer = copied-length (size .links) (length ls) (writers ls);
     reader = copied-length (size .links) (length ls) (readers ls);
     kind = copied-length (size .links) (length ls) (kinds ls);
+    startValue = copied-length (size .links) (length ls) (startValues ls);
     pointer = length-replicate {A = ℕ} (size .links) 0;
+    mark = length-replicate {A = ℕ} (size .links) 0;
   }
 
   -- nothing has happened, and every task is idle
@@ -87,7 +90,9 @@ module _ (size : Size) (ts : List Task) (ls : List Link) where
   fresh-boxes ahead = record {
     newest = repeated (size .tasks) 1;
     previous = repeated (size .tasks) 1;
+    seen = zeros (size .tasks);
     pointer = zeros (size .links);
+    mark = λ l. rw (zeros (size .links) l);
     cell = λ t p. cell t p (oneTo positions p) refl;
   }
     where
@@ -102,6 +107,7 @@ module _ (size : Size) (ts : List Task) (ls : List Link) where
     writer = column-whole (size .links) (λ (x : Link). x .writer) refl ls h l i;
     reader = column-whole (size .links) (λ (x : Link). x .reader) refl ls h l i;
     kind = column-whole (size .links) (λ (x : Link). x .kind) refl ls h l i;
+    startValue = column-whole (size .links) (λ (x : Link). x .startValue) refl ls h l i;
   }
 
   module _ (ahead : ℕ → ℕ → Bool) (ok : judgedTable ahead (length ts) (linkOf ls) size (length ls) ≡ 0) where
@@ -120,6 +126,11 @@ module _ (size : Size) (ts : List Task) (ls : List Link) where
       pointer = λ l h. omega (arith, zeros (size .links) l);
       present = λ l h n. absurd (n (zeros (size .tasks) (at (copied (size .links) (length ls) (readers ls)) l)));
       absent = λ l h a z. zeros (size .links) l;
+      seen = λ t l. omega (arith, zeros (size .tasks) t);
+      unseen = λ t l z. zeros (size .tasks) t;
+      mark = λ l h. omega (arith, zeros (size .links) l);
+      held = λ l h e. absurd (omega (arith, zeros (size .links) l));
+      early = λ l h d p a. absurd (omega (arith, zeros (size .links) l));
     }
 
 -- what a table makes, by whether it earns no refusal

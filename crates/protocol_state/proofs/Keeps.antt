@@ -2,31 +2,37 @@
 -- Assumes nothing.
 use mathlib.Core.Path.{_≡_, refl, sym, _∙_}
 use mathlib.Core.Bool.{Bool, true, false, cond, _&&_}
+use mathlib.Core.List.{List}
 use Prim.Native.Nat.{ℕ, _+_, _^_, _≤_, _<_}
 use native.Mathlib.Omega.{arith}
 use native.Mathlib.Decide.{ℕ-discrete}
 use borrow.Author.Tests.{eq-eqb, ne-eqb, lt-ltb}
 use lib.Dec.{eqb}
-use lib.ListN.{set, length-set}
+use lib.ListN.{set, length, length-set}
 use lib.Seq.{getD-set-same, getD-set-other}
 use Rattle.lists.proofs.Bools.{cond-small}
 use Rattle.lists.proofs.Lists.{length-upto}
 use Rattle.protocol.specs.Event.{Event, arrival, start, read, finish, has}
-use Rattle.protocol.specs.Table.{N}
+use Rattle.protocol.specs.Table.{marked, N}
 use Rattle.protocol.specs.Ranges.{Position}
-use Rattle.protocol.specs.Published.{leaves}
+use Rattle.protocol.specs.Published.{seenOnce, leaves}
 use Rattle.protocol.proofs.Schedule.{has-below}
 use Rattle.protocol_state.specs.Saved.{Size, Saved, Shape, at, delayedKind, linkIn, table}
 use Rattle.protocol_state.specs.Rules.{Obeys}
 use Rattle.protocol_state.specs.Decision.{decided}
 use Rattle.protocol_state.specs.Judge.{judgedArrival, judgedTask, judgedOn}
-use Rattle.protocol_state.specs.Next.{previousAt, pointerAt, phaseAt, newestAt, freedAt, newestAfter, previousAfter, pointerAfter, phaseAfter, arrived, started, finished, next}
+use Rattle.protocol_state.specs.Next.{previousAt, seenAt, pointerAt, markAt, phaseAt, newestAt, freedAt, newestAfter, previousAfter, seenAfter, pointerAfter, markAfter, phaseAfter, arrived, started, freedIn, finished, next}
 use Rattle.protocol_state.specs.Sound.{Sound}
 use Rattle.protocol_state.proofs.Decision.{arrives-idle, starts-waiting, finishes-running}
 use Rattle.protocol_state.proofs.Places.{changed, arrival-allowed, task-allowed}
 use Rattle.protocol_state.proofs.Rules as rules
 use Rattle.protocol_state.proofs.Free.{lowestAt, lowest-position}
-use Rattle.protocol_state.proofs.Arrivals.{newest-at, previous-at, phase-at, aim, pointer-at}
+use Rattle.protocol_state.proofs.Arrivals.{newest-at, previous-at, seen-at, phase-at, aim, pointer-at, markOf, mark-at}
+
+-- a link that an arrival marks is delayed
+mark-delayed : (d : Bool) (a : ℕ) → cond {A = ℕ} (marked d a) 1 0 ≡ 1 → d ≡ true
+mark-delayed true a e = refl
+mark-delayed false a e = absurd (omega arith)
 
 -- no event changes the table
 pub table-same : (ahead : ℕ → ℕ → Bool) (q : Saved) (e : Event ℕ) → table ahead (next ahead q e) ≡ table ahead q
@@ -97,6 +103,23 @@ module _ {ahead : ℕ → ℕ → Bool} {size : Size} (q : Saved) (G : Sound ahe
       stays : (l : ℕ) → l < q .links → has s (at (q .reader) l) ≡ false → at (pointerAfter ahead s q) l ≡ at (q .pointer) l
       stays l h e = pointer-at ahead q S s (room .1) l ∙ rw (lt-ltb l (q .links) h, e)
 
+      -- no, one or more arrivals are seen; who has had none did not arrive; and where fewer than two are seen, fewer were
+      seen-good : (t : ℕ) → t < q .tasks → (at (seenAfter s q) t < 3) × (at (seenAfter s q) t ≡ 0 → at (phaseAfter s q) t ≡ 0) × (at (seenAfter s q) t < 2 → at (q .seen) t < 2)
+      seen-good t l = go (has s t) refl where
+        go : (b : Bool) → has s t ≡ b → (at (seenAfter s q) t < 3) × (at (seenAfter s q) t ≡ 0 → at (phaseAfter s q) t ≡ 0) × (at (seenAfter s q) t < 2 → at (q .seen) t < 2)
+        go true e =
+            let a : at (seenAfter s q) t ≡ seenOnce (at (q .seen) t) = seen-at q S s small (room .0) t ∙ rw e in
+            (omega arith, λ z. absurd (omega arith), λ h. omega arith)
+        go false e =
+            let a : at (seenAfter s q) t ≡ at (q .seen) t = seen-at q S s small (room .0) t ∙ rw e in
+            (omega (arith, G .seen t l), λ z. phase-kept t e ∙ G .unseen t l (omega arith), λ h. omega arith)
+
+      marked-in : (l : ℕ) → l < q .links → has s (at (q .reader) l) ≡ true → at (markAfter s q) l ≡ markOf s q l
+      marked-in l h e = mark-at q S s (room .1) l ∙ rw (lt-ltb l (q .links) h, e)
+
+      mark-stays : (l : ℕ) → l < q .links → has s (at (q .reader) l) ≡ false → at (markAfter s q) l ≡ at (q .mark) l
+      mark-stays l h e = mark-at q S s (room .1) l ∙ rw (lt-ltb l (q .links) h, e)
+
       arrived-sound : Sound ahead size (arrived ahead s q)
       arrived-sound = record {
         rules = G .rules;
@@ -106,8 +129,28 @@ module _ {ahead : ℕ → ℕ → Bool} {size : Size} (q : Saved) (G : Sound ahe
         pointer = λ l h. pointer l h (has s (at (q .reader) l)) refl;
         present = λ l h n. present l h (has s (at (q .reader) l)) refl n;
         absent = λ l h a z. absent l h (has s (at (q .reader) l)) refl a z;
+        seen = λ t l. seen-good t l .0;
+        unseen = λ t l. seen-good t l .1;
+        mark = λ l h. mark l h (has s (at (q .reader) l)) refl;
+        held = λ l h. held l h (has s (at (q .reader) l)) refl;
+        early = λ l h. early l h (has s (at (q .reader) l)) refl;
       }
         where
+          -- by the mark that an arriving reader's link gets
+          mark : (l : ℕ) → l < q .links → (b : Bool) → has s (at (q .reader) l) ≡ b → at (markAfter s q) l ≤ 1
+          mark l h true e = rw (marked-in l h e) (cond-small (marked (delayedKind (at (q .kind) l)) (at (seenAfter s q) (at (q .writer) l))) (omega arith) (omega arith))
+          mark l h false e = rw (mark-stays l h e) (G .mark l h)
+
+          held : (l : ℕ) → l < q .links → (b : Bool) → has s (at (q .reader) l) ≡ b → at (markAfter s q) l ≡ 1
+              → (delayedKind (at (q .kind) l) ≡ true) × (1 ≤ at (pointerAfter ahead s q) l)
+          held l h true e i = (mark-delayed (delayedKind (at (q .kind) l)) (at (seenAfter s q) (at (q .writer) l)) (sym (marked-in l h e) ∙ i), rw (aimed l h e) (aim-good l h .0))
+          held l h false e i = rw (stays l h e) (G .held l h (sym (mark-stays l h e) ∙ i))
+
+          early : (l : ℕ) → l < q .links → (b : Bool) → has s (at (q .reader) l) ≡ b → delayedKind (at (q .kind) l) ≡ true → 1 ≤ at (pointerAfter ahead s q) l
+              → at (seenAfter s q) (at (q .writer) l) < 2 → at (markAfter s q) l ≡ 1
+          early l h true e d p a = marked-in l h e ∙ rw (d, lt-ltb _ 2 a)
+          early l h false e d p a = mark-stays l h e ∙ G .early l h d (rw (stays l h e) at p) (seen-good (at (q .writer) l) (obeys l h .writer) .2 a)
+
           pointer : (l : ℕ) → l < q .links → (b : Bool) → has s (at (q .reader) l) ≡ b → at (pointerAfter ahead s q) l ≤ N (table ahead q) (at (q .writer) l) + 2
           pointer l h true e = rw (aimed l h e) (aim-good l h .1)
           pointer l h false e = rw (stays l h e) (G .pointer l h)
@@ -153,8 +196,17 @@ module _ {ahead : ℕ → ℕ → Bool} {size : Size} (q : Saved) (G : Sound ahe
         pointer = G .pointer;
         present = λ l h n. present l h (ℕ-discrete (at (q .reader) l) t) n;
         absent = λ l h a z. absent l h (ℕ-discrete (at (q .reader) l) t) a z;
+        seen = G .seen;
+        unseen = λ u l z. unseen u l z (ℕ-discrete u t);
+        mark = G .mark;
+        held = G .held;
+        early = G .early;
       }
         where
+          unseen : (u : ℕ) → u < q .tasks → at (q .seen) u ≡ 0 → Dec (u ≡ t) → at (started t q .phase) u ≡ 0
+          unseen u l z (yes e) = absurd (omega (arith, was-waiting .0, rw e at (G .unseen u l z)))
+          unseen u l z (no e) = getD-set-other (q .phase) t u _ 0 e ∙ G .unseen u l z
+
           present : (l : ℕ) → l < q .links → Dec (at (q .reader) l ≡ t) → (at (started t q .phase) (at (q .reader) l) ≡ 0 → ⊥) → 1 ≤ at (q .pointer) l
           present l h (yes e) n = G .present l h (rw e (λ z. omega (arith, was-waiting .0)))
           present l h (no e) n = G .present l h (λ z. n (getD-set-other (q .phase) t (at (q .reader) l) _ 0 e ∙ z))
@@ -166,9 +218,15 @@ module _ {ahead : ℕ → ℕ → Bool} {size : Size} (q : Saved) (G : Sound ahe
 
     -- ---- a finish
     module _ (t v : ℕ) where
-      -- the pointers by which t reads from writers ahead become absent, and no other
+      -- of pointers or marks: those of links by which t reads from writers ahead go, and no other
+      freed-in : (xs : List ℕ) → length xs ≡ size .links → (l : ℕ) → at (freedIn ahead t q xs) l ≡ cond (leaves (table ahead q) t l) 0 (at xs l)
+      freed-in xs e l = changed (λ i. eqb (at (q .reader) i) t && ahead (at (q .writer) i) t) (λ i x. 0) (q .links) xs (omega (arith, room .1)) l 0
+
       pub freed-at : (l : ℕ) → at (finished ahead t v q .pointer) l ≡ cond (leaves (table ahead q) t l) 0 (at (q .pointer) l)
-      freed-at l = changed (λ i. eqb (at (q .reader) i) t && ahead (at (q .writer) i) t) (λ i x. 0) (q .links) (q .pointer) (omega (arith, S .pointer, room .1)) l 0
+      freed-at = freed-in (q .pointer) (S .pointer)
+
+      pub unmarked-at : (l : ℕ) → at (finished ahead t v q .mark) l ≡ cond (leaves (table ahead q) t l) 0 (at (q .mark) l)
+      unmarked-at = freed-in (q .mark) (S .mark)
 
       others-stay : (l : ℕ) → l < q .links → (at (q .reader) l ≡ t → ⊥) → at (finished ahead t v q .pointer) l ≡ at (q .pointer) l
       others-stay l h n = freed-at l ∙ rw (lt-ltb l (q .links) h, ne-eqb (at (q .reader) l) t n)
@@ -194,8 +252,27 @@ module _ {ahead : ℕ → ℕ → Bool} {size : Size} (q : Saved) (G : Sound ahe
           pointer = λ l h. rw (freed-at l) (cond-small (leaves (table ahead q) t l) (omega arith) (G .pointer l h));
           present = λ l h n. present l h (ℕ-discrete (at (q .reader) l) t) n;
           absent = λ l h a z. absent l h (ℕ-discrete (at (q .reader) l) t) a z;
+          seen = G .seen;
+          unseen = λ u l z. unseen u l z (ℕ-discrete u t);
+          mark = λ l h. rw (unmarked-at l) (cond-small (leaves (table ahead q) t l) (omega arith) (G .mark l h));
+          held = λ l h. rw (unmarked-at l, freed-at l) (held l h (leaves (table ahead q) t l));
+          early = λ l h. rw (unmarked-at l, freed-at l) (early l h (leaves (table ahead q) t l));
         }
           where
+            unseen : (u : ℕ) → u < q .tasks → at (q .seen) u ≡ 0 → Dec (u ≡ t) → at (finished ahead t v q .phase) u ≡ 0
+            unseen u l z (yes e) = rw e (was-running .1)
+            unseen u l z (no e) = getD-set-other (q .phase) t u _ 0 e ∙ G .unseen u l z
+
+            -- the mark goes where the pointer does
+            held : (l : ℕ) → l < q .links → (b : Bool) → cond b 0 (at (q .mark) l) ≡ 1 → (delayedKind (at (q .kind) l) ≡ true) × (1 ≤ cond b 0 (at (q .pointer) l))
+            held l h true i = absurd (omega arith)
+            held l h false i = G .held l h i
+
+            early : (l : ℕ) → l < q .links → (b : Bool) → delayedKind (at (q .kind) l) ≡ true → 1 ≤ cond b 0 (at (q .pointer) l) → at (q .seen) (at (q .writer) l) < 2
+                → cond b 0 (at (q .mark) l) ≡ 1
+            early l h true d p a = absurd (omega arith)
+            early l h false d p a = G .early l h d p a
+
             present : (l : ℕ) → l < q .links → Dec (at (q .reader) l ≡ t) → (at (finished ahead t v q .phase) (at (q .reader) l) ≡ 0 → ⊥) → 1 ≤ at (finished ahead t v q .pointer) l
             present l h (yes e) n = absurd (n (rw e (was-running .1)))
             present l h (no e) n = rw (others-stay l h e) (G .present l h (λ z. n (getD-set-other (q .phase) t (at (q .reader) l) _ 0 e ∙ z)))
@@ -214,28 +291,34 @@ next-sound {q = q} S G (finish t v) ok = finished-sound q G S t v ok
 
 -- no event changes the lengths of the lists
 pub next-shape : (ahead : ℕ → ℕ → Bool) {size : Size} {q : Saved} → Shape size q → (e : Event ℕ) → Shape size (next ahead q e)
-unfolding newestAfter previousAfter pointerAfter phaseAfter
+unfolding newestAfter previousAfter seenAfter pointerAfter markAfter phaseAfter
 next-shape ahead {size} {q} S (arrival s) = record {
   defaults = S .defaults;
   phase = length-upto (phaseAt s) (q .tasks) (q .phase) ∙ S .phase;
   newest = length-upto (newestAt ahead s (at (q .writer)) (at (q .reader)) (at (q .pointer)) (q .links)) (q .tasks) (q .newest) ∙ S .newest;
   previous = length-upto (previousAt s (at (q .newest))) (q .tasks) (q .previous) ∙ S .previous;
+  seen = length-upto (seenAt s) (q .tasks) (q .seen) ∙ S .seen;
   cells = S .cells;
   writer = S .writer;
   reader = S .reader;
   kind = S .kind;
+  startValue = S .startValue;
   pointer = length-upto (pointerAt s (at (q .writer)) (at (q .reader)) (at (q .kind)) (at (newestAfter ahead s q)) (at (previousAfter s q))) (q .links) (q .pointer) ∙ S .pointer;
+  mark = length-upto (markAt s (at (q .writer)) (at (q .reader)) (at (q .kind)) (at (seenAfter s q))) (q .links) (q .mark) ∙ S .mark;
 }
 next-shape ahead {size} {q} S (start t) = record {
   defaults = S .defaults;
   phase = rw length-set (S .phase);
   newest = S .newest;
   previous = S .previous;
+  seen = S .seen;
   cells = S .cells;
   writer = S .writer;
   reader = S .reader;
   kind = S .kind;
+  startValue = S .startValue;
   pointer = S .pointer;
+  mark = S .mark;
 }
 next-shape ahead S (read l) = S
 next-shape ahead {size} {q} S (finish t v) = record {
@@ -243,9 +326,12 @@ next-shape ahead {size} {q} S (finish t v) = record {
   phase = rw length-set (S .phase);
   newest = S .newest;
   previous = S .previous;
+  seen = S .seen;
   cells = rw length-set (S .cells);
   writer = S .writer;
   reader = S .reader;
   kind = S .kind;
+  startValue = S .startValue;
   pointer = length-upto (freedAt ahead t (at (q .writer)) (at (q .reader))) (q .links) (q .pointer) ∙ S .pointer;
+  mark = length-upto (freedAt ahead t (at (q .writer)) (at (q .reader))) (q .links) (q .mark) ∙ S .mark;
 }

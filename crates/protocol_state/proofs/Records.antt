@@ -10,7 +10,7 @@ use lib.ListN.{length, length-map, getD, replicate, length-replicate, List·getD
 use Rattle.lists.specs.Lists.{upto}
 use Rattle.lists.proofs.Lists.{upto-at, upto-past, length-upto}
 use Rattle.protocol.specs.Instant.{upward}
-use Rattle.protocol_state.specs.Records.{Task, defaultOf, Link, noLink, linkOf, firstTasks, firstLinks}
+use Rattle.protocol_state.specs.Records.{Task, defaultOf, Link, noLink, linkOf, firstTasks, linkFrom, firstLinks}
 use Rattle.protocol_state.specs.Saved.{at}
 use Rattle.protocol_state.specs.Fresh.{copied}
 use Rattle.protocol_state.proofs.Places.{zeros}
@@ -52,23 +52,21 @@ first-tasks-more T D =
     let z : 0 + T ≡ T = omega arith in
     ap (λ (n : ℕ). firstTasks n D) (add-one T) ∙ numbered-more (λ t. getD D t 0) 0 T ∙ ap (λ (t : ℕ). firstTasks T D ++ (at D t ∷ [])) z
 
--- the first links of three
-module _ (L : ℕ) (W R K : List ℕ) where
-  pub first-links-length : length (firstLinks L W R K) ≡ L
-  first-links-length = length-numbered (λ (l : ℕ). record { writer = getD W l 0; reader = getD R l 0; kind = getD K l 0 }) 0 L
+-- the first links of four arrays
+module _ (L : ℕ) (W R K B : List ℕ) where
+  pub first-links-length : length (firstLinks L W R K B) ≡ L
+  first-links-length = length-numbered (linkFrom W R K B) 0 L
 
-  pub first-link : (l : ℕ) → l < L → linkOf (firstLinks L W R K) l ≡ record { writer = at W l; reader = at R l; kind = at K l }
-  first-link l h =
-      numbered-at (λ (l : ℕ). record { writer = getD W l 0; reader = getD R l 0; kind = getD K l 0 }) noLink 0 L l h
-      ∙ ap (λ (l : ℕ). record { writer = getD W l 0; reader = getD R l 0; kind = getD K l 0 }) (omega arith)
+  pub first-link : (l : ℕ) → l < L → linkOf (firstLinks L W R K B) l ≡ linkFrom W R K B l
+  first-link l h = numbered-at (linkFrom W R K B) noLink 0 L l h ∙ ap (linkFrom W R K B) (omega arith)
 
   -- one more
-  pub first-links-more : firstLinks (L + 1) W R K ≡ firstLinks L W R K ++ (record { writer = at W L; reader = at R L; kind = at K L } ∷ [])
+  pub first-links-more : firstLinks (L + 1) W R K B ≡ firstLinks L W R K B ++ (linkFrom W R K B L ∷ [])
   first-links-more =
       let z : 0 + L ≡ L = omega arith in
-      ap (λ (n : ℕ). firstLinks n W R K) (add-one L)
-      ∙ numbered-more (λ (l : ℕ). record { writer = getD W l 0; reader = getD R l 0; kind = getD K l 0 }) 0 L
-      ∙ ap (λ (l : ℕ). firstLinks L W R K ++ (record { writer = at W l; reader = at R l; kind = at K l } ∷ [])) z
+      ap (λ (n : ℕ). firstLinks n W R K B) (add-one L)
+      ∙ numbered-more (linkFrom W R K B) 0 L
+      ∙ ap (λ (l : ℕ). firstLinks L W R K B ++ (linkFrom W R K B l ∷ [])) z
 
 -- lists changed alike below n are the same
 pub upto-same : {A : Type 0} (f g : ℕ → A → A) (n : ℕ) (xs : List A) → ((i : ℕ) (x : A) → i < n → f i x ≡ g i x) → upto f n xs ≡ upto g n xs

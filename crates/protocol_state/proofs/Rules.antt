@@ -1,8 +1,8 @@
 -- A table is judged 0 exactly when its counts fit and each link obeys the rules; and what the protocol rests on then holds.
 -- Assumes nothing.
-use mathlib.Core.Path.{_≡_, refl, sym}
+use mathlib.Core.Path.{_≡_, refl, sym, ap}
 use mathlib.Core.Logic.{_≢_}
-use mathlib.Core.Bool.{Bool, true, false, cond, _&&_, _||_}
+use mathlib.Core.Bool.{Bool, true, false, cond, not, _&&_, _||_, true≢false}
 use mathlib.Core.List.{List}
 use Prim.Native.Nat.{ℕ, zero, suc, _+_, _≤_, _<_}
 use native.Mathlib.Omega.{arith}
@@ -16,6 +16,11 @@ use Rattle.protocol_state.specs.Records.{Task, Link, aheadOf}
 use Rattle.protocol_state.specs.Saved.{Size, Saved, at, linkIn, table}
 use Rattle.protocol_state.specs.Rules.{Ranks, samePair, linksBehind, faultAfter, fault, Obeys, judgedTable, KeepsRules}
 use Rattle.protocol_state.proofs.Places.{some-same, count-same, leading-none-other}
+
+-- what is not false
+not-false : (b : Bool) → not b ≡ false → b ≡ true
+not-false true e = refl
+not-false false e = absurd (true≢false e)
 
 -- the order of any table's tasks is an order: nobody is ahead of himself, and of two tasks the earlier is ahead
 pub ranked : (ts : List Task) → Ranks (aheadOf ts)
@@ -35,7 +40,7 @@ fault-agrees ahead T {link} {link′} n x e =
     )
 
 module _ (ahead : ℕ → ℕ → Bool) (T : ℕ) (link : ℕ → Link) where
-  -- a link that earns no refusal obeys the rules 4 to 9
+  -- a link that earns no refusal obeys the rules 4 to 9 and 20
   pub obeys : (l : ℕ) → fault ahead T link l ≡ 0 → Obeys ahead T link l
   unfolding fault
   obeys l e =
@@ -44,7 +49,8 @@ module _ (ahead : ℕ → ℕ → Bool) (T : ℕ) (link : ℕ → Link) where
       let six = cond-zero (ltb 1 (link l .kind)) 6 _ (λ z. omega arith) (five .1) in
       let seven = cond-zero (eqb (link l .kind) 0 && ahead (link l .reader) (link l .writer)) 7 _ (λ z. omega arith) (six .1) in
       let eight = cond-zero (some (λ j. samePair (link l) (link j)) l) 8 _ (λ z. omega arith) (seven .1) in
-      let nine = cond-zero (ahead (link l .writer) (link l .reader) && leb 8 (linksBehind ahead link (link l .writer) l)) 9 0 (λ z. omega arith) (eight .1) in
+      let nine = cond-zero (ahead (link l .writer) (link l .reader) && leb 8 (linksBehind ahead link (link l .writer) l)) 9 _ (λ z. omega arith) (eight .1) in
+      let twenty = cond-zero (eqb (link l .kind) 0 && not (eqb (link l .startValue) 0)) 20 0 (λ z. omega arith) (nine .1) in
       record {
         writer = leb-false T (link l .writer) (or-left (leb T (link l .writer)) _ (four .0));
         reader = leb-false T (link l .reader) (or-right (leb T (link l .writer)) _ (four .0));
@@ -53,6 +59,7 @@ module _ (ahead : ℕ → ℕ → Bool) (T : ℕ) (link : ℕ → Link) where
         direct = λ z. and-not (eqb (link l .kind) 0) _ (seven .0) (eq-eqb (link l .kind) 0 z);
         single = λ j h a b. eqb-false (link j .reader) (link l .reader) (and-not (eqb (link j .writer) (link l .writer)) _ (some-not (λ j. samePair (link l) (link j)) l j (eight .0) h) (eq-eqb (link j .writer) (link l .writer) a)) b;
         few = λ a. leb-false 8 (linksBehind ahead link (link l .writer) l) (and-not (ahead (link l .writer) (link l .reader)) _ (nine .0) a);
+        plain = λ z. eqb-true (link l .startValue) 0 (not-false _ (and-not (eqb (link l .kind) 0) _ (twenty .0) (eq-eqb (link l .kind) 0 z)));
       }
 
   -- and one that obeys them earns none
@@ -63,7 +70,9 @@ module _ (ahead : ℕ → ℕ → Bool) (T : ℕ) (link : ℕ → Link) where
       let eighth : some (λ j. samePair (link l) (link j)) l ≡ false =
       some-of-none (λ j. samePair (link l) (link j)) l (λ j h. and-if (eqb (link j .writer) (link l .writer)) _ (λ a. ne-eqb (link j .reader) (link l .reader) (o .single j h (eqb-true _ _ a)))) in
       let ninth : (ahead (link l .writer) (link l .reader) && leb 8 (linksBehind ahead link (link l .writer) l)) ≡ false = and-if (ahead (link l .writer) (link l .reader)) _ (λ a. lt-leb 8 _ (o .few a)) in
-      rw (lt-leb T (link l .writer) (o .writer), lt-leb T (link l .reader) (o .reader), ne-eqb (link l .writer) (link l .reader) (o .apart), le-ltb 1 (link l .kind) (o .kind), seventh, eighth, ninth)
+      let twentieth : (eqb (link l .kind) 0 && not (eqb (link l .startValue) 0)) ≡ false =
+      and-if (eqb (link l .kind) 0) _ (λ e. ap not (eq-eqb (link l .startValue) 0 (o .plain (eqb-true (link l .kind) 0 e)))) in
+      rw (lt-leb T (link l .writer) (o .writer), lt-leb T (link l .reader) (o .reader), ne-eqb (link l .writer) (link l .reader) (o .apart), le-ltb 1 (link l .kind) (o .kind), seventh, eighth, ninth, twentieth)
 
   module _ (size : Size) (L : ℕ) where
     -- a table whose counts fit and whose links all obey the rules earns no refusal

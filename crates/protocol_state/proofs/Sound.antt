@@ -1,17 +1,19 @@
 -- The test of soundness passes exactly when the sentence on a sound state holds.
 -- Assumes nothing.
-use mathlib.Core.Path.{_≡_, refl, sym}
-use mathlib.Core.Bool.{Bool, true, false, cond, not, _||_, true≢false}
+use mathlib.Core.Path.{_≡_, refl, sym, _∙_}
+use mathlib.Core.Bool.{Bool, true, false, cond, not, _&&_, _||_, true≢false}
 use Prim.Native.Nat.{ℕ, _+_, _≤_, _<_}
+use native.Mathlib.Omega.{arith}
+use native.Mathlib.Decide.{ℕ-discrete}
 use borrow.Author.Tests.{le-leb, leb-true, lt-ltb, ltb-true, eqb-true, eqb-false, eq-eqb, ne-eqb}
 use lib.Dec.{eqb, ltb, leb}
 use Rattle.lists.specs.Lists.{every}
 use Rattle.lists.proofs.Bools.{and-left, and-right, and-both}
 use Rattle.lists.proofs.Lists.{every-at, every-of}
 use Rattle.protocol.specs.Table.{N}
-use Rattle.protocol_state.specs.Saved.{Size, Saved, at, linkIn, table}
+use Rattle.protocol_state.specs.Saved.{Size, Saved, at, delayedKind, linkIn, table}
 use Rattle.protocol_state.specs.Rules.{judgedTable}
-use Rattle.protocol_state.specs.Sound.{within, taskOk, pointerOk, isSound, Sound}
+use Rattle.protocol_state.specs.Sound.{within, seenIs, taskOk, pointerOk, taskStands, linkStands, isSound, Sound}
 use Rattle.protocol_state.proofs.Rules.{judged-keeps, keeps-judged}
 use Rattle.protocol_state.proofs.Places.{between, is-between, or-not}
 use Rattle.protocol_state.proofs.Rules as rules
@@ -30,12 +32,57 @@ pointer-is false a y p n = le-leb 1 y (p refl)
 pointer-is true true y p n = eq-eqb y 0 (n refl refl)
 pointer-is true false y p n = refl
 
+-- what is seen of a task's arrivals: no, one or more, and who has had none is idle
+seen-says : (ph a : ℕ) → seenIs ph a ≡ true → (a < 3) × (a ≡ 0 → ph ≡ 0)
+seen-says ph a e = (ltb-true a 3 (and-left (ltb a 3) _ e), λ z. eqb-true ph 0 (or-not (eqb a 0) _ (and-right (ltb a 3) _ e) (eq-eqb a 0 z)))
+
+seen-is : (ph a : ℕ) → a < 3 → (a ≡ 0 → ph ≡ 0) → seenIs ph a ≡ true
+seen-is ph a l i = and-both (lt-ltb a 3 l) (go (eqb a 0) refl)
+  where
+    go : (b : Bool) → eqb a 0 ≡ b → (not b || eqb ph 0) ≡ true
+    go true e = eq-eqb ph 0 (i (eqb-true a 0 e))
+    go false e = refl
+
+-- the mark m of a link, by whether it is delayed, d, by its pointer y and by its writer's arrivals a
+mark-says : (d : Bool) (y a m : ℕ) → cond (d && leb 1 y) (cond (ltb a 2) (eqb m 1) (leb m 1)) (eqb m 0) ≡ true
+    → (m ≤ 1) × (m ≡ 1 → (d ≡ true) × (1 ≤ y)) × (d ≡ true → 1 ≤ y → a < 2 → m ≡ 1)
+mark-says d y a m e = go (d && leb 1 y) refl (ltb a 2) refl e
+  where
+    there : (d && leb 1 y) ≡ true → (d ≡ true) × (1 ≤ y)
+    there i = (and-left d _ i, leb-true 1 y (and-right d _ i))
+
+    go : (b : Bool) → (d && leb 1 y) ≡ b → (c : Bool) → ltb a 2 ≡ c → cond b (cond c (eqb m 1) (leb m 1)) (eqb m 0) ≡ true
+        → (m ≤ 1) × (m ≡ 1 → (d ≡ true) × (1 ≤ y)) × (d ≡ true → 1 ≤ y → a < 2 → m ≡ 1)
+    go true i true j f = let z : m ≡ 1 = eqb-true m 1 f in (omega arith, λ x. there i, λ x p l. z)
+    go true i false j f = (leb-true m 1 f, λ x. there i, λ x p l. absurd (true≢false (sym (lt-ltb a 2 l) ∙ j)))
+    go false i c j f =
+        let z : m ≡ 0 = eqb-true m 0 f in
+        (omega arith, λ x. absurd (omega arith), λ x p l. absurd (true≢false (sym (and-both x (le-leb 1 y p)) ∙ i)))
+
+mark-is : (d : Bool) (y a m : ℕ) → m ≤ 1 → (m ≡ 1 → (d ≡ true) × (1 ≤ y)) → (d ≡ true → 1 ≤ y → a < 2 → m ≡ 1)
+    → cond (d && leb 1 y) (cond (ltb a 2) (eqb m 1) (leb m 1)) (eqb m 0) ≡ true
+mark-is d y a m l h n = go (d && leb 1 y) refl (ltb a 2) refl
+  where
+    go : (b : Bool) → (d && leb 1 y) ≡ b → (c : Bool) → ltb a 2 ≡ c → cond b (cond c (eqb m 1) (leb m 1)) (eqb m 0) ≡ true
+    go true i true j = eq-eqb m 1 (n (and-left d _ i) (leb-true 1 y (and-right d _ i)) (ltb-true a 2 j))
+    go true i false j = le-leb m 1 l
+    go false i c j = eq-eqb m 0 (none (ℕ-discrete m 1))
+      where
+        none : Dec (m ≡ 1) → m ≡ 0
+        none (yes z) = absurd (true≢false (sym (and-both (h z .0) (le-leb 1 y (h z .1))) ∙ i))
+        none (no z) = omega arith
+
 module _ (ahead : ℕ → ℕ → Bool) (size : Size) (q : Saved) where
   abbrev aTask : ℕ → Bool
-  aTask = taskOk ahead q
+  aTask = taskStands ahead q
 
-  abbrev aPointer : ℕ → Bool
-  aPointer = pointerOk ahead q
+  abbrev aLink : ℕ → Bool
+  aLink = linkStands ahead q
+
+  -- what is said of link l's mark
+  abbrev Marked : ℕ → Type 0
+  Marked l = (at (q .mark) l ≤ 1) × (at (q .mark) l ≡ 1 → (delayedKind (at (q .kind) l) ≡ true) × (1 ≤ at (q .pointer) l))
+      × (delayedKind (at (q .kind) l) ≡ true → 1 ≤ at (q .pointer) l → at (q .seen) (at (q .writer) l) < 2 → at (q .mark) l ≡ 1)
 
   abbrev judgement : ℕ
   judgement = judgedTable ahead (q .tasks) (linkIn q) size (q .links)
@@ -50,8 +97,12 @@ module _ (ahead : ℕ → ℕ → Bool) (size : Size) (q : Saved) where
   unfolding isSound
   sound-says e =
       let rest = and-right (eqb judgement 0) _ e in
-      let tasks : (t : ℕ) → t < q .tasks → aTask t ≡ true = λ t l. every-at aTask (q .tasks) t (and-left (every aTask (q .tasks)) _ rest) l in
-      let pointers : (l : ℕ) → l < q .links → aPointer l ≡ true = λ l h. every-at aPointer (q .links) l (and-right (every aTask (q .tasks)) _ rest) h in
+      let each : (t : ℕ) → t < q .tasks → aTask t ≡ true = λ t l. every-at aTask (q .tasks) t (and-left (every aTask (q .tasks)) _ rest) l in
+      let both : (l : ℕ) → l < q .links → aLink l ≡ true = λ l h. every-at aLink (q .links) l (and-right (every aTask (q .tasks)) _ rest) h in
+      let tasks : (t : ℕ) → t < q .tasks → taskOk ahead q t ≡ true = λ t l. and-left (taskOk ahead q t) _ (each t l) in
+      let seens : (t : ℕ) → t < q .tasks → (at (q .seen) t < 3) × (at (q .seen) t ≡ 0 → at (q .phase) t ≡ 0) = λ t l. seen-says _ _ (and-right (taskOk ahead q t) _ (each t l)) in
+      let pointers : (l : ℕ) → l < q .links → pointerOk ahead q l ≡ true = λ l h. and-left (pointerOk ahead q l) _ (both l h) in
+      let marks : (l : ℕ) → l < q .links → Marked l = λ l h. mark-says (delayedKind (at (q .kind) l)) (at (q .pointer) l) _ (at (q .mark) l) (and-right (pointerOk ahead q l) _ (both l h)) in
       record {
         rules = judged-keeps ahead (q .tasks) (linkIn q) size (q .links) (eqb-true judgement 0 (and-left (eqb judgement 0) _ e));
         phase = λ t l. ltb-true (at (q .phase) t) 3 (and-left (ltb (at (q .phase) t) 3) _ (tasks t l));
@@ -62,6 +113,11 @@ module _ (ahead : ℕ → ℕ → Bool) (size : Size) (q : Saved) where
         pointer = λ l h. leb-true (at (q .pointer) l) _ (and-left (leb (at (q .pointer) l) _) _ (pointers l h));
         present = λ l h n. present-is _ (ahead (at (q .writer) l) (at (q .reader) l)) (at (q .pointer) l) (ne-eqb _ 0 n) (and-right (leb (at (q .pointer) l) _) _ (pointers l h));
         absent = λ l h a z. absent-is _ (ahead (at (q .writer) l) (at (q .reader) l)) (at (q .pointer) l) (eq-eqb _ 0 z) a (and-right (leb (at (q .pointer) l) _) _ (pointers l h));
+        seen = λ t l. seens t l .0;
+        unseen = λ t l. seens t l .1;
+        mark = λ l h. marks l h .0;
+        held = λ l h. marks l h .1;
+        early = λ l h. marks l h .2;
       }
 
   -- and where it holds, the test passes
@@ -70,7 +126,11 @@ module _ (ahead : ℕ → ℕ → Bool) (size : Size) (q : Saved) where
   says-sound G =
       and-both (eq-eqb judgement 0 (keeps-judged ahead (q .tasks) (linkIn q) size (q .links) (G .rules)))
       (and-both
-      (every-of aTask (q .tasks) (λ t l. and-both (lt-ltb _ 3 (G .phase t l)) (and-both (is-between _ _ (G .newest t l)) (is-between _ _ (G .previous t l)))))
-      (every-of aPointer (q .links) (λ l h. and-both (le-leb _ _ (G .pointer l h))
+      (every-of aTask (q .tasks) (λ t l. and-both
+      (and-both (lt-ltb _ 3 (G .phase t l)) (and-both (is-between _ _ (G .newest t l)) (is-between _ _ (G .previous t l))))
+      (seen-is _ _ (G .seen t l) (G .unseen t l))))
+      (every-of aLink (q .links) (λ l h. and-both
+      (and-both (le-leb _ _ (G .pointer l h))
       (pointer-is (eqb (at (q .phase) (at (q .reader) l)) 0) (ahead (at (q .writer) l) (at (q .reader) l)) (at (q .pointer) l)
-      (λ n. G .present l h (eqb-false _ 0 n)) (λ z a. G .absent l h a (eqb-true _ 0 z))))))
+      (λ n. G .present l h (eqb-false _ 0 n)) (λ z a. G .absent l h a (eqb-true _ 0 z))))
+      (mark-is (delayedKind (at (q .kind) l)) (at (q .pointer) l) _ (at (q .mark) l) (G .mark l h) (G .held l h) (G .early l h)))))

@@ -1,6 +1,6 @@
 -- Each allowed event does to a sound state's boxes what the published protocol does, with the lowest free position; a read gives its number.
 -- Assumes nothing.
-use mathlib.Core.Path.{_≡_, refl, sym, _∙_}
+use mathlib.Core.Path.{_≡_, refl, sym, ap, _∙_}
 use mathlib.Core.Bool.{Bool, true, false, cond, _&&_}
 use mathlib.Core.List.{List}
 use Prim.Native.Nat.{ℕ, _^_, _≤_, _<_}
@@ -12,18 +12,30 @@ use lib.ListN.{getD, length, set}
 use lib.Seq.{getD-set-same, getD-set-other}
 use Rattle.lists.proofs.Bools.{and-left}
 use Rattle.protocol.specs.Event.{Event, arrival, start, read, finish, has}
+use Rattle.protocol.specs.Table.{marks}
 use Rattle.protocol.specs.Ranges.{Position}
-use Rattle.protocol.specs.Published.{Lowest, Arrived, Finished, Step, comes, number}
+use Rattle.protocol.specs.Published.{Lowest, Arrived, Finished, Step, comes, leaves, number}
 use Rattle.protocol.proofs.Schedule.{has-below}
-use Rattle.protocol_state.specs.Saved.{Size, Saved, Shape, at, cellOf, positions, oneTo, delayedKind, table, boxes}
+use Rattle.protocol_state.specs.Saved.{Size, Saved, Shape, at, cellOf, positions, oneTo, delayedKind, isMark, table, boxes}
 use Rattle.protocol_state.specs.Judge.{judgedArrival, judgedTask, judgedOn}
-use Rattle.protocol_state.specs.Next.{newestAfter, previousAfter, arrived, finished, next, valueOf}
+use Rattle.protocol_state.specs.Next.{newestAfter, previousAfter, seenAfter, arrived, finished, next, valueOf}
 use Rattle.protocol_state.specs.Sound.{Sound}
 use Rattle.protocol_state.proofs.Decision.{reads-running}
 use Rattle.protocol_state.proofs.Places.{between, is-between, task-allowed, read-allowed}
 use Rattle.protocol_state.proofs.Free.{boxes-inside, lowest-free}
-use Rattle.protocol_state.proofs.Arrivals.{newest-at, previous-at, aim, pointer-at}
+use Rattle.protocol_state.proofs.Arrivals.{newest-at, previous-at, seen-at, aim, pointer-at, mark-at}
 use Rattle.protocol_state.proofs.Keeps as keeps
+
+-- a mark that is put, where b, or stays
+mark-put : (b c : Bool) (m : ℕ) → isMark (cond b (cond c 1 0) m) ≡ cond b c (isMark m)
+mark-put true true m = refl
+mark-put true false m = refl
+mark-put false c m = refl
+
+-- a mark that goes, where b, or stays
+mark-gone : (b : Bool) (m : ℕ) → isMark (cond b 0 m) ≡ cond b false (isMark m)
+mark-gone true m = refl
+mark-gone false m = refl
 
 -- positions of one task, or of two, do not share a cell
 cell-apart : (u p t y : ℕ) → (1 ≤ p) × (p ≤ 10) → (1 ≤ y) × (y ≤ 10) → cellOf u p ≡ cellOf t y → (u ≡ t) × (p ≡ y)
@@ -62,7 +74,9 @@ module _ {ahead : ℕ → ℕ → Bool} {size : Size} (q : Saved) (S : Shape siz
     previous = λ t. previous t (has s t) refl;
     chosen = λ t e. rw (newest-at q S s small (keeps.room q G .0) ahead t 1, e) (lowest-free ahead q t (keeps.few q G t));
     kept = λ t e. newest-at q S s small (keeps.room q G .0) ahead t 1 ∙ rw e;
+    seen = seen-at q S s small (keeps.room q G .0);
     pointer = λ l. pointer-at ahead q S s (keeps.room q G .1) l ∙ pointer l (comes (table ahead q) s l) refl;
+    mark = λ l. ap isMark (mark-at q S s (keeps.room q G .1) l) ∙ mark-put (comes (table ahead q) s l) (marks (table ahead q) l (at (seenAfter s q) (at (q .writer) l))) (at (q .mark) l);
     cell = λ t p. refl;
   }
     where
@@ -92,7 +106,9 @@ module _ {ahead : ℕ → ℕ → Bool} {size : Size} (q : Saved) (S : Shape siz
       record {
         newest = λ u. refl;
         previous = λ u. refl;
+        seen = λ u. refl;
         pointer = keeps.freed-at q G S t v;
+        mark = λ l. ap isMark (keeps.unmarked-at q G S t v l) ∙ mark-gone (leaves (table ahead q) t l) (at (q .mark) l);
         cell = λ u p. rw (newest-inside t l) (stored (q .cells) t (at (q .newest) t) v (at (q .defaults) u) u p y (omega (arith, S .cells, has-room t l, y .0, y .1)));
       }
 

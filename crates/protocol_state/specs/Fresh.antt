@@ -6,7 +6,7 @@ use Prim.Native.Nat.{ℕ, _*_, _/_}
 use lib.Dec.{eqb}
 use lib.ListN.{length, replicate}
 use Rattle.lists.specs.Lists.{upto}
-use Rattle.protocol_state.specs.Records.{Task, defaultOf, Link, linkOf, writers, readers, kinds, aheadOf}
+use Rattle.protocol_state.specs.Records.{Task, defaultOf, Link, linkOf, writers, readers, kinds, startValues, aheadOf}
 use Rattle.protocol_state.specs.Saved.{Size, Saved, positions, at}
 use Rattle.protocol_state.specs.Rules.{judgedTable}
 
@@ -18,7 +18,7 @@ copied size n xs = upto (λ i x. at xs i) n (replicate size 0)
 abbrev pub filled : ℕ → List ℕ → List ℕ
 filled size D = upto (λ i x. at D (i / positions)) (size * positions) (replicate (size * positions) 0)
 
--- newest and previous at 1, every position holding the default, every pointer absent, every task idle
+-- newest and previous at 1, every position holding the default, no arrivals, every pointer absent, no marks, every task idle
 unfoldable pub freshOf : Size → List Task → List Link → Saved
 freshOf size ts ls = record {
   tasks = length ts;
@@ -27,11 +27,14 @@ freshOf size ts ls = record {
   phase = replicate (size .tasks) 0;
   newest = replicate (size .tasks) 1;
   previous = replicate (size .tasks) 1;
+  seen = replicate (size .tasks) 0;
   cells = filled (size .tasks) (copied (size .tasks) (length ts) (map defaultOf ts));
   writer = copied (size .links) (length ls) (writers ls);
   reader = copied (size .links) (length ls) (readers ls);
   kind = copied (size .links) (length ls) (kinds ls);
+  startValue = copied (size .links) (length ls) (startValues ls);
   pointer = replicate (size .links) 0;
+  mark = replicate (size .links) 0;
 }
 
 -- a single task with default 0 and no links
@@ -43,7 +46,7 @@ pub record Made : Type 0 where
   pub refusal : ℕ
   pub state : Saved
 
--- the refusal of a table, by the order that its tasks give: rules 2 to 9
+-- the refusal of a table, by the order that its tasks give: rules 2 to 9 and 20
 abbrev pub judgedLists : Size → List Task → List Link → ℕ
 judgedLists size ts ls = judgedTable (aheadOf ts) (length ts) (linkOf ls) size (length ls)
 

@@ -1,7 +1,7 @@
 -- Refusals 12 to 16 of a sound state, tried in rising order; 0 is none. T and L count tasks and links, ph are the phases, R the links' readers.
 -- Who judges what, from the mathematics down to the replay; that they agree is shown where the lower one stands:
 --   judged        (protocol)         an event, by the table and the history of accepted events: no state
---   judgedTable   (here, Rules)      a table: 2 to 9; judgedLists (Fresh) by its lists of tasks and links
+--   judgedTable   (here, Rules)      a table: 2 to 9 and 20; judgedLists (Fresh) by its lists of tasks and links
 --   judgedArrival, judgedTask, judgedRead   an event's parts, by phases; judgedEvent: an event, by which of the three it is
 --   judgedOn                         an event given to a saved state; judgedAlone (recording_core) by the state's own order, for the writer, which has no list
 --   judgedIn      (recording_core)   an event of a recording: judgedOn by the state's own order, then 18 for want of room

@@ -7,45 +7,60 @@ use lib.Dec.{eqb}
 use lib.ListN.{set}
 use Rattle.lists.specs.Lists.{upto}
 use Rattle.protocol.specs.Event.{Event, arrival, start, read, finish, has}
-use Rattle.protocol_state.specs.Saved.{Saved, at, cellOf, delayedKind}
+use Rattle.protocol.specs.Table.{marked}
+use Rattle.protocol.specs.Published.{seenOnce}
 use Rattle.protocol.specs.Free.{lowestFree}
+use Rattle.protocol_state.specs.Saved.{Saved, at, cellOf, delayedKind, isMark}
 use Rattle.protocol_state.specs.Decision.{decided}
 
 -- the state with these parts, and the others as they are: what the fields below are put anew by, and nothing else
-abbrev withParts : Saved → List ℕ → List ℕ → List ℕ → List ℕ → List ℕ → Saved
-withParts q ph n p C x = record {
+abbrev withParts : Saved → List ℕ → List ℕ → List ℕ → List ℕ → List ℕ → List ℕ → List ℕ → Saved
+withParts q ph n p a C x m = record {
   tasks = q .tasks;
   links = q .links;
   defaults = q .defaults;
   phase = ph;
   newest = n;
   previous = p;
+  seen = a;
   cells = C;
   writer = q .writer;
   reader = q .reader;
   kind = q .kind;
+  startValue = q .startValue;
   pointer = x;
+  mark = m;
 }
 
 -- the state with one field anew
 abbrev pub withPhase : List ℕ → Saved → Saved
-withPhase x q = withParts q x (q .newest) (q .previous) (q .cells) (q .pointer)
+withPhase x q = withParts q x (q .newest) (q .previous) (q .seen) (q .cells) (q .pointer) (q .mark)
 
 abbrev pub withNewest : List ℕ → Saved → Saved
-withNewest x q = withParts q (q .phase) x (q .previous) (q .cells) (q .pointer)
+withNewest x q = withParts q (q .phase) x (q .previous) (q .seen) (q .cells) (q .pointer) (q .mark)
 
 abbrev pub withPrevious : List ℕ → Saved → Saved
-withPrevious x q = withParts q (q .phase) (q .newest) x (q .cells) (q .pointer)
+withPrevious x q = withParts q (q .phase) (q .newest) x (q .seen) (q .cells) (q .pointer) (q .mark)
+
+abbrev pub withSeen : List ℕ → Saved → Saved
+withSeen x q = withParts q (q .phase) (q .newest) (q .previous) x (q .cells) (q .pointer) (q .mark)
 
 abbrev pub withCells : List ℕ → Saved → Saved
-withCells x q = withParts q (q .phase) (q .newest) (q .previous) x (q .pointer)
+withCells x q = withParts q (q .phase) (q .newest) (q .previous) (q .seen) x (q .pointer) (q .mark)
 
 abbrev pub withPointer : List ℕ → Saved → Saved
-withPointer x q = withParts q (q .phase) (q .newest) (q .previous) (q .cells) x
+withPointer x q = withParts q (q .phase) (q .newest) (q .previous) (q .seen) (q .cells) x (q .mark)
+
+abbrev pub withMark : List ℕ → Saved → Saved
+withMark x q = withParts q (q .phase) (q .newest) (q .previous) (q .seen) (q .cells) (q .pointer) x
 
 -- arrival of the set s, the writers' part: task t's previous y becomes its newest
 abbrev pub previousAt : ℕ → (ℕ → ℕ) → ℕ → ℕ → ℕ
 previousAt s newest t y = cond (has s t) (newest t) y
+
+-- and one more of its arrivals, a, is seen
+abbrev pub seenAt : ℕ → ℕ → ℕ → ℕ
+seenAt s t a = cond (has s t) (seenOnce a) a
 
 -- the readers' part: the pointer x of a link from w to r of kind k becomes the writer's newest if direct, previous if delayed
 abbrev pub aimed : ℕ → ℕ → ℕ → ℕ → (ℕ → ℕ) → (ℕ → ℕ) → ℕ → ℕ
@@ -55,6 +70,14 @@ aimed s w r k newest previous x = cond (has s r) (cond (delayedKind k) (previous
 abbrev pub pointerAt : ℕ → (ℕ → ℕ) → (ℕ → ℕ) → (ℕ → ℕ) → (ℕ → ℕ) → (ℕ → ℕ) → ℕ → ℕ → ℕ
 pointerAt s W R K newest previous l x = aimed s (W l) (R l) (K l) newest previous x
 
+-- and the mark m of a link to r of kind k is set or cleared, by the arrivals a of its writer
+abbrev pub markedBy : ℕ → ℕ → ℕ → ℕ → ℕ → ℕ
+markedBy s r k a m = cond (has s r) (cond (marked (delayedKind k) a) 1 0) m
+
+-- that of link l
+abbrev pub markAt : ℕ → (ℕ → ℕ) → (ℕ → ℕ) → (ℕ → ℕ) → (ℕ → ℕ) → ℕ → ℕ → ℕ
+markAt s W R K seen l m = markedBy s (R l) (K l) (seen (W l)) m
+
 -- then all in the set are waiting
 abbrev pub phaseAt : ℕ → ℕ → ℕ → ℕ
 phaseAt s t x = cond (has s t) (decided 0 x) x
@@ -62,6 +85,14 @@ phaseAt s t x = cond (has s t) (decided 0 x) x
 -- the previous positions after the arrival of the set s
 unfoldable pub previousAfter : ℕ → Saved → List ℕ
 previousAfter s q = upto (previousAt s (at (q .newest))) (q .tasks) (q .previous)
+
+-- what is seen of arrivals
+unfoldable pub seenAfter : ℕ → Saved → List ℕ
+seenAfter s q = upto (seenAt s) (q .tasks) (q .seen)
+
+-- the marks, set only after the writers' part
+unfoldable pub markAfter : ℕ → Saved → List ℕ
+markAfter s q = upto (markAt s (at (q .writer)) (at (q .reader)) (at (q .kind)) (at (seenAfter s q))) (q .links) (q .mark)
 
 -- and the phases
 unfoldable pub phaseAfter : ℕ → Saved → List ℕ
@@ -75,16 +106,16 @@ phasesAfter k t ph = set ph t (decided k (at ph t))
 abbrev pub started : ℕ → Saved → Saved
 started t q = withPhase (phasesAfter 1 t (q .phase)) q
 
--- the number that link l reads: the one at its pointer in its writer's positions
-abbrev pub numberRead : ℕ → (ℕ → ℕ) → (ℕ → ℕ) → (ℕ → ℕ) → ℕ
-numberRead l W P C = C (cellOf (W l) (P l))
+-- the number that link l reads: its start value where it is marked, else the one at its pointer in its writer's positions
+abbrev pub numberRead : ℕ → (ℕ → ℕ) → (ℕ → ℕ) → (ℕ → ℕ) → (ℕ → ℕ) → (ℕ → ℕ) → ℕ
+numberRead l W P M B C = cond (isMark (M l)) (B l) (C (cellOf (W l) (P l)))
 
 module _ (ahead : ℕ → ℕ → Bool) where
   -- the writers' part: task t's newest x becomes the lowest free position; n counts the links
   abbrev pub newestAt : ℕ → (ℕ → ℕ) → (ℕ → ℕ) → (ℕ → ℕ) → ℕ → ℕ → ℕ → ℕ
   newestAt s W R P n t x = cond (has s t) (lowestFree ahead W R P n t x) x
 
-  -- as t finishes: the pointer x of a link from w to r becomes absent, if t reads by it from a writer ahead of it
+  -- as t finishes: the pointer x of a link from w to r becomes absent, if t reads by it from a writer ahead of it; and its mark x, likewise, goes
   abbrev pub freed : ℕ → ℕ → ℕ → ℕ → ℕ
   freed t w r x = cond (eqb r t && ahead w t) 0 x
 
@@ -103,12 +134,18 @@ module _ (ahead : ℕ → ℕ → Bool) where
 
   -- arrival of the set s: no mailbox changes
   abbrev pub arrived : ℕ → Saved → Saved
-  arrived s q = withPointer (pointerAfter s q) (withPhase (phaseAfter s q) (withNewest (newestAfter s q) (withPrevious (previousAfter s q) q)))
+  arrived s q =
+      withMark (markAfter s q)
+      (withPointer (pointerAfter s q)
+      (withPhase (phaseAfter s q) (withSeen (seenAfter s q) (withNewest (newestAfter s q) (withPrevious (previousAfter s q) q)))))
 
-  -- finish, of all but the mailboxes: pointers from writers ahead become absent, the task is idle
+  -- of all links' pointers, or marks
+  abbrev pub freedIn : ℕ → Saved → List ℕ → List ℕ
+  freedIn t q xs = upto (freedAt t (at (q .writer)) (at (q .reader))) (q .links) xs
+
+  -- finish, of all but the mailboxes: pointers from writers ahead become absent, and their marks go; the task is idle
   abbrev pub released : ℕ → Saved → Saved
-  released t q =
-      withPhase (phasesAfter 3 t (q .phase)) (withPointer (upto (freedAt t (at (q .writer)) (at (q .reader))) (q .links) (q .pointer)) q)
+  released t q = withPhase (phasesAfter 3 t (q .phase)) (withMark (freedIn t q (q .mark)) (withPointer (freedIn t q (q .pointer)) q))
 
   -- finish: and the value goes to the newest position
   abbrev pub finished : ℕ → ℕ → Saved → Saved
@@ -122,12 +159,12 @@ module _ (ahead : ℕ → ℕ → Bool) where
   next q (finish t v) = finished t v q
 
 -- the value of an accepted event: the number of a read, else 0
-abbrev pub valueBy : Event ℕ → (ℕ → ℕ) → (ℕ → ℕ) → (ℕ → ℕ) → ℕ
-valueBy (arrival s) W P C = 0
-valueBy (start t) W P C = 0
-valueBy (read l) W P C = numberRead l W P C
-valueBy (finish t v) W P C = 0
+abbrev pub valueBy : Event ℕ → (ℕ → ℕ) → (ℕ → ℕ) → (ℕ → ℕ) → (ℕ → ℕ) → (ℕ → ℕ) → ℕ
+valueBy (arrival s) W P M B C = 0
+valueBy (start t) W P M B C = 0
+valueBy (read l) W P M B C = numberRead l W P M B C
+valueBy (finish t v) W P M B C = 0
 
 -- that of an event given to a saved state
 abbrev pub valueOf : Saved → Event ℕ → ℕ
-valueOf q e = valueBy e (at (q .writer)) (at (q .pointer)) (at (q .cells))
+valueOf q e = valueBy e (at (q .writer)) (at (q .pointer)) (at (q .mark)) (at (q .startValue)) (at (q .cells))

@@ -14,15 +14,16 @@ Task = ℕ
 abbrev pub defaultOf : Task → ℕ
 defaultOf d = d
 
--- a link: "writer, reader, kind (0 direct, 1 delayed)"
+-- a link: "writer, reader, kind (0 direct, 1 delayed)", and document 02's start value
 pub record Link : Type 0 where
   pub writer : ℕ
   pub reader : ℕ
   pub kind : ℕ
+  pub startValue : ℕ
 
 -- what stands past the last link; no rule speaks of it
 abbrev pub noLink : Link
-noLink = record { writer = 0; reader = 0; kind = 0 }
+noLink = record { writer = 0; reader = 0; kind = 0; startValue = 0 }
 
 -- link l of these
 abbrev pub linkOf : List Link → ℕ → Link
@@ -38,13 +39,20 @@ readers ls = map (λ (l : Link). l .reader) ls
 abbrev pub kinds : List Link → List ℕ
 kinds ls = map (λ (l : Link). l .kind) ls
 
+abbrev pub startValues : List Link → List ℕ
+startValues ls = map (λ (l : Link). l .startValue) ls
+
 -- a table handed over in arrays: the first T of the defaults D
 abbrev pub firstTasks : ℕ → List ℕ → List Task
 firstTasks T D = map (λ (t : ℕ). getD D t 0) (upward 0 T)
 
--- and the first L of the writers W, the readers R and the kinds K
-abbrev pub firstLinks : ℕ → List ℕ → List ℕ → List ℕ → List Link
-firstLinks L W R K = map (λ (l : ℕ). record { writer = getD W l 0; reader = getD R l 0; kind = getD K l 0 }) (upward 0 L)
+-- link l of the writers W, the readers R, the kinds K and the start values B
+abbrev pub linkFrom : List ℕ → List ℕ → List ℕ → List ℕ → ℕ → Link
+linkFrom W R K B l = record { writer = getD W l 0; reader = getD R l 0; kind = getD K l 0; startValue = getD B l 0 }
+
+-- and the first L of these
+abbrev pub firstLinks : ℕ → List ℕ → List ℕ → List ℕ → List ℕ → List Link
+firstLinks L W R K B = map (linkFrom W R K B) (upward 0 L)
 
 -- "the earlier one is more urgent": task u is ahead of task t
 abbrev pub earlier : ℕ → ℕ → Bool

@@ -1,8 +1,8 @@
--- Links a station may have: refusals 2 to 9. T counts the tasks, L the links; `link l` is link l.
+-- Links a station may have: refusals 2 to 9 and 20. T counts the tasks, L the links; `link l` is link l.
 -- Assumes nothing.
 use mathlib.Core.Path.{_≡_}
 use mathlib.Core.Logic.{_≢_}
-use mathlib.Core.Bool.{Bool, true, false, cond, _&&_, _||_}
+use mathlib.Core.Bool.{Bool, true, false, cond, not, _&&_, _||_}
 use Prim.Native.Nat.{ℕ, _≤_, _<_}
 use lib.Dec.{eqb, ltb, leb}
 use Rattle.lists.specs.Lists.{some, leading}
@@ -29,7 +29,8 @@ module _ (ahead : ℕ → ℕ → Bool) where
       (cond (ltb 1 (x .kind)) 6
       (cond (eqb (x .kind) 0 && ahead (x .reader) (x .writer)) 7
       (cond twice 8
-      (cond (ahead (x .writer) (x .reader) && leb 8 n) 9 0)))))
+      (cond (ahead (x .writer) (x .reader) && leb 8 n) 9
+      (cond (eqb (x .kind) 0 && not (eqb (x .startValue) 0)) 20 0))))))
 
   -- how many of the first n links go from task t to readers behind
   abbrev pub linksBehind : (ℕ → Link) → ℕ → ℕ → ℕ
@@ -40,11 +41,11 @@ module _ (ahead : ℕ → ℕ → Bool) where
   faultAfter T link n x = faultOf T x (some (λ j. samePair x (link j)) n) (linksBehind link (x .writer) n)
 
   module _ (T : ℕ) (link : ℕ → Link) where
-    -- the refusal that link l earns, in rising order; 0 is none
+    -- the refusal that link l earns, in rising order, 20 "tried after 9"; 0 is none
     unfoldable pub fault : ℕ → ℕ
     fault l = faultAfter T link l (link l)
 
-    -- link l obeys the rules 4 to 9
+    -- link l obeys the rules 4 to 9, and 20: "a direct link must carry 0 there"
     pub record Obeys (l : ℕ) : Type 0 where
       pub writer : link l .writer < T
       pub reader : link l .reader < T
@@ -53,12 +54,13 @@ module _ (ahead : ℕ → ℕ → Bool) where
       pub direct : link l .kind ≡ 0 → ahead (link l .reader) (link l .writer) ≡ false
       pub single : (j : ℕ) → j < l → link j .writer ≡ link l .writer → link j .reader ≢ link l .reader
       pub few : ahead (link l .writer) (link l .reader) ≡ true → linksBehind link (link l .writer) l < 8
+      pub plain : link l .kind ≡ 0 → link l .startValue ≡ 0
 
     -- the refusal that a whole table earns: its counts (2, 3), then the first link at fault
     unfoldable pub judgedTable : Size → ℕ → ℕ
     judgedTable size L = cond (eqb T 0 || ltb (size .tasks) T) 2 (cond (ltb (size .links) L) 3 (leading fault L))
 
-    -- a table that keeps rules 2 to 9: its counts are within the room, and each link obeys
+    -- a table that keeps rules 2 to 9 and 20: its counts are within the room, and each link obeys
     pub record KeepsRules (size : Size) (L : ℕ) : Type 0 where
       pub tasks : (1 ≤ T) × (T ≤ size .tasks)
       pub links : L ≤ size .links

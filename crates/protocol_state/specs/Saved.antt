@@ -8,7 +8,7 @@ use lib.Dec.{eqb, leb}
 use lib.ListN.{getD, length}
 use Rattle.protocol.specs.Table.{Table}
 use Rattle.protocol.specs.Published.{Boxes}
-use Rattle.protocol_state.specs.Records.{Task, Link, firstTasks, aheadOf}
+use Rattle.protocol_state.specs.Records.{Task, Link, firstTasks, linkFrom, aheadOf}
 
 -- how many tasks and links there is room for
 pub record Size : Type 0 where
@@ -31,7 +31,8 @@ at xs i = getD xs i 0
 abbrev pub cellOf : ℕ → ℕ → ℕ
 cellOf t p = t * positions + (p - 1)
 
--- a phase is 0 idle, 1 waiting or 2 running; a pointer of 0 is absent; a kind is 0 direct or 1 delayed
+-- a phase is 0 idle, 1 waiting or 2 running; `seen` is 0, 1 or 2 for no, one or more arrivals; a pointer of 0 is absent; a mark is 0 for none or 1;
+-- a kind is 0 direct or 1 delayed
 pub record Saved : Type 0 where
   pub tasks : ℕ
   pub links : ℕ
@@ -39,11 +40,14 @@ pub record Saved : Type 0 where
   pub phase : List ℕ
   pub newest : List ℕ
   pub previous : List ℕ
+  pub seen : List ℕ
   pub cells : List ℕ
   pub writer : List ℕ
   pub reader : List ℕ
   pub kind : List ℕ
+  pub startValue : List ℕ
   pub pointer : List ℕ
+  pub mark : List ℕ
 
 -- the lists have room for just so many
 pub record Shape (size : Size) (q : Saved) : Type 0 where
@@ -51,15 +55,22 @@ pub record Shape (size : Size) (q : Saved) : Type 0 where
   pub phase : length (q .phase) ≡ size .tasks
   pub newest : length (q .newest) ≡ size .tasks
   pub previous : length (q .previous) ≡ size .tasks
+  pub seen : length (q .seen) ≡ size .tasks
   pub cells : length (q .cells) ≡ size .tasks * positions
   pub writer : length (q .writer) ≡ size .links
   pub reader : length (q .reader) ≡ size .links
   pub kind : length (q .kind) ≡ size .links
+  pub startValue : length (q .startValue) ≡ size .links
   pub pointer : length (q .pointer) ≡ size .links
+  pub mark : length (q .mark) ≡ size .links
 
 -- the kind of a delayed link
 abbrev pub delayedKind : ℕ → Bool
 delayedKind k = eqb k 1
+
+-- the mark of a link that is marked
+abbrev pub isMark : ℕ → Bool
+isMark m = eqb m 1
 
 -- its tasks, and who is ahead of whom by them
 abbrev pub tasksIn : Saved → List Task
@@ -70,7 +81,7 @@ aheadIn q = aheadOf (tasksIn q)
 
 -- its link l
 abbrev pub linkIn : Saved → ℕ → Link
-linkIn q l = record { writer = at (q .writer) l; reader = at (q .reader) l; kind = at (q .kind) l }
+linkIn q = linkFrom (q .writer) (q .reader) (q .kind) (q .startValue)
 
 -- its table, under the order `ahead`
 abbrev pub table : (ℕ → ℕ → Bool) → Saved → Table ℕ
@@ -78,6 +89,7 @@ table ahead q = record {
   tasks = q .tasks;
   links = q .links;
   default = at (q .defaults);
+  startValue = at (q .startValue);
   writer = at (q .writer);
   reader = at (q .reader);
   delayed = λ l. delayedKind (at (q .kind) l);
@@ -101,6 +113,8 @@ abbrev pub boxes : Saved → Boxes ℕ
 boxes q = record {
   newest = λ t. getD (q .newest) t 1;
   previous = λ t. getD (q .previous) t 1;
+  seen = at (q .seen);
   pointer = at (q .pointer);
+  mark = λ l. isMark (at (q .mark) l);
   cell = λ t p. cond (oneTo positions p) (at (q .cells) (cellOf t p)) (at (q .defaults) t);
 }

@@ -7,7 +7,7 @@ use lib.Dec.{eqb, ltb, leb}
 use Rattle.lists.specs.Lists.{every}
 use Rattle.protocol.specs.Table.{N}
 use Rattle.protocol.specs.Ranges.{Position}
-use Rattle.protocol_state.specs.Saved.{Size, Saved, at, linkIn, aheadIn, table, oneTo}
+use Rattle.protocol_state.specs.Saved.{Size, Saved, at, delayedKind, linkIn, aheadIn, table, oneTo}
 use Rattle.protocol_state.specs.Rules.{judgedTable, KeepsRules}
 
 -- y is one of N + 2 positions
@@ -17,6 +17,23 @@ within N y = oneTo (N + 2) y
 -- a task with this phase, newest and previous, and N links to readers behind: one of the three phases, both positions in 1 to N + 2
 abbrev pub taskIs : ℕ → ℕ → ℕ → ℕ → Bool
 taskIs ph y z N = ltb ph 3 && (within N y && within N z)
+
+-- what is seen of the arrivals of a task with this phase: no, one or more; "a task without arrivals is idle"
+abbrev pub seenIs : ℕ → ℕ → Bool
+seenIs ph a = ltb a 3 && (not (eqb a 0) || eqb ph 0)
+
+-- the mark m of a link of kind k with pointer y, whose writer's arrivals are seen as a: at a present pointer of a delayed link it stands while a is below two,
+-- and may stand or not from then on; elsewhere there is none
+abbrev pub markIs : ℕ → ℕ → ℕ → ℕ → Bool
+markIs k y a m = cond (delayedKind k && leb 1 y) (cond (ltb a 2) (eqb m 1) (leb m 1)) (eqb m 0)
+
+-- the arrivals of task t are so
+abbrev pub seenOk : Saved → ℕ → Bool
+seenOk q t = seenIs (at (q .phase) t) (at (q .seen) t)
+
+-- the mark of link l is so
+abbrev pub markOk : Saved → ℕ → Bool
+markOk q l = markIs (at (q .kind) l) (at (q .pointer) l) (at (q .seen) (at (q .writer) l)) (at (q .mark) l)
 
 module _ (ahead : ℕ → ℕ → Bool) where
   -- task t is so
@@ -32,15 +49,23 @@ module _ (ahead : ℕ → ℕ → Bool) where
   pointerOk q l =
       pointerIs (at (q .writer) l) (at (q .reader) l) (at (q .pointer) l) (at (q .phase) (at (q .reader) l)) (N (table ahead q) (at (q .writer) l))
 
-  -- the test: the table keeps rules 2 to 9, each task and each pointer is as it must be
+  -- a task and a link are as they must be
+  abbrev pub taskStands : Saved → ℕ → Bool
+  taskStands q t = taskOk q t && seenOk q t
+
+  abbrev pub linkStands : Saved → ℕ → Bool
+  linkStands q l = pointerOk q l && markOk q l
+
+  -- the test: the table keeps rules 2 to 9 and 20, and each task and each link is as it must be
   unfoldable pub isSound : Size → Saved → Bool
   isSound size q =
       eqb (judgedTable ahead (q .tasks) (linkIn q) size (q .links)) 0
-      && (every (taskOk q) (q .tasks) && every (pointerOk q) (q .links))
+      && (every (taskStands q) (q .tasks) && every (linkStands q) (q .links))
 
-  -- document 01's sentence: the table keeps rules 2 to 9, newest and previous lie in 1 to N + 2, each present pointer does so for its writer,
-  -- no pointer of an active reader is absent, and every pointer from a writer ahead of an idle reader is absent. `phase` says besides that a saved
-  -- number is one of the three phases: the document knows no other
+  -- document 01's sentence: the table keeps rules 2 to 9 "and any table rule added later" (20), newest and previous lie in 1 to N + 2, each present pointer
+  -- does so for its writer, no pointer of an active reader is absent, and every pointer from a writer ahead of an idle reader is absent. `phase` says besides
+  -- that a saved number is one of the three phases: the document knows no other. Document 02's: no, one or more arrivals, "a task without arrivals is
+  -- idle"; a mark is there or not, "stands only at present pointers", of delayed links, "and at each whose writer has had fewer than two arrivals"
   pub record Sound (size : Size) (q : Saved) : Type 0 where
     pub rules : KeepsRules ahead (q .tasks) (linkIn q) size (q .links)
     pub phase : (t : ℕ) → t < q .tasks → at (q .phase) t < 3
@@ -49,6 +74,11 @@ module _ (ahead : ℕ → ℕ → Bool) where
     pub pointer : (l : ℕ) → l < q .links → at (q .pointer) l ≤ N (table ahead q) (at (q .writer) l) + 2
     pub present : (l : ℕ) → l < q .links → (at (q .phase) (at (q .reader) l) ≡ 0 → ⊥) → 1 ≤ at (q .pointer) l
     pub absent : (l : ℕ) → l < q .links → ahead (at (q .writer) l) (at (q .reader) l) ≡ true → at (q .phase) (at (q .reader) l) ≡ 0 → at (q .pointer) l ≡ 0
+    pub seen : (t : ℕ) → t < q .tasks → at (q .seen) t < 3
+    pub unseen : (t : ℕ) → t < q .tasks → at (q .seen) t ≡ 0 → at (q .phase) t ≡ 0
+    pub mark : (l : ℕ) → l < q .links → at (q .mark) l ≤ 1
+    pub held : (l : ℕ) → l < q .links → at (q .mark) l ≡ 1 → (delayedKind (at (q .kind) l) ≡ true) × (1 ≤ at (q .pointer) l)
+    pub early : (l : ℕ) → l < q .links → delayedKind (at (q .kind) l) ≡ true → 1 ≤ at (q .pointer) l → at (q .seen) (at (q .writer) l) < 2 → at (q .mark) l ≡ 1
 
 -- the test and the sentence, by the order of the state's own tasks
 abbrev pub testedSound : Size → Saved → Bool

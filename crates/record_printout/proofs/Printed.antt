@@ -8,13 +8,13 @@ use borrow.Author.Tests.{lt-ltb, le-ltb, eq-eqb, ne-eqb}
 use lib.ListN.{length}
 use Rattle.recording_make.specs.Made.{madeOf}
 use Rattle.recording_make.specs.declared.Made.{Made}
-use Rattle.record_printout.specs.Printed.{lengthPrinted}
+use Rattle.record_printout.specs.Printed.{longest, lengthPrinted}
 
 pub too-long : (text : List ℕ) → 1048576 < length text → 0 ≡ lengthPrinted text
 too-long text l = rw (lt-ltb _ _ l)
 
 -- what was made of a text that is not too long
-module _ (text : List ℕ) (m : Made) (l : length text ≤ 1048576) (e : m ≡ madeOf text 60164) where
+module _ (text : List ℕ) (m : Made) (l : length text ≤ 1048576) (e : m ≡ madeOf text longest) where
   pub at-fault : m .fault ≢ 0 → 0 ≡ lengthPrinted text
   at-fault n = rw (le-ltb _ _ l, ← e, ne-eqb _ 0 n)
 

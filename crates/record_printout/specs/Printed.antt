@@ -8,10 +8,14 @@ use lib.ListN.{length}
 use Rattle.recording_make.specs.Made.{madeOf}
 use Rattle.recording_make.specs.declared.Made.{Made}
 
+-- the room for a recording: the bytes of the longest
+abbrev pub longest : ℕ
+longest = 60293
+
 -- how many bytes a recording has that was made, 0 where there is none
 abbrev pub lengthMade : Made → ℕ
 lengthMade m = cond (eqb (m .fault) 0 && eqb (m .refusal) 0) (m .place) 0
 
 -- how many bytes the recording has that is printed of a text, 0 where there is none: of a text that is too long, or one with a fault or a refusal
 abbrev pub lengthPrinted : List ℕ → ℕ
-lengthPrinted text = cond (ltb 1048576 (length text)) 0 (lengthMade (madeOf text 60164))
+lengthPrinted text = cond (ltb 1048576 (length text)) 0 (lengthMade (madeOf text longest))

@@ -1,5 +1,5 @@
--- The cases that document 01 marks to be shown of the definitions, as one table under one claim: bytes, and the whole answer, which is refusal, place, state,
--- counts and list.
+-- The cases that document 01 marks to be shown of the definitions, and document 02's two (another first byte, a direct link with a start value), as one table
+-- under one claim: bytes, and the whole answer, which is refusal, place, state, counts and list.
 -- Assumes nothing.
 use mathlib.Core.Path.{_≡_, refl}
 use mathlib.Core.List.{List, [], _∷_, _++_, map}
@@ -10,7 +10,7 @@ use Rattle.protocol.specs.Event.{Event, arrival, start, read, finish, has}
 use Rattle.protocol_state.specs.Saved.{Saved, base, positions}
 use Rattle.protocol_state.specs.Decision.{decided}
 use Rattle.protocol_state.specs.Judge.{judgedArrival, judgedTask, judgedRead}
-use Rattle.protocol_state.specs.Next.{newestAfter, previousAfter, pointerAfter, phaseAfter}
+use Rattle.protocol_state.specs.Next.{newestAfter, previousAfter, seenAfter, pointerAfter, markAfter, phaseAfter}
 use Rattle.protocol_state.specs.Fresh.{freshOf}
 use Rattle.byte_format.specs.Number.{bytesOf, numberOf}
 use Rattle.byte_format.specs.Format.{encodes}
@@ -20,7 +20,7 @@ use Rattle.recording_format.specs.Link.{Link, linkFault}
 use Rattle.recording_format.specs.Event.{encodeEvent}
 use Rattle.byte_format.specs.Kinded.{firstByte}
 use Rattle.recording_format.specs.RecordingKind.{baseRecording}
-use Rattle.recording_format.specs.Recording.{encodeRecording, tableThen, eventsFrom, recording}
+use Rattle.recording_format.specs.Recording.{encodeRecording, sectionsThen, tableThen, eventsFrom, recording}
 use Rattle.recording_core.specs.Playing.{Playing, coreOf, judgedIn, steppedIn}
 
 -- n entries, these first and x at the others
@@ -39,10 +39,15 @@ replied r p q a s n f list = verdict r p (record { state = q; counts = record { 
 abbrev untouched : ℕ → ℕ → Saved → Verdict Playing
 untouched r p q = replied r p q 0 0 0 0 []
 
-abbrev link : ℕ → ℕ → ℕ → Link
-link w r k = record { writer = w; reader = r; kind = k }
+-- a link with this start value
+abbrev linked : ℕ → ℕ → ℕ → ℕ → Link
+linked w r k v = record { writer = w; reader = r; kind = k; startValue = v }
 
--- so many tasks with default 0 and so many links with these writers, readers and kinds, all of it fresh
+-- and one with the start value 0
+abbrev link : ℕ → ℕ → ℕ → Link
+link w r k = linked w r k 0
+
+-- so many tasks with default 0 and so many links with these writers, readers and kinds and the start value 0, all of it fresh
 abbrev fresh : ℕ → ℕ → List ℕ → List ℕ → List ℕ → Saved
 fresh T L W R K = record {
   tasks = T;
@@ -51,11 +56,14 @@ fresh T L W R K = record {
   phase = replicate (base .tasks) 0;
   newest = replicate (base .tasks) 1;
   previous = replicate (base .tasks) 1;
+  seen = replicate (base .tasks) 0;
   cells = replicate (base .tasks * positions) 0;
   writer = filledUp (base .links) 0 W;
   reader = filledUp (base .links) 0 R;
   kind = filledUp (base .links) 0 K;
+  startValue = replicate (base .links) 0;
   pointer = replicate (base .links) 0;
+  mark = replicate (base .links) 0;
 }
 
 -- a single task with no links: the state at a refusal before the events
@@ -63,8 +71,8 @@ abbrev alone : Saved
 alone = fresh 1 0 [] [] []
 
 -- two tasks and one link
-abbrev joined : ℕ → ℕ → ℕ → List ℕ
-joined w r k = encodeRecording baseRecording (0 ∷ 0 ∷ []) (link w r k ∷ []) []
+abbrev joined : Link → List ℕ
+joined l = encodeRecording baseRecording (0 ∷ 0 ∷ []) (l ∷ []) []
 
 -- task 0 to tasks 1 to 8, and to task 9 besides
 abbrev nine : List ℕ
@@ -74,35 +82,39 @@ nine =
 
 -- the station of the long example, with these events
 abbrev example : List (Event ℕ) → List ℕ
-example es = encodeRecording baseRecording (0 ∷ 100 ∷ 0 ∷ 0 ∷ []) (link 1 0 1 ∷ link 1 2 0 ∷ link 1 3 0 ∷ []) es
+example es = encodeRecording baseRecording (0 ∷ 100 ∷ 0 ∷ 0 ∷ []) (linked 1 0 1 90 ∷ link 1 2 0 ∷ link 1 3 0 ∷ []) es
 
--- its state: phases, newest and previous of its tasks, the first numbers of task 1, which has 100 at the other positions, and pointers of its links
-abbrev station : List ℕ → List ℕ → List ℕ → List ℕ → List ℕ → Saved
-station ph n p c x = record {
+-- its state: phases, newest and previous of its tasks, what is seen of their arrivals, the first numbers of task 1, which has 100 at the other
+-- positions, and pointers and marks of its links
+abbrev station : List ℕ → List ℕ → List ℕ → List ℕ → List ℕ → List ℕ → List ℕ → Saved
+station ph n p a c x m = record {
   tasks = 4;
   links = 3;
   defaults = filledUp (base .tasks) 0 (0 ∷ 100 ∷ []);
   phase = filledUp (base .tasks) 0 ph;
   newest = filledUp (base .tasks) 1 n;
   previous = filledUp (base .tasks) 1 p;
+  seen = filledUp (base .tasks) 0 a;
   cells = filledUp (base .tasks * positions) 0 (replicate positions 0 ++ filledUp positions 100 c);
   writer = filledUp (base .links) 0 (1 ∷ 1 ∷ 1 ∷ []);
   reader = filledUp (base .links) 0 (0 ∷ 2 ∷ 3 ∷ []);
   kind = filledUp (base .links) 0 (1 ∷ []);
+  startValue = filledUp (base .links) 0 (90 ∷ []);
   pointer = filledUp (base .links) 0 x;
+  mark = filledUp (base .links) 0 m;
 }
 
--- after the first arrival, with these phases
+-- after the first arrival, with these phases: the delayed link has settled on its start value
 abbrev arrived : List ℕ → Saved
-arrived ph = station ph (2 ∷ 2 ∷ 2 ∷ 2 ∷ []) (1 ∷ []) [] (1 ∷ 2 ∷ 2 ∷ [])
+arrived ph = station ph (2 ∷ 2 ∷ 2 ∷ 2 ∷ []) (1 ∷ []) (1 ∷ 1 ∷ 1 ∷ 1 ∷ []) [] (1 ∷ 2 ∷ 2 ∷ []) (1 ∷ [])
 
 -- after the second
 abbrev midway : Saved
-midway = station (1 ∷ 1 ∷ 0 ∷ 2 ∷ []) (1 ∷ 1 ∷ 2 ∷ 2 ∷ []) (2 ∷ 2 ∷ 1 ∷ 1 ∷ []) (100 ∷ 101 ∷ []) (2 ∷ 0 ∷ 2 ∷ [])
+midway = station (1 ∷ 1 ∷ 0 ∷ 2 ∷ []) (1 ∷ 1 ∷ 2 ∷ 2 ∷ []) (2 ∷ 2 ∷ 1 ∷ 1 ∷ []) (2 ∷ 2 ∷ 1 ∷ 1 ∷ []) (100 ∷ 101 ∷ []) (2 ∷ 0 ∷ 2 ∷ []) []
 
 -- after all events
 abbrev done : Saved
-done = station [] (1 ∷ 3 ∷ 1 ∷ 1 ∷ []) (2 ∷ 1 ∷ 2 ∷ 2 ∷ []) (102 ∷ 101 ∷ 103 ∷ []) (1 ∷ [])
+done = station [] (1 ∷ 3 ∷ 1 ∷ 1 ∷ []) (2 ∷ 1 ∷ 2 ∷ 2 ∷ []) (2 ∷ 2 ∷ 2 ∷ 2 ∷ []) (102 ∷ 101 ∷ 103 ∷ []) (1 ∷ []) []
 
 -- up to the second arrival, and the rest
 abbrev begun : List (Event ℕ)
@@ -115,28 +127,32 @@ rest =
 
 -- one task, no links, no events
 abbrev least : List ℕ
-least = 1 ∷ 0 ∷ 0 ∷ 0 ∷ 0 ∷ 0 ∷ 0 ∷ 0 ∷ []
+least = 253 ∷ 1 ∷ 0 ∷ 0 ∷ 0 ∷ 0 ∷ 0 ∷ 0 ∷ 0 ∷ []
 
 abbrev cases : List (List ℕ)
 cases =
     -- empty input
     []
+    -- another first byte
+    ∷ (252 ∷ [])
     -- the least recording
     ∷ least
     -- and one byte
     ∷ (least ++ (0 ∷ []))
     -- T is 17
-    ∷ (17 ∷ [])
+    ∷ (253 ∷ 17 ∷ [])
     -- a ninth link to a reader behind
     ∷ nine
     -- link 1 to 0, direct and delayed
-    ∷ joined 1 0 0
-    ∷ joined 1 0 1
+    ∷ joined (link 1 0 0)
+    ∷ joined (link 1 0 1)
     -- link 0 to 0, direct and delayed
-    ∷ joined 0 0 0
-    ∷ joined 0 0 1
+    ∷ joined (link 0 0 0)
+    ∷ joined (link 0 0 1)
     -- kind 2
-    ∷ joined 0 1 2
+    ∷ joined (link 0 1 2)
+    -- a direct link with the start value 1
+    ∷ joined (linked 0 1 0 1)
     -- R2 right after the second arrival
     ∷ example (begun ++ (read 2 ∷ []))
     -- A{3} there
@@ -151,20 +167,22 @@ cases =
 
 pub marked-cases : map answer cases ≡
     (untouched 1 0 alone
-    ∷ untouched 0 8 alone
-    ∷ untouched 17 8 alone
     ∷ untouched 2 0 alone
-    ∷ untouched 9 66 alone
-    ∷ untouched 7 10 alone
-    ∷ untouched 0 15 (fresh 2 1 (1 ∷ []) (0 ∷ []) (1 ∷ []))
-    ∷ untouched 5 10 alone
-    ∷ untouched 5 10 alone
-    ∷ untouched 6 10 alone
-    ∷ replied 16 65 midway 6 4 2 3 (100 ∷ 101 ∷ [])
-    ∷ replied 13 65 midway 6 4 2 3 (100 ∷ 101 ∷ [])
-    ∷ replied 0 148 done 11 11 8 11 (100 ∷ 101 ∷ 101 ∷ 102 ∷ 102 ∷ 101 ∷ 102 ∷ 103 ∷ [])
-    ∷ replied 14 34 (arrived (2 ∷ 1 ∷ 1 ∷ 1 ∷ [])) 4 1 0 0 []
-    ∷ replied 15 32 (arrived (1 ∷ 1 ∷ 1 ∷ 1 ∷ [])) 4 0 0 0 []
+    ∷ untouched 0 9 alone
+    ∷ untouched 17 9 alone
+    ∷ untouched 2 1 alone
+    ∷ untouched 9 99 alone
+    ∷ untouched 7 11 alone
+    ∷ untouched 0 20 (fresh 2 1 (1 ∷ []) (0 ∷ []) (1 ∷ []))
+    ∷ untouched 5 11 alone
+    ∷ untouched 5 11 alone
+    ∷ untouched 6 11 alone
+    ∷ untouched 20 11 alone
+    ∷ replied 16 78 midway 6 4 2 3 (90 ∷ 101 ∷ [])
+    ∷ replied 13 78 midway 6 4 2 3 (90 ∷ 101 ∷ [])
+    ∷ replied 0 161 done 11 11 8 11 (90 ∷ 101 ∷ 101 ∷ 102 ∷ 102 ∷ 101 ∷ 102 ∷ 103 ∷ [])
+    ∷ replied 14 47 (arrived (2 ∷ 1 ∷ 1 ∷ 1 ∷ [])) 4 1 0 0 []
+    ∷ replied 15 45 (arrived (1 ∷ 1 ∷ 1 ∷ 1 ∷ [])) 4 0 0 0 []
     ∷ [])
-unfolding upto every some count first leading has decided judgedArrival judgedTask judgedRead newestAfter previousAfter pointerAfter phaseAfter freshOf bytesOf numberOf encodes play countAt section linkFault firstByte encodeEvent recording tableThen eventsFrom judgedIn steppedIn
+unfolding upto every some count first leading has decided judgedArrival judgedTask judgedRead newestAfter previousAfter seenAfter pointerAfter markAfter phaseAfter freshOf bytesOf numberOf encodes play countAt section linkFault firstByte encodeEvent recording sectionsThen tableThen eventsFrom judgedIn steppedIn
 marked-cases = refl

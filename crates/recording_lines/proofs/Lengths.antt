@@ -13,8 +13,14 @@ use Rattle.recording_lines.specs.Words.{
   text-at,
   text-cells,
   text-counts,
+  text-had-0,
+  text-had-1,
+  text-had-2,
+  text-had-unknown,
   text-idle,
   text-link,
+  text-mark,
+  text-mark-unknown,
   text-newest,
   text-pointer,
   text-previous,
@@ -25,7 +31,7 @@ use Rattle.recording_lines.specs.Words.{
   text-task,
   text-waiting,
 }
-use Rattle.recording_lines.specs.Lines.{numbers, phase, pointer, named, readLine, refusedLine, countsLine, taskLine, linkLine}
+use Rattle.recording_lines.specs.Lines.{numbers, phase, hadWord, pointer, mark, named, readLine, refusedLine, countsLine, taskLine, linkLine}
 
 -- each cell has at most 21 bytes
 numbers-long : (ns : List ℕ) → length (numbers ns) ≤ 21 * length ns
@@ -57,6 +63,27 @@ phase-long p = go (eqb p 1) (eqb p 2) (eqb p 0)
     go false false true = omega arith
     go false false false = omega arith
 
+-- the words for arrivals seen
+had-long : (a : ℕ) → length (hadWord a) ≤ 12
+unfolding hadWord
+had-long a = go (eqb a 0) (eqb a 1) (eqb a 2)
+  where
+    go : (x y z : Bool) → length (cond x text-had-0 (cond y text-had-1 (cond z text-had-2 text-had-unknown))) ≤ 12
+    go true y z = omega arith
+    go false true z = omega arith
+    go false false true = omega arith
+    go false false false = omega arith
+
+-- the word for a mark
+mark-long : (m : ℕ) → length (mark m) ≤ 13
+unfolding mark
+mark-long m = go (eqb m 0) (eqb m 1)
+  where
+    go : (x y : Bool) → length (cond x [] (cond y text-mark text-mark-unknown)) ≤ 13
+    go true y = omega arith
+    go false true = omega arith
+    go false false = omega arith
+
 pub named-fits : (w : List ℕ) (n : ℕ) → length w ≤ 8 → length (named w n) ≤ 320
 named-fits w n h = fits 320 (piece w h (numeral n end)) (omega arith)
 
@@ -69,11 +96,11 @@ refused-fits r p = fits 320 (word text-refused (numeral r (word text-at (numeral
 pub counts-fit : (a s r f : ℕ) → length (countsLine a s r f) ≤ 320
 counts-fit a s r f = fits 320 (word text-counts (numeral a (numeral s (numeral r (numeral f end))))) (omega arith)
 
-pub link-fits : (l p : ℕ) → length (linkLine l p) ≤ 320
-link-fits l p = fits 320 (word text-link (numeral l (word text-pointer (piece (pointer p) (pointer-long p) end)))) (omega arith)
+pub link-fits : (l p m : ℕ) → length (linkLine l p m) ≤ 320
+link-fits l p m = fits 320 (word text-link (numeral l (word text-pointer (piece (pointer p) (pointer-long p) (piece (mark m) (mark-long m) end))))) (omega arith)
 
-pub task-fits : (t p n m : ℕ) (cells : List ℕ) → length (taskLine t p n m cells) ≤ 320
-task-fits t p n m cells =
-    let last = word text-cells (piece (numbers (take 10 cells)) (cells-long cells) end) in
+pub task-fits : (t p n m : ℕ) (cells : List ℕ) (a : ℕ) → length (taskLine t p n m cells a) ≤ 320
+task-fits t p n m cells a =
+    let last = word text-cells (piece (numbers (take 10 cells)) (cells-long cells) (piece (hadWord a) (had-long a) end)) in
     let places = word text-newest (numeral n (word text-previous (numeral m last))) in
     fits 320 (word text-task (numeral t (piece (phase p) (phase-long p) places))) (omega arith)

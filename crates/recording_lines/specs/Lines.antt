@@ -13,8 +13,14 @@ use Rattle.recording_lines.specs.Words.{
   text-at,
   text-cells,
   text-counts,
+  text-had-0,
+  text-had-1,
+  text-had-2,
+  text-had-unknown,
   text-idle,
   text-link,
+  text-mark,
+  text-mark-unknown,
   text-newest,
   text-place,
   text-pointer,
@@ -70,16 +76,24 @@ countsLine a s r f = lineOf (text-counts ∷ number a ∷ number s ∷ number r 
 unfoldable pub phase : ℕ → List ℕ
 phase p = cond (eqb p 1) text-waiting (cond (eqb p 2) text-running (cond (eqb p 0) text-idle text-unknown))
 
--- `task T PHASE newest P previous P cells V V ..`, with ten cells at most
-abbrev pub taskLine : ℕ → ℕ → ℕ → ℕ → List ℕ → List ℕ
-taskLine t p newest previous cells =
+-- what is seen of a task's arrivals: 0, 1 or 2 for no, one or more; no other number is
+unfoldable pub hadWord : ℕ → List ℕ
+hadWord a = cond (eqb a 0) text-had-0 (cond (eqb a 1) text-had-1 (cond (eqb a 2) text-had-2 text-had-unknown))
+
+-- `task T PHASE newest P previous P cells V V .. had A`, with ten cells at most
+abbrev pub taskLine : ℕ → ℕ → ℕ → ℕ → List ℕ → ℕ → List ℕ
+taskLine t p newest previous cells seen =
     lineOf
-    (text-task ∷ number t ∷ phase p ∷ text-newest ∷ number newest ∷ text-previous ∷ number previous ∷ text-cells ∷ numbers (take 10 cells) ∷ [])
+    (text-task ∷ number t ∷ phase p ∷ text-newest ∷ number newest ∷ text-previous ∷ number previous ∷ text-cells ∷ numbers (take 10 cells) ∷ hadWord seen ∷ [])
 
 -- a pointer, of which 0 is absent
 unfoldable pub pointer : ℕ → List ℕ
 pointer p = cond (eqb p 0) text-absent (number p)
 
--- `link L pointer P`, `link L pointer absent`
-abbrev pub linkLine : ℕ → ℕ → List ℕ
-linkLine l p = lineOf (text-link ∷ number l ∷ text-pointer ∷ pointer p ∷ [])
+-- a mark: 0 is none, 1 there; no other number is one
+unfoldable pub mark : ℕ → List ℕ
+mark m = cond (eqb m 0) [] (cond (eqb m 1) text-mark text-mark-unknown)
+
+-- `link L pointer P`, `link L pointer P mark`, `link L pointer absent`
+abbrev pub linkLine : ℕ → ℕ → ℕ → List ℕ
+linkLine l p m = lineOf (text-link ∷ number l ∷ text-pointer ∷ pointer p ∷ mark m ∷ [])

@@ -78,3 +78,27 @@ text-pointer = 32 ∷ 112 ∷ 111 ∷ 105 ∷ 110 ∷ 116 ∷ 101 ∷ 114 ∷ []
 -- a space and `absent`
 abbrev pub text-absent : List ℕ
 text-absent = 32 ∷ 97 ∷ 98 ∷ 115 ∷ 101 ∷ 110 ∷ 116 ∷ []
+
+-- a space and `had 0`
+abbrev pub text-had-0 : List ℕ
+text-had-0 = 32 ∷ 104 ∷ 97 ∷ 100 ∷ 32 ∷ 48 ∷ []
+
+-- a space and `had 1`
+abbrev pub text-had-1 : List ℕ
+text-had-1 = 32 ∷ 104 ∷ 97 ∷ 100 ∷ 32 ∷ 49 ∷ []
+
+-- a space and `had 2`
+abbrev pub text-had-2 : List ℕ
+text-had-2 = 32 ∷ 104 ∷ 97 ∷ 100 ∷ 32 ∷ 50 ∷ []
+
+-- a space and `had unknown`
+abbrev pub text-had-unknown : List ℕ
+text-had-unknown = 32 ∷ 104 ∷ 97 ∷ 100 ∷ 32 ∷ 117 ∷ 110 ∷ 107 ∷ 110 ∷ 111 ∷ 119 ∷ 110 ∷ []
+
+-- a space and `mark`
+abbrev pub text-mark : List ℕ
+text-mark = 32 ∷ 109 ∷ 97 ∷ 114 ∷ 107 ∷ []
+
+-- a space and `mark unknown`
+abbrev pub text-mark-unknown : List ℕ
+text-mark-unknown = 32 ∷ 109 ∷ 97 ∷ 114 ∷ 107 ∷ 32 ∷ 117 ∷ 110 ∷ 107 ∷ 110 ∷ 111 ∷ 119 ∷ 110 ∷ []

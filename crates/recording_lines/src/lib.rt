@@ -3,7 +3,7 @@ ghost use mathlib.Core.Path.{_≡_};
 ghost use Prim.Native.Nat.{_≤_};
 ghost use lib.ListN.{length, take};
 ghost use Rattle.text_line.specs.Shown.{shown, joined, Put};
-ghost use Rattle.recording_lines.specs.Lines.{numbers, phase, pointer, named, readLine, acceptedLine, refusedLine, refusalLine, placeLine, restLine, countsLine, taskLine, linkLine};
+ghost use Rattle.recording_lines.specs.Lines.{numbers, phase, hadWord, pointer, mark, named, readLine, acceptedLine, refusedLine, refusalLine, placeLine, restLine, countsLine, taskLine, linkLine};
 use lists::few;
 use text_line::Line;
 use text_line::ROOM;
@@ -127,6 +127,22 @@ fn with_cells(line: Line, cells: &[u32]) -> Line
     made
 }
 
+// A line with what is seen of a task's arrivals more. What is none of the three has a word of its own.
+fn with_had(line: Line, seen: u8) -> Line
+    ensures { λ r. ⌜ shown r ≡ joined (shown line) (hadWord seen) ⌝ }
+{
+    if seen == 0 {
+        return line.text(b" had 0");
+    }
+    if seen == 1 {
+        return line.text(b" had 1");
+    }
+    if seen == 2 {
+        return line.text(b" had 2");
+    }
+    line.text(b" had unknown")
+}
+
 // Of inspect: a task, with as many cells as it is handed, ten at most.
 pub fn put_task(
     task: usize,
@@ -134,9 +150,10 @@ pub fn put_task(
     newest: u8,
     previous: u8,
     cells: &[u32],
+    seen: u8,
     out: &mut [u8],
 ) -> usize
-    ensures { λ r. ⌜ Put (taskLine task code newest previous (now (cells .entry))) (now (out .entry)) r (now (out .exit)) ⌝ }
+    ensures { λ r. ⌜ Put (taskLine task code newest previous (now (cells .entry)) seen) (now (out .entry)) r (now (out .exit)) ⌝ }
 {
     let named = Line::empty().text(b"task").number(task as u64);
     let placed = with_phase(named, code)
@@ -144,7 +161,8 @@ pub fn put_task(
         .number(newest as u64)
         .text(b" previous")
         .number(previous as u64);
-    let line = with_cells(placed.text(b" cells"), cells);
+    let filled = with_cells(placed.text(b" cells"), cells);
+    let line = with_had(filled, seen);
     line.put(out)
 }
 
@@ -158,14 +176,27 @@ fn with_pointer(line: Line, position: u8) -> Line
     line.number(position as u64)
 }
 
+// A line with a mark more, if there is one. What is none of the two has a word of its own.
+fn with_mark(line: Line, m: u8) -> Line
+    ensures { λ r. ⌜ shown r ≡ joined (shown line) (mark m) ⌝ }
+{
+    if m == 0 {
+        return line;
+    }
+    if m == 1 {
+        return line.text(b" mark");
+    }
+    line.text(b" mark unknown")
+}
+
 // Of inspect: a link.
-pub fn put_link(link: usize, position: u8, out: &mut [u8]) -> usize
-    ensures { λ r. ⌜ Put (linkLine link position) (now (out .entry)) r (now (out .exit)) ⌝ }
+pub fn put_link(link: usize, position: u8, m: u8, out: &mut [u8]) -> usize
+    ensures { λ r. ⌜ Put (linkLine link position m) (now (out .entry)) r (now (out .exit)) ⌝ }
 {
     let named = Line::empty()
         .text(b"link")
         .number(link as u64)
         .text(b" pointer");
-    let line = with_pointer(named, position);
+    let line = with_mark(with_pointer(named, position), m);
     line.put(out)
 }

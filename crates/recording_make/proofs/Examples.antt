@@ -2,6 +2,7 @@
 -- Assumes nothing.
 use mathlib.Core.Path.{_≡_, refl}
 use mathlib.Core.List.{[], _∷_}
+use Rattle.lists.specs.Lists.{some, count}
 use Rattle.protocol_state.specs.Fresh.{freshOf}
 use Rattle.protocol_state.specs.Decision.{decided}
 use Rattle.protocol_state.specs.Judge.{judgedTask}
@@ -9,6 +10,7 @@ use Rattle.byte_format.specs.Number.{bytesOf}
 use Rattle.byte_format.specs.Format.{encodes}
 use Rattle.byte_format.specs.Kinded.{firstByte}
 use Rattle.byte_format.specs.Handed.{atMost, weighed, weighedSection}
+use Rattle.recording_format.specs.Link.{linkFault}
 use Rattle.recording_format.specs.Writing.{tableWeighed, recordingWeighed, writing, bufferAfter}
 use Rattle.recording_text_fields.specs.Pieces.{pieces, filled}
 use Rattle.recording_text_fields.specs.Numeral.{allDigits, valueFrom, numberFault, firstFault, fieldValues}
@@ -17,25 +19,30 @@ use Rattle.recording_text.specs.Text.{readable, textFault, recordsOf, joined, s
 use Rattle.recording_text_place.specs.Place.{bytesOf as recordBytes, allBytes, lineAfter, refusalLine}
 use Rattle.recording_make.specs.Made.{lineTold, madeOf, bufferOf}
 
--- `T 7` in room for nine bytes: the eight of its recording, and the ninth as it was
-one-task : bufferOf (84 ∷ 32 ∷ 55 ∷ []) (9 ∷ 9 ∷ 9 ∷ 9 ∷ 9 ∷ 9 ∷ 9 ∷ 9 ∷ 9 ∷ []) ≡ 1 ∷ 7 ∷ 0 ∷ 0 ∷ 0 ∷ 0 ∷ 0 ∷ 0 ∷ 9 ∷ []
+-- `T 7` in room for ten bytes: the nine of its recording, and the tenth as it was
+one-task : bufferOf (84 ∷ 32 ∷ 55 ∷ []) (9 ∷ 9 ∷ 9 ∷ 9 ∷ 9 ∷ 9 ∷ 9 ∷ 9 ∷ 9 ∷ 9 ∷ []) ≡ 253 ∷ 1 ∷ 7 ∷ 0 ∷ 0 ∷ 0 ∷ 0 ∷ 0 ∷ 0 ∷ 9 ∷ []
 unfolding pieces filled allDigits valueFrom numberFault firstFault fieldValues sort recordOf fieldsSay readable textFault recordsOf joined stored readOf bytesOf encodes atMost weighed weighedSection tableWeighed recordingWeighed writing bufferAfter bufferOf
 one-task = refl
 
 -- the answer to it
-accepted : madeOf (84 ∷ 32 ∷ 55 ∷ []) 9 ≡ record { fault = 0; line = 0; refusal = 0; place = 8 }
+accepted : madeOf (84 ∷ 32 ∷ 55 ∷ []) 10 ≡ record { fault = 0; line = 0; refusal = 0; place = 9 }
 unfolding pieces filled allDigits valueFrom numberFault firstFault fieldValues sort recordOf fieldsSay readable textFault recordsOf joined stored readOf bytesOf atMost weighed weighedSection tableWeighed recordingWeighed writing lineTold madeOf
 accepted = refl
 
--- no room for its eight bytes: 18, and the line after the last
-no-room : madeOf (84 ∷ 32 ∷ 55 ∷ []) 7 ≡ record { fault = 0; line = 2; refusal = 18; place = 8 }
+-- no room for its nine bytes: 18, and the line after the last
+no-room : madeOf (84 ∷ 32 ∷ 55 ∷ []) 8 ≡ record { fault = 0; line = 2; refusal = 18; place = 9 }
 unfolding pieces filled allDigits valueFrom numberFault firstFault fieldValues sort recordOf fieldsSay readable textFault recordsOf joined stored readOf bytesOf atMost weighed weighedSection tableWeighed recordingWeighed writing refusalLine lineTold madeOf
 no-room = refl
 
 -- `T 7`, `S 0`: a start of a task that is not waiting
-refused : madeOf (84 ∷ 32 ∷ 55 ∷ 10 ∷ 83 ∷ 32 ∷ 48 ∷ []) 99 ≡ record { fault = 0; line = 2; refusal = 14; place = 8 }
+refused : madeOf (84 ∷ 32 ∷ 55 ∷ 10 ∷ 83 ∷ 32 ∷ 48 ∷ []) 99 ≡ record { fault = 0; line = 2; refusal = 14; place = 9 }
 unfolding pieces filled allDigits valueFrom numberFault firstFault fieldValues sort recordOf fieldsSay readable textFault recordsOf joined stored readOf bytesOf firstByte atMost weighed weighedSection tableWeighed recordingWeighed writing freshOf judgedTask decided recordBytes allBytes lineAfter refusalLine lineTold madeOf
 refused = refl
+
+-- `T 7`, `T 0`, `L 0 1 0 5`: a direct link with a start value
+plain : madeOf (84 ∷ 32 ∷ 55 ∷ 10 ∷ 84 ∷ 32 ∷ 48 ∷ 10 ∷ 76 ∷ 32 ∷ 48 ∷ 32 ∷ 49 ∷ 32 ∷ 48 ∷ 32 ∷ 53 ∷ []) 99 ≡ record { fault = 0; line = 3; refusal = 20; place = 11 }
+unfolding some count pieces filled allDigits valueFrom numberFault firstFault fieldValues sort recordOf fieldsSay readable textFault recordsOf joined stored readOf bytesOf linkFault atMost weighed weighedSection tableWeighed recordingWeighed writing recordBytes allBytes lineAfter refusalLine lineTold madeOf
+plain = refl
 
 -- `T 7`, `S x`: the task is not written
 unreadable : madeOf (84 ∷ 32 ∷ 55 ∷ 10 ∷ 83 ∷ 32 ∷ 120 ∷ []) 99 ≡ record { fault = 2; line = 2; refusal = 0; place = 0 }

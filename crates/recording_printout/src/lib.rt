@@ -12,10 +12,12 @@ use mailbox_base::numbers::POSITIONS;
 use mailbox_base::numbers::TASKS;
 use mailbox_event::Event;
 use mailbox_layout::CONTROL;
+use mailbox_layout::MARK;
 use mailbox_layout::NEWEST;
 use mailbox_layout::PHASE;
 use mailbox_layout::POINTER;
 use mailbox_layout::PREVIOUS;
+use mailbox_layout::SEEN;
 use mailbox_layout::VALUES;
 use mailbox_layout::cells_in;
 use mailbox_layout::control_at;
@@ -131,7 +133,11 @@ fn print_task(task: u8, links: usize, control: &[u8; CONTROL], values: &[u32; VA
     let phase = control_at(control, PHASE, t);
     let newest = control_at(control, NEWEST, t);
     let previous = control_at(control, PREVIOUS, t);
-    show(put_task(t, phase, newest, previous, own, &mut line), &line);
+    let seen = control_at(control, SEEN, t);
+    show(
+        put_task(t, phase, newest, previous, own, seen, &mut line),
+        &line,
+    );
 }
 
 // Writes a line for each task. Here and below a count, never more than there is room for, is held to the room all the same.
@@ -145,9 +151,9 @@ fn print_tasks(tasks: usize, links: usize, control: &[u8; CONTROL], values: &[u3
 }
 
 // Writes the line of a link.
-fn print_link(l: usize, pointer: u8) {
+fn print_link(l: usize, pointer: u8, mark: u8) {
     let mut line = [0u8; LINE];
-    show(put_link(l, pointer, &mut line), &line);
+    show(put_link(l, pointer, mark, &mut line), &line);
 }
 
 // Writes a line for each link.
@@ -155,7 +161,11 @@ fn print_links(links: usize, control: &[u8; CONTROL]) {
     let end = few(links, LINKS);
     let mut l = 0;
     while l < end {
-        print_link(l, control_at(control, POINTER, l));
+        print_link(
+            l,
+            control_at(control, POINTER, l),
+            control_at(control, MARK, l),
+        );
         l += 1;
     }
 }

@@ -65,7 +65,7 @@ held-none k most old e =
     let n : stored k most [] ≡ [] = ap joined (take-nil most) in
     rw e (record { records = omega arith; numbers = rw n; list = rw n; few = omega arith })
 
-module _ (k most : ℕ) (ls : List (List ℕ)) (old : List ℕ) {out : List ℕ} {kept : Kept} (held : Held k most ls old out kept) (l : List ℕ) (said : Said) (q : saidOf said ≡ says l) (small : said .size ≤ widest (sort (said .letter))) (three : length (said .numbers) ≡ 3) where
+module _ (k most : ℕ) (ls : List (List ℕ)) (old : List ℕ) {out : List ℕ} {kept : Kept} (held : Held k most ls old out kept) (l : List ℕ) (said : Said) (q : saidOf said ≡ says l) (small : said .size ≤ widest (sort (said .letter))) (four : length (said .numbers) ≡ 4) where
   letter : said .letter ≡ says l .letter
   letter = ap (λ (x : Says). x .letter) q
 
@@ -111,7 +111,7 @@ module _ (k most : ℕ) (ls : List (List ℕ)) (old : List ℕ) {out : List ℕ}
       let s : stored k most (ls ++ (l ∷ [])) ≡ stored k most ls ++ r = rw (e, a) (joined-more (take most rs) r) in
       let w : sort (said .letter) ≡ k = eqb-true (sort (said .letter)) k t in
       let n : said .size ≤ widest k = rw w at small in
-      let z : said .size ≤ 3 = omega (arith, n, widest-small k) in
+      let z : said .size ≤ 4 = omega (arith, n, widest-small k) in
       let v : length r ≡ said .size = ap length (sym given) ∙ length-take-le (said .size) (said .numbers) (omega arith) in
       let b : length (stored k most ls ++ r) ≡ kept .numbers + said .size = omega (arith, length-append (stored k most ls) r, held .numbers) in
       record {
@@ -132,7 +132,7 @@ module _ (k most : ℕ) (ls : List (List ℕ)) (old : List ℕ) {out : List ℕ}
 -- there is room for a record that is stored
 pub room-for :
     (said : Said) (k most room : ℕ) (kept : Kept) → RoomFor said k most room kept → takes said k most kept ≡ true →
-    (said .size ≤ 3) × ((kept .numbers + said .size ≤ room) × (kept .records < most))
+    (said .size ≤ 4) × ((kept .numbers + said .size ≤ room) × (kept .records < most))
 room-for said k most room kept r t =
     let w : sort (said .letter) ≡ k = eqb-true (sort (said .letter)) k (and-left (eqb (sort (said .letter)) k) (ltb (kept .records) most) t) in
     let f : kept .records < most = ltb-true (kept .records) most (and-right (eqb (sort (said .letter)) k) (ltb (kept .records) most) t) in

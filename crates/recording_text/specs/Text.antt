@@ -47,7 +47,7 @@ storedOf k most text = stored k most (readable (lines text))
 abbrev pub defaultsOf : List ℕ → List ℕ
 defaultsOf text = storedOf 1 17 text
 
--- of links: writer, reader and kind of the first 33
+-- of links: writer, reader, kind and start value of the first 33
 abbrev pub linksOf : List ℕ → List ℕ
 linksOf text = storedOf 2 33 text
 

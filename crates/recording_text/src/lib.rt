@@ -14,8 +14,8 @@ use recording_text_line::sort_of;
 // The room for the defaults of tasks: for one task more than a recording may have.
 pub const TASKS: usize = 17;
 
-// That for links, three numbers each: for one more.
-pub const LINKS: usize = 99;
+// That for links, four numbers each: for one more.
+pub const LINKS: usize = 132;
 
 // That for events, of two or three numbers: for one more.
 pub const EVENTS: usize = 30003;

@@ -74,9 +74,10 @@ pub gathered-more :
       first = cond (eqb (length ns) 0) n (getD ns 0 0);
       second = cond (eqb (length ns) 1) n (getD ns 1 0);
       third = cond (eqb (length ns) 2) n (getD ns 2 0);
+      fourth = cond (eqb (length ns) 3) n (getD ns 3 0);
       set = bitOr (setOf ns) (2 ^ min n lastOfSet);
     } ≡ gathered (ns ++ (n ∷ []))
-gathered-more ns n = rw (place-more ns n 0, place-more ns n 1, place-more ns n 2, set-more 0 ns n, length-append ns (n ∷ []))
+gathered-more ns n = rw (place-more ns n 0, place-more ns n 1, place-more ns n 2, place-more ns n 3, set-more 0 ns n, length-append ns (n ∷ []))
 
 -- a field more: a number, or the fault
 pub numbers-on : (ns : List ℕ) (f : List ℕ) (fs : List (List ℕ)) → numberFault f ≡ 0 → numbersWith ns (f ∷ fs) ≡ numbersWith (ns ++ (value f ∷ [])) fs
@@ -89,10 +90,10 @@ numbers-stop ns f fs e = let k = ne-eqb (numberFault f) 0 e in rw (k, k)
 
 -- the same, part by part
 pub gathered-next :
-    (ns : List ℕ) (n : ℕ) {m : Numbers} → m ≡ gathered ns → {a b d e : ℕ} → a ≡ cond (eqb (m .count) 0) n (m .first) → b ≡ cond (eqb (m .count) 1) n (m .second) →
-    d ≡ cond (eqb (m .count) 2) n (m .third) → e ≡ 2 ^ min n lastOfSet →
-    record { fault = 0; count = m .count + 1; first = a; second = b; third = d; set = bitOr (m .set) e } ≡ gathered (ns ++ (n ∷ []))
-gathered-next ns n g p q r s = rw (p, q, r, s, g) (gathered-more ns n)
+    (ns : List ℕ) (n : ℕ) {m : Numbers} → m ≡ gathered ns → {a b d c e : ℕ} → a ≡ cond (eqb (m .count) 0) n (m .first) → b ≡ cond (eqb (m .count) 1) n (m .second) →
+    d ≡ cond (eqb (m .count) 2) n (m .third) → c ≡ cond (eqb (m .count) 3) n (m .fourth) → e ≡ 2 ^ min n lastOfSet →
+    record { fault = 0; count = m .count + 1; first = a; second = b; third = d; fourth = c; set = bitOr (m .set) e } ≡ gathered (ns ++ (n ∷ []))
+gathered-next ns n g p q r t s = rw (p, q, r, t, s, g) (gathered-more ns n)
 
 -- a field of a line more
 module _ (s : List ℕ) (a e : ℕ) (ns : List ℕ) (w : Ends (separator true) s a e) (h : a < e) {v : Number} (g : v ≡ fieldNumber (between a e s)) where

@@ -57,13 +57,13 @@ setWith set (n ∷ ns) = setWith (bitOr set (2 ^ min n lastOfSet)) ns
 abbrev pub setOf : List ℕ → ℕ
 setOf ns = setWith 0 ns
 
--- numbers as they are gathered: how many there are, the first three, and all as a set
+-- numbers as they are gathered: how many there are, the first four, and all as a set
 abbrev pub gathered : List ℕ → Numbers
-gathered ns = record { fault = 0; count = length ns; first = getD ns 0 0; second = getD ns 1 0; third = getD ns 2 0; set = setOf ns }
+gathered ns = record { fault = 0; count = length ns; first = getD ns 0 0; second = getD ns 1 0; third = getD ns 2 0; fourth = getD ns 3 0; set = setOf ns }
 
 -- no numbers, but a fault
 abbrev pub noNumbers : ℕ → Numbers
-noNumbers fault = record { fault = fault; count = 0; first = 0; second = 0; third = 0; set = 0 }
+noNumbers fault = record { fault = fault; count = 0; first = 0; second = 0; third = 0; fourth = 0; set = 0 }
 
 -- numbers and those of fields behind them, or the first fault
 unfoldable pub numbersWith : List ℕ → List (List ℕ) → Numbers

@@ -20,13 +20,14 @@ pub struct Number {
     pub value: u32,
 }
 
-// The numbers of fields, or why one of them is none: how many there are, the first three, and all as a set of tasks.
+// The numbers of fields, or why one of them is none: how many there are, the first four, and all as a set of tasks.
 pub struct Numbers {
     pub fault: u8,
     pub count: usize,
     pub first: u32,
     pub second: u32,
     pub third: u32,
+    pub fourth: u32,
     pub set: u32,
 }
 
@@ -97,6 +98,7 @@ fn none() -> Numbers
         first: 0,
         second: 0,
         third: 0,
+        fourth: 0,
         set: 0,
     }
 }
@@ -111,11 +113,12 @@ fn refused(fault: u8) -> Numbers
         first: 0,
         second: 0,
         third: 0,
+        fourth: 0,
         set: 0,
     }
 }
 
-// The value for one of the first three: that of the number, where it is this one.
+// The value for one of the first four: that of the number, where it is this one.
 fn pick(here: bool, number: u32, other: u32) -> u32
     ensures { λ r. ⌜ r ≡ cond here number other ⌝ }
 {
@@ -133,6 +136,7 @@ fn and_number(numbers: Numbers, n: u32) -> Numbers
         first: pick(numbers.count == 0, n, numbers.first),
         second: pick(numbers.count == 1, n, numbers.second),
         third: pick(numbers.count == 2, n, numbers.third),
+        fourth: pick(numbers.count == 3, n, numbers.fourth),
         set: numbers.set | bit(n),
     }
 }

@@ -16,6 +16,16 @@ arrival : says (65 ∷ 32 ∷ 48 ∷ 32 ∷ 49 ∷ 32 ∷ 50 ∷ 32 ∷ 51 ∷ 3
 unfolding pieces filled allDigits valueFrom numberFault firstFault fieldValues setWith sort recordOf fieldsSay
 arrival = refl
 
+-- `L 1 0 1 90`
+link : says (76 ∷ 32 ∷ 49 ∷ 32 ∷ 48 ∷ 32 ∷ 49 ∷ 32 ∷ 57 ∷ 48 ∷ []) ≡ saying 76 (1 ∷ 0 ∷ 1 ∷ 90 ∷ [])
+unfolding pieces filled allDigits valueFrom numberFault firstFault fieldValues setWith sort recordOf fieldsSay
+link = refl
+
+-- `L 1 2 0`: no start value
+no-start : says (76 ∷ 32 ∷ 49 ∷ 32 ∷ 50 ∷ 32 ∷ 48 ∷ []) ≡ faulty 4
+unfolding pieces filled allDigits valueFrom numberFault firstFault fieldValues setWith sort recordOf fieldsSay
+no-start = refl
+
 -- `# T`
 remark : says (35 ∷ 32 ∷ 84 ∷ []) ≡ nothing
 unfolding pieces filled allDigits valueFrom numberFault firstFault fieldValues setWith sort recordOf fieldsSay

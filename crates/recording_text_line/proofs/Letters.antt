@@ -29,6 +29,10 @@ three : (l : List ℕ) → length l ≡ 3 → getD l 0 0 ∷ getD l 1 0 ∷ getD
 three [] h = absurd (omega arith)
 three (a ∷ l) h = ap (λ (k : List ℕ). a ∷ k) (two l (omega arith))
 
+four : (l : List ℕ) → length l ≡ 4 → getD l 0 0 ∷ getD l 1 0 ∷ getD l 2 0 ∷ getD l 3 0 ∷ [] ≡ l
+four [] h = absurd (omega arith)
+four (a ∷ l) h = ap (λ (k : List ℕ). a ∷ k) (three l (omega arith))
+
 -- as many numbers as are wanted, or the fault
 abbrev pub asWanted : ℕ → ℕ → ℕ → List ℕ → Says
 asWanted b wanted count ns = cond (ltb count wanted) (faulty 4) (cond (ltb wanted count) (faulty 5) (saying b ns))
@@ -61,9 +65,9 @@ module _ (l : List ℕ) {n : Numbers} (g : n ≡ gathered l) where
   unfolding recordOf
   finish = rw g (wanted-same 70 2 (length l) (4 ∷ getD l 0 0 ∷ getD l 1 0 ∷ []) (4 ∷ l) (λ h. ap (λ (k : List ℕ). 4 ∷ k) (two l h)))
 
-  pub link : asWanted 76 3 (n .count) (n .first ∷ n .second ∷ n .third ∷ []) ≡ recordOf 76 l
+  pub link : asWanted 76 4 (n .count) (n .first ∷ n .second ∷ n .third ∷ n .fourth ∷ []) ≡ recordOf 76 l
   unfolding recordOf
-  link = rw g (wanted-same 76 3 (length l) (getD l 0 0 ∷ getD l 1 0 ∷ getD l 2 0 ∷ []) l (three l))
+  link = rw g (wanted-same 76 4 (length l) (getD l 0 0 ∷ getD l 1 0 ∷ getD l 2 0 ∷ getD l 3 0 ∷ []) l (four l))
 
   pub other : (b : ℕ) → (b ≡ 65 → ⊥) → (b ≡ 83 → ⊥) → (b ≡ 82 → ⊥) → (b ≡ 70 → ⊥) → (b ≡ 76 → ⊥) → asWanted b 1 (n .count) (n .first ∷ []) ≡ recordOf b l
   unfolding recordOf
@@ -128,16 +132,18 @@ module _ (s : List ℕ) (a e : ℕ) (w : Ends (separator true) s a e) (h : a < e
 
 -- a record of any sort may have one number
 pub least : (k : ℕ) → 1 ≤ widest k
-least k = go (eqb k 1)
+least k = go (eqb k 1) (eqb k 2)
   where
-    go : (t : Bool) → 1 ≤ cond t 1 3
-    go true = omega arith
-    go false = omega arith
+    go : (t l : Bool) → 1 ≤ cond t 1 (cond l 4 3)
+    go true l = omega arith
+    go false true = omega arith
+    go false false = omega arith
 
--- and at most three
-pub widest-small : (k : ℕ) → widest k ≤ 3
-widest-small k = go (eqb k 1)
+-- and at most four
+pub widest-small : (k : ℕ) → widest k ≤ 4
+widest-small k = go (eqb k 1) (eqb k 2)
   where
-    go : (t : Bool) → cond t 1 3 ≤ 3
-    go true = omega arith
-    go false = omega arith
+    go : (t l : Bool) → cond t 1 (cond l 4 3) ≤ 4
+    go true l = omega arith
+    go false true = omega arith
+    go false false = omega arith

@@ -36,9 +36,9 @@ isEvent b = eqb b 65 || (eqb b 83 || (eqb b 82 || eqb b 70))
 unfoldable pub sort : ℕ → ℕ
 sort b = cond (eqb b 84) 1 (cond (eqb b 76) 2 (cond (isEvent b) 3 0))
 
--- how many numbers are to follow: L 3, F 2, T, S and R 1
+-- how many numbers are to follow: L 4, F 2, T, S and R 1
 abbrev pub fieldsWanted : ℕ → ℕ
-fieldsWanted b = cond (eqb b 76) 3 (cond (eqb b 70) 2 1)
+fieldsWanted b = cond (eqb b 76) 4 (cond (eqb b 70) 2 1)
 
 -- the kind that the writer takes in front of them: S 2, R 3, F 4
 abbrev pub kind : ℕ → List ℕ
@@ -67,15 +67,15 @@ fieldsSay (f ∷ fs) =
 abbrev pub says : List ℕ → Says
 says line = fieldsSay (fields line)
 
--- the answer of the code, of whose three numbers so many are there
+-- the answer of the code, of whose four numbers so many are there
 abbrev pub saidOf : Said → Says
 saidOf r = record { fault = r .fault; letter = r .letter; numbers = take (r .size) (r .numbers) }
 
 -- the most numbers that a record of a sort has
 abbrev pub widest : ℕ → ℕ
-widest k = cond (eqb k 1) 1 3
+widest k = cond (eqb k 1) 1 (cond (eqb k 2) 4 3)
 
--- of three numbers so many are there, no more than a record of the letter's sort has, and zeros stand for the others
+-- of four numbers so many are there, no more than a record of the letter's sort has, and zeros stand for the others
 pub record Padded (letter size : ℕ) (numbers : List ℕ) : Type 0 where
   pub few : size ≤ widest (sort letter)
-  pub rest : drop size numbers ≡ replicate (3 - size) 0
+  pub rest : drop size numbers ≡ replicate (4 - size) 0

@@ -13,12 +13,15 @@ use recording_text_fields::number::numbers_from;
 use recording_text_fields::piece::piece_end;
 use recording_text_fields::piece::separates;
 
+// The most numbers that a record has: those of a link.
+pub const NUMBERS: usize = 4;
+
 // What a line says: why it cannot be read, 0 where it can; its letter, 0 for none; and so many numbers for the writer, zeros behind them.
 pub struct Said {
     pub fault: u8,
     pub letter: u8,
     pub size: usize,
-    pub numbers: [u32; 3],
+    pub numbers: [u32; NUMBERS],
 }
 
 // The sort of a record by its letter: a task, a link, an event, or 0.
@@ -45,12 +48,12 @@ fn no_record(fault: u8) -> Said
         fault,
         letter: 0,
         size: 0,
-        numbers: [0u32; 3],
+        numbers: [0u32; NUMBERS],
     }
 }
 
 // A record of so many numbers, where as many were given as are wanted.
-fn counted(letter: u8, wanted: usize, count: usize, size: usize, numbers: [u32; 3]) -> Said
+fn counted(letter: u8, wanted: usize, count: usize, size: usize, numbers: [u32; NUMBERS]) -> Said
     requires { ⌜ Padded letter size numbers ⌝ }
     ensures answer { λ r. ⌜ saidOf r ≡ cond (ltb count wanted) (faulty 4) (cond (ltb wanted count) (faulty 5) (saying letter (take size numbers))) ⌝ }
     ensures padded { λ r. ⌜ Padded (r .letter) (r .size) (r .numbers) ⌝ }
@@ -75,12 +78,18 @@ fn record_of(letter: u8, ns: Numbers) -> Said
     ensures padded { λ r. ⌜ Padded (r .letter) (r .size) (r .numbers) ⌝ }
 {
     match letter {
-        b'A' => counted(letter, ns.count, ns.count, 2, [1, ns.set, 0]),
-        b'S' => counted(letter, 1, ns.count, 2, [2, ns.first, 0]),
-        b'R' => counted(letter, 1, ns.count, 2, [3, ns.first, 0]),
-        b'F' => counted(letter, 2, ns.count, 3, [4, ns.first, ns.second]),
-        b'L' => counted(letter, 3, ns.count, 3, [ns.first, ns.second, ns.third]),
-        _ => counted(letter, 1, ns.count, 1, [ns.first, 0, 0]),
+        b'A' => counted(letter, ns.count, ns.count, 2, [1, ns.set, 0, 0]),
+        b'S' => counted(letter, 1, ns.count, 2, [2, ns.first, 0, 0]),
+        b'R' => counted(letter, 1, ns.count, 2, [3, ns.first, 0, 0]),
+        b'F' => counted(letter, 2, ns.count, 3, [4, ns.first, ns.second, 0]),
+        b'L' => counted(
+            letter,
+            4,
+            ns.count,
+            4,
+            [ns.first, ns.second, ns.third, ns.fourth],
+        ),
+        _ => counted(letter, 1, ns.count, 1, [ns.first, 0, 0, 0]),
     }
 }
 
@@ -128,7 +137,7 @@ fn fields_say(line: &[u8], at: usize) -> Said
 pub fn line_says(line: &[u8]) -> Said
     ensures answer { λ r. ⌜ saidOf r ≡ says (now (line .entry)) ⌝ }
     ensures padded { λ r. ⌜ Padded (r .letter) (r .size) (r .numbers) ⌝ }
-    ensures three { λ r. ⌜ length (r .numbers) ≡ 3 ⌝ }
+    ensures four { λ r. ⌜ length (r .numbers) ≡ 4 ⌝ }
 {
     let at = first_field(line);
     if at < line.len() {

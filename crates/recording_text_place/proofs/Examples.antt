@@ -7,16 +7,20 @@ use Rattle.recording_text_fields.specs.Numeral.{allDigits, valueFrom, numberFau
 use Rattle.recording_text_line.specs.Line.{sort, recordOf, fieldsSay}
 use Rattle.recording_text_place.specs.Place.{bytesOf, allBytes, lineAfter, refusalLine, lineOf}
 
--- its second event begins at 18; there is no seventeenth task
-second-event : lineOf (35 ∷ 10 ∷ 76 ∷ 32 ∷ 48 ∷ 32 ∷ 49 ∷ 32 ∷ 48 ∷ 10 ∷ 84 ∷ 32 ∷ 55 ∷ 10 ∷ 65 ∷ 32 ∷ 48 ∷ 32 ∷ 49 ∷ 10 ∷ 84 ∷ 32 ∷ 48 ∷ 10 ∷ 70 ∷ 32 ∷ 48 ∷ 32 ∷ 52 ∷ 50 ∷ []) 12 18 ≡ 6
+-- its link begins at 11 and its second event at 23; there is no seventeenth task
+second-event : lineOf (35 ∷ 10 ∷ 76 ∷ 32 ∷ 48 ∷ 32 ∷ 49 ∷ 32 ∷ 48 ∷ 32 ∷ 48 ∷ 10 ∷ 84 ∷ 32 ∷ 55 ∷ 10 ∷ 65 ∷ 32 ∷ 48 ∷ 32 ∷ 49 ∷ 10 ∷ 84 ∷ 32 ∷ 48 ∷ 10 ∷ 70 ∷ 32 ∷ 48 ∷ 32 ∷ 52 ∷ 50 ∷ []) 12 23 ≡ 6
 unfolding pieces filled allDigits valueFrom numberFault firstFault fieldValues setWith sort recordOf fieldsSay bytesOf allBytes lineAfter refusalLine
 second-event = refl
 
-no-seventeenth : lineOf (35 ∷ 10 ∷ 76 ∷ 32 ∷ 48 ∷ 32 ∷ 49 ∷ 32 ∷ 48 ∷ 10 ∷ 84 ∷ 32 ∷ 55 ∷ 10 ∷ 65 ∷ 32 ∷ 48 ∷ 32 ∷ 49 ∷ 10 ∷ 84 ∷ 32 ∷ 48 ∷ 10 ∷ 70 ∷ 32 ∷ 48 ∷ 32 ∷ 52 ∷ 50 ∷ []) 2 0 ≡ 7
+its-link : lineOf (35 ∷ 10 ∷ 76 ∷ 32 ∷ 48 ∷ 32 ∷ 49 ∷ 32 ∷ 48 ∷ 32 ∷ 48 ∷ 10 ∷ 84 ∷ 32 ∷ 55 ∷ 10 ∷ 65 ∷ 32 ∷ 48 ∷ 32 ∷ 49 ∷ 10 ∷ 84 ∷ 32 ∷ 48 ∷ 10 ∷ 70 ∷ 32 ∷ 48 ∷ 32 ∷ 52 ∷ 50 ∷ []) 20 11 ≡ 2
+unfolding pieces filled allDigits valueFrom numberFault firstFault fieldValues setWith sort recordOf fieldsSay bytesOf allBytes lineAfter refusalLine
+its-link = refl
+
+no-seventeenth : lineOf (35 ∷ 10 ∷ 76 ∷ 32 ∷ 48 ∷ 32 ∷ 49 ∷ 32 ∷ 48 ∷ 32 ∷ 48 ∷ 10 ∷ 84 ∷ 32 ∷ 55 ∷ 10 ∷ 65 ∷ 32 ∷ 48 ∷ 32 ∷ 49 ∷ 10 ∷ 84 ∷ 32 ∷ 48 ∷ 10 ∷ 70 ∷ 32 ∷ 48 ∷ 32 ∷ 52 ∷ 50 ∷ []) 2 1 ≡ 7
 unfolding pieces filled allDigits valueFrom numberFault firstFault fieldValues setWith sort recordOf fieldsSay bytesOf allBytes lineAfter refusalLine
 no-seventeenth = refl
 
 -- an empty text has no task
-empty : lineOf [] 2 0 ≡ 1
+empty : lineOf [] 2 1 ≡ 1
 unfolding pieces filled allDigits valueFrom numberFault firstFault fieldValues setWith sort recordOf fieldsSay bytesOf allBytes lineAfter refusalLine
 empty = refl

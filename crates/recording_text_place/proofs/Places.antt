@@ -12,7 +12,8 @@ use lib.ListN.{length, drop, drop-of-length-le}
 use Rattle.recording_text_line.specs.declared.Said.{Said}
 use Rattle.recording_text_fields.specs.Pieces.{pieces, separator, lines, between, Ends}
 use Rattle.recording_text_line.specs.Line.{Says, isEvent, says, saidOf, sort}
-use Rattle.recording_text_place.specs.Place.{step, allBytes, lineAfter, linksAt, eventsAt, oneOf, refusalLine}
+use Rattle.recording_format.specs.Recording.{taskPlace}
+use Rattle.recording_text_place.specs.Place.{step, allBytes, lineAfter, linksAt, eventsAt, oneOf, ofLink, refusalLine}
 
 -- past the end there is no line
 pub lines-past : (s : List ℕ) (i : ℕ) → length s ≤ i → lines (drop i s) ≡ []
@@ -81,14 +82,14 @@ none-such much n (l ∷ ls) =
 -- a refusal and its line
 module _ (ls : List (List ℕ)) (refusal place : ℕ) where
   pub of-link :
-      {t : Bool} → t ≡ oneOf 4 9 refusal → t ≡ true → {x y r : ℕ} → x ≡ place - 2 → y ≡ x - allBytes 1 ls → r ≡ lineAfter true 2 y 1 ls → r ≡ refusalLine refusal place ls
+      {t : Bool} → t ≡ ofLink refusal → t ≡ true → {x y r : ℕ} → x ≡ place - (taskPlace + 2) → y ≡ x - allBytes 1 ls → r ≡ lineAfter true 2 y 1 ls → r ≡ refusalLine refusal place ls
   unfolding refusalLine
   of-link f g {x} {y} e h q =
       let z : y ≡ place - linksAt ls = omega arith in
       q ∙ rw (← f, g, z)
 
   pub of-event :
-      {t u : Bool} → t ≡ oneOf 4 9 refusal → t ≡ false → u ≡ oneOf 12 16 refusal → u ≡ true → {x y z r : ℕ} → x ≡ place - 4 → y ≡ x - allBytes 1 ls → z ≡ y - allBytes 2 ls →
+      {t u : Bool} → t ≡ ofLink refusal → t ≡ false → u ≡ oneOf 12 16 refusal → u ≡ true → {x y z r : ℕ} → x ≡ place - (taskPlace + 4) → y ≡ x - allBytes 1 ls → z ≡ y - allBytes 2 ls →
       r ≡ lineAfter true 3 z 1 ls → r ≡ refusalLine refusal place ls
   unfolding refusalLine
   of-event f g k m {x} {y} {z} e h i q =
@@ -96,7 +97,7 @@ module _ (ls : List (List ℕ)) (refusal place : ℕ) where
       q ∙ rw (← f, g, ← k, m, w)
 
   pub of-none :
-      {t u : Bool} → t ≡ oneOf 4 9 refusal → t ≡ false → u ≡ oneOf 12 16 refusal → u ≡ false → (refusal ≡ 2 → ⊥) → (refusal ≡ 3 → ⊥) → (refusal ≡ 10 → ⊥) → {r : ℕ} →
+      {t u : Bool} → t ≡ ofLink refusal → t ≡ false → u ≡ oneOf 12 16 refusal → u ≡ false → (refusal ≡ 2 → ⊥) → (refusal ≡ 3 → ⊥) → (refusal ≡ 10 → ⊥) → {r : ℕ} →
       r ≡ lineAfter false 4 0 1 ls → r ≡ refusalLine refusal place ls
   unfolding refusalLine
   of-none f g k m a b d q =

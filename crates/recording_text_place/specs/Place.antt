@@ -6,12 +6,13 @@ use Prim.Native.Nat.{ℕ, suc, _+_, _-_}
 use lib.Dec.{eqb, leb}
 use lib.ListN.{length}
 use Rattle.recording_format.specs.RecordingKind.{baseRecording}
+use Rattle.recording_format.specs.Recording.{taskPlace}
 use Rattle.recording_text_fields.specs.Pieces.{lines}
 use Rattle.recording_text_line.specs.Line.{says, sort}
 
--- the bytes of a record in a recording: T 4, L 3, A 3, S 2, R 2, F 6
+-- the bytes of a record in a recording: T 4, L 7, A 3, S 2, R 2, F 6
 unfoldable pub bytesOf : ℕ → ℕ
-bytesOf b = cond (eqb b 84) 4 (cond (eqb b 70) 6 (cond (eqb b 83 || eqb b 82) 2 3))
+bytesOf b = cond (eqb b 84) 4 (cond (eqb b 76) 7 (cond (eqb b 70) 6 (cond (eqb b 83 || eqb b 82) 2 3)))
 
 -- what a line counts on the way to a place, in bytes, or to the n-th record of one sort: nothing where it has no such record
 abbrev pub step : Bool → ℕ → ℕ → ℕ
@@ -37,13 +38,13 @@ numbered k before ls = lineAfter false k before 1 ls
 abbrev pub placed : ℕ → ℕ → List (List ℕ) → ℕ
 placed k bytes ls = lineAfter true k bytes 1 ls
 
--- where the links of a recording begin: behind T, the tasks, and L
+-- where the links of a recording begin: behind the first byte, T, the tasks, and L
 abbrev pub linksAt : List (List ℕ) → ℕ
-linksAt ls = 2 + allBytes 1 ls
+linksAt ls = taskPlace + 2 + allBytes 1 ls
 
 -- where its events begin: behind the links, and E
 abbrev pub eventsAt : List (List ℕ) → ℕ
-eventsAt ls = 4 + allBytes 1 ls + allBytes 2 ls
+eventsAt ls = taskPlace + 4 + allBytes 1 ls + allBytes 2 ls
 
 -- the line after the last
 abbrev pub afterLast : List (List ℕ) → ℕ
@@ -53,10 +54,14 @@ afterLast ls = suc (length ls)
 abbrev pub oneOf : ℕ → ℕ → ℕ → Bool
 oneOf low high n = leb low n && leb n high
 
--- the line of a refusal: 4 to 9 the link and 12 to 16 the event at the place, 2, 3 and 10 the first task, link or event past the limit
+-- the rules of links: 4 to 9, and 20
+abbrev pub ofLink : ℕ → Bool
+ofLink refusal = oneOf 4 9 refusal || eqb refusal 20
+
+-- the line of a refusal: that of a rule of links the link and 12 to 16 the event at the place, 2, 3 and 10 the first task, link or event past the limit
 unfoldable pub refusalLine : ℕ → ℕ → List (List ℕ) → ℕ
 refusalLine refusal place ls =
-    cond (oneOf 4 9 refusal) (placed 2 (place - linksAt ls) ls)
+    cond (ofLink refusal) (placed 2 (place - linksAt ls) ls)
     (cond (oneOf 12 16 refusal) (placed 3 (place - eventsAt ls) ls)
     (cond (eqb refusal 2) (numbered 1 (baseRecording .tasks) ls)
     (cond (eqb refusal 3) (numbered 2 (baseRecording .links) ls)

@@ -2,14 +2,22 @@
 ghost use mathlib.Core.Path.{_≡_};
 ghost use Prim.Native.Nat.{_-_};
 ghost use Rattle.recording_text_fields.specs.Pieces.{lines};
-ghost use Rattle.recording_text_place.specs.Place.{bytesOf, allBytes, step, lineAfter, oneOf, lineOf};
+ghost use Rattle.recording_text_place.specs.Place.{bytesOf, allBytes, step, lineAfter, oneOf, ofLink, lineOf};
 use lent_bytes::place::left;
 use mailbox_base::numbers::EVENTS;
 use mailbox_base::numbers::LINKS;
 use mailbox_base::numbers::TASKS;
+use recording_format::LINK_SIZE;
+use recording_format::TASK_PLACE;
 use recording_text_fields::piece::piece_end;
 use recording_text_line::line_says;
 use recording_text_line::sort_of;
+
+// What stands before the links besides the tasks: the first byte, T and L.
+const BEFORE_LINKS: usize = TASK_PLACE + 2;
+
+// And before the events, besides the tasks and the links: E too.
+const BEFORE_EVENTS: usize = BEFORE_LINKS + 2;
 
 // The bytes of a record in a recording, by its letter.
 fn bytes_of(letter: u8) -> usize
@@ -17,6 +25,7 @@ fn bytes_of(letter: u8) -> usize
 {
     match letter {
         b'T' => 4,
+        b'L' => LINK_SIZE,
         b'F' => 6,
         b'S' => 2,
         b'R' => 2,
@@ -76,19 +85,26 @@ fn one_of(low: u8, high: u8, n: u8) -> bool
     (low <= n) & (n <= high)
 }
 
+// Whether a refusal is that of a rule of links.
+fn of_link(refusal: u8) -> bool
+    ensures { λ r. ⌜ r ≡ ofLink refusal ⌝ }
+{
+    one_of(4, 9, refusal) | (refusal == 20)
+}
+
 // The line of a refusal.
 pub fn refusal_line(text: &[u8], refusal: u8, place: usize) -> usize
     ensures { λ r. ⌜ r ≡ lineOf (now (text .entry)) refusal place ⌝ }
 {
-    if one_of(4, 9, refusal) {
-        return line_after(text, true, 2, behind(text, 1, left(place, 2)));
+    if of_link(refusal) {
+        return line_after(text, true, 2, behind(text, 1, left(place, BEFORE_LINKS)));
     }
     if one_of(12, 16, refusal) {
         return line_after(
             text,
             true,
             3,
-            behind(text, 2, behind(text, 1, left(place, 4))),
+            behind(text, 2, behind(text, 1, left(place, BEFORE_EVENTS))),
         );
     }
     match refusal {

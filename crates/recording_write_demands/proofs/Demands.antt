@@ -22,7 +22,7 @@ use Rattle.recording_format.specs.Recording.{encodeRecording, recording, stateA
 use Rattle.recording_format.specs.Words.{linksSaid, eventsSaid, linkWords, eventWords}
 use Rattle.recording_format.specs.Writing.{recordingWeighed, heldToRoom, writing, bytesAsWritten, InBytes}
 use Rattle.recording_format.proofs.Base.{base-room, base-counts, base-numbers, base-bytes}
-use Rattle.recording_format.proofs.Words.{links-said, events-said, values-said}
+use Rattle.recording_format.proofs.Words.{links-said, events-said, starts-said, values-said}
 use Rattle.recording_format.proofs.Weighed.{whole-fine, whole-reply, recorded-whole}
 use Rattle.recording_format.proofs.NumbersRead.{links-ending, events-ending, numbers-as-read}
 use Rattle.recording_format.proofs.Buffers.{not-room, Way, refused, short, fits, which-way, buffer-written, buffer-refused}
@@ -152,7 +152,7 @@ module _ {ds lw ew old new : List ℕ} {a : Written} (said : Writes ds lw ew old
     fine : RecordingOf ds lw ew (bytes ds lw ew)
     fine =
         let f = whole-fine baseRecording (stateCore base) ds (linksSaid lw) (eventsSaid ew) z in
-        let r = written-recorded baseRecording base-numbers base base-counts ds (linksSaid lw) (eventsSaid ew) (said .numbers .0) (values-said ew (said .numbers .1)) z in
+        let r = written-recorded baseRecording base-numbers base base-counts ds (linksSaid lw) (eventsSaid ew) (said .numbers .0) (starts-said lw (said .numbers .1 .0)) (values-said ew (said .numbers .1 .1)) z in
         record { links-whole = f .0; events-whole = f .1 .0; genuine = λ out l. core-genuine (recorded-genuine baseRecording base base-room out (recorded-with-room baseRecording base out (room-past (eventsSaid ew .whole) l) r)) }
 
     -- and its place the length

@@ -15,7 +15,7 @@ use Rattle.recording_write.specs.declared.Written.{Written}
 pub record Writes (ds lw ew old : List ℕ) (a : Written) (new : List ℕ) : Type 0 where
   pub answer : a ≡ writtenOf (replyTo ds lw ew (length old))
   pub buffer : new ≡ bufferTo ds lw ew old
-  pub numbers : Words ds × Words ew
+  pub numbers : Words ds × (Words lw × Words ew)
 
 -- s is the recording of these: nothing comes after the whole links and events that the numbers say, and for every lent list with room for the numbers
 -- read, the bytes are theirs, they keep every limit and rule, and the events could happen

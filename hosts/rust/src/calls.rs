@@ -23,6 +23,7 @@ extern "C" {
         table_writer: &[u8; LINKS],
         table_reader: &[u8; LINKS],
         table_kind: &[u8; LINKS],
+        table_start_value: &[u32; LINKS],
         tasks: &mut usize,
         links: &mut usize,
         control: *mut [u8; CONTROL],

@@ -18,9 +18,9 @@ pub const POSITIONS: usize = 10;
 /// The positions of all tasks.
 pub const CELLS: usize = TASKS * POSITIONS;
 /// So many bytes in a state's control.
-pub const CONTROL: usize = 3 * TASKS + 4 * LINKS;
+pub const CONTROL: usize = 4 * TASKS + 5 * LINKS;
 /// So many numbers in a state's values.
-pub const VALUES: usize = TASKS + CELLS;
+pub const VALUES: usize = TASKS + LINKS + CELLS;
 
 /// A table. Tasks are numbered from 0 and the earlier one is more urgent; slots past the counts are not looked at.
 #[derive(Clone, Debug, PartialEq, Eq)]
@@ -32,6 +32,8 @@ pub struct Table {
     pub reader: [u8; LINKS],
     /// 0 direct, 1 delayed
     pub kind: [u8; LINKS],
+    /// what a delayed link reads at first; 0 for a direct one
+    pub start_value: [u32; LINKS],
 }
 
 /// The bytes of a state, by task and then by link, in the library's own order.
@@ -42,8 +44,12 @@ pub struct Control {
     pub phase: [u8; TASKS],
     pub newest: [u8; TASKS],
     pub previous: [u8; TASKS],
+    /// 0 no arrival yet, 1 one, 2 more
+    pub seen: [u8; TASKS],
     /// 0: absent
     pub pointer: [u8; LINKS],
+    /// 1: the reader's last arrival settled on the start value; 0: none
+    pub mark: [u8; LINKS],
     pub writer: [u8; LINKS],
     pub reader: [u8; LINKS],
     /// 0 direct, 1 delayed
@@ -55,6 +61,7 @@ pub struct Control {
 #[repr(C)]
 pub struct Values {
     pub defaults: [u32; TASKS],
+    pub start_value: [u32; LINKS],
     /// position p of task t at t * 10 + p - 1
     pub cells: [u32; CELLS],
 }
@@ -134,16 +141,18 @@ impl State {
                 phase: [0; TASKS],
                 newest: [0; TASKS],
                 previous: [0; TASKS],
+                seen: [0; TASKS],
                 pointer: [0; LINKS],
+                mark: [0; LINKS],
                 writer: [0; LINKS],
                 reader: [0; LINKS],
                 kind: [0; LINKS],
             },
-            values: Values { defaults: [0; TASKS], cells: [0; CELLS] },
+            values: Values { defaults: [0; TASKS], start_value: [0; LINKS], cells: [0; CELLS] },
         }
     }
 
-    /// The fresh state of a table, or the refusal that the table earns, 2 to 9, and the fresh state of a single task.
+    /// The fresh state of a table, or the refusal that the table earns, 2 to 9 or 20, and the fresh state of a single task.
     pub fn fresh(table: &Table) -> Made {
         let mut state = State::room();
         // SAFETY: each reference is valid, to an array as long as the header says; control and values are lent whole, and either struct
@@ -157,6 +166,7 @@ impl State {
                 &table.writer,
                 &table.reader,
                 &table.kind,
+                &table.start_value,
                 &mut state.tasks,
                 &mut state.links,
                 state.control.lent(),
@@ -237,9 +247,9 @@ pub fn rest<'a>(bytes: &'a [u8], answer: &Answer) -> &'a [u8] {
     &bytes[bytes.len() - left..]
 }
 
-/// Writes a recording into the buffer. `defaults` has the default of each task; `links` writer, reader and kind of each link; `events` the
-/// kind of each event and what it has: 1 and a set, 2 and a task, 3 and a link, 4, a task and a value. What is written `replay` accepts,
-/// with room for the numbers, as the same table, links and events.
+/// Writes a recording into the buffer. `defaults` has the default of each task; `links` writer, reader, kind and start value of each link;
+/// `events` the kind of each event and what it has: 1 and a set, 2 and a task, 3 and a link, 4, a task and a value. What is written `replay`
+/// accepts, with room for the numbers, as the same table, links and events.
 ///
 /// Refusals are the reader's, at the place where it would find the fault. No number is cut to its field: a task 256 is not in the table.
 /// A link or event whose numbers are not all there counts, and is refusal 1; an unknown kind of event counts, is 11, and nothing after it

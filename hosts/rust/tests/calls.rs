@@ -2,8 +2,8 @@
 use parnusild::{replay, rest, write, Answer, Event, State, Table, Written, LINKS, TASKS};
 use Event::{Arrival, Finish, Read, Start};
 
-/// A table from its defaults and its links: writer, reader, kind.
-fn table(defaults: &[u32], links: &[(u8, u8, u8)]) -> Table {
+/// A table from its defaults and its links: writer, reader, kind, start value.
+fn table(defaults: &[u32], links: &[(u8, u8, u8, u32)]) -> Table {
     let mut t = Table {
         tasks: defaults.len(),
         links: links.len(),
@@ -11,25 +11,28 @@ fn table(defaults: &[u32], links: &[(u8, u8, u8)]) -> Table {
         writer: [9; LINKS],
         reader: [9; LINKS],
         kind: [9; LINKS],
+        start_value: [9; LINKS],
     };
     t.defaults[..defaults.len()].copy_from_slice(defaults);
-    for (l, &(w, r, k)) in links.iter().enumerate() {
+    for (l, &(w, r, k, v)) in links.iter().enumerate() {
         t.writer[l] = w;
         t.reader[l] = r;
         t.kind[l] = k;
+        t.start_value[l] = v;
     }
     t
 }
 
 /// The bytes of a recording, by docs/FORMAT.md.
 fn record(t: &Table, events: &[Event]) -> Vec<u8> {
-    let mut b = vec![t.tasks as u8];
+    let mut b = vec![253, t.tasks as u8];
     for d in &t.defaults[..t.tasks] {
         b.extend(d.to_le_bytes());
     }
     b.push(t.links as u8);
     for l in 0..t.links {
         b.extend([t.writer[l], t.reader[l], t.kind[l]]);
+        b.extend(t.start_value[l].to_le_bytes());
     }
     b.extend((events.len() as u16).to_le_bytes());
     for e in events {
@@ -50,10 +53,10 @@ fn record(t: &Table, events: &[Event]) -> Vec<u8> {
 }
 
 fn example_table() -> Table {
-    table(&[0, 100, 0, 0], &[(1, 0, 1), (1, 2, 0), (1, 3, 0)])
+    table(&[0, 100, 0, 0], &[(1, 0, 1, 90), (1, 2, 0, 0), (1, 3, 0, 0)])
 }
 
-const NUMBERS: [u32; 8] = [100, 101, 101, 102, 102, 101, 102, 103];
+const NUMBERS: [u32; 8] = [90, 101, 101, 102, 102, 101, 102, 103];
 
 #[rustfmt::skip]
 const EVENTS: [Event; 35] = [
@@ -96,7 +99,7 @@ fn refused(s: &State, kind: u8, which: u32, value: u32) -> u8 {
 fn the_file_is_the_long_example() {
     let path = concat!(env!("CARGO_MANIFEST_DIR"), "/../../recordings/figure-17.rec");
     assert_eq!(std::fs::read(path).unwrap(), example());
-    assert_eq!(example().len(), 148);
+    assert_eq!(example().len(), 161);
 }
 
 #[test]
@@ -104,7 +107,7 @@ fn long_example() {
     let bytes = example();
     let mut list = [77; 10];
     let a = replay(&bytes, &mut list);
-    assert_eq!((a.refusal, a.place), (0, 148));
+    assert_eq!((a.refusal, a.place), (0, 161));
     assert_eq!(counts(&a), [11, 11, 8, 11]);
     assert_eq!(list[..8], NUMBERS);
     assert_eq!(list[8..], [77, 77], "the rest of the list");
@@ -150,7 +153,7 @@ fn room_for_the_numbers() {
     assert_eq!(counts(&a), [4, 1, 0, 0]);
 }
 
-/// The refusal and the place of a recording that is refused in its table or at a count: nothing is counted, the list is untouched, the state
+/// The refusal and the place of a recording that is refused at its first byte, in its table or at a count: nothing is counted, the list is untouched, the state
 /// is that of a single task, and the rest begins at the place.
 fn early(bytes: &[u8]) -> (u8, usize) {
     let mut list = [77; 3];
@@ -166,38 +169,60 @@ fn early(bytes: &[u8]) -> (u8, usize) {
 #[test]
 fn early_refusals() {
     assert_eq!(early(&[]), (1, 0));
-    assert_eq!(early(&[0]), (2, 0));
-    assert_eq!(early(&[17]), (2, 0));
-    assert_eq!(early(&[1, 9, 9, 9]), (1, 1));
-    assert_eq!(early(&[1, 9, 0, 0, 0]), (1, 5));
-    assert_eq!(early(&[1, 9, 0, 0, 0, 33]), (3, 5));
-    assert_eq!(early(&[1, 9, 0, 0, 0, 0, 0x11, 0x27]), (10, 6));
-    assert_eq!(early(&[1, 9, 0, 0, 0, 0, 0x10]), (1, 6));
+    for first in (0..=255).filter(|&first| first != 253) {
+        assert_eq!(early(&[first, 1, 0, 0, 0, 0, 0, 0, 0]), (2, 0));
+    }
+    assert_eq!(early(&[253]), (1, 1));
+    assert_eq!(early(&[253, 0]), (2, 1));
+    assert_eq!(early(&[253, 17]), (2, 1));
+    assert_eq!(early(&[253, 1, 9, 9, 9]), (1, 2));
+    assert_eq!(early(&[253, 1, 9, 0, 0, 0]), (1, 6));
+    assert_eq!(early(&[253, 1, 9, 0, 0, 0, 33]), (3, 6));
+    assert_eq!(early(&[253, 1, 9, 0, 0, 0, 0, 0x11, 0x27]), (10, 7));
+    assert_eq!(early(&[253, 1, 9, 0, 0, 0, 0, 0x10]), (1, 7));
     // two tasks with defaults 9 and 8, the link 0 to 1, and a second one
-    let second = |link: [u8; 3]| {
-        let mut b = vec![2, 9, 0, 0, 0, 8, 0, 0, 0, 2, 0, 1, 0];
+    let second = |link: [u8; 7]| {
+        let mut b = vec![253, 2, 9, 0, 0, 0, 8, 0, 0, 0, 2, 0, 1, 0, 0, 0, 0, 0];
         b.extend(link);
         b.extend([0, 0]);
         early(&b)
     };
-    assert_eq!(second([0, 2, 0]), (4, 13));
-    assert_eq!(second([1, 1, 0]), (5, 13));
-    assert_eq!(second([1, 0, 2]), (6, 13));
-    assert_eq!(second([1, 0, 0]), (7, 13));
-    assert_eq!(second([0, 1, 1]), (8, 13));
+    assert_eq!(second([0, 2, 0, 0, 0, 0, 0]), (4, 18));
+    assert_eq!(second([1, 1, 0, 0, 0, 0, 0]), (5, 18));
+    assert_eq!(second([1, 0, 2, 0, 0, 0, 0]), (6, 18));
+    assert_eq!(second([1, 0, 0, 0, 0, 0, 0]), (7, 18));
+    assert_eq!(second([0, 1, 1, 0, 0, 0, 0]), (8, 18));
+}
+
+/// A direct link with a start value, whichever of its four bytes isn't 0: 20, tried after all else of the link.
+#[test]
+fn direct_links_with_a_start_value() {
+    let first = |link: [u8; 7]| {
+        let mut b = vec![253, 2, 9, 0, 0, 0, 8, 0, 0, 0, 1];
+        b.extend(link);
+        b.extend([0, 0]);
+        early(&b)
+    };
+    assert_eq!(first([0, 1, 0, 1, 0, 0, 0]), (20, 11));
+    assert_eq!(first([0, 1, 0, 0, 1, 0, 0]), (20, 11));
+    assert_eq!(first([0, 1, 0, 0, 0, 1, 0]), (20, 11));
+    assert_eq!(first([0, 1, 0, 0, 0, 0, 1]), (20, 11));
+    assert_eq!(first([1, 0, 0, 1, 0, 0, 0]), (7, 11));
+    let links: Vec<_> = (1..=9).map(|r| (0, r, 0, u32::from(r == 9))).collect();
+    assert_eq!(early(&record(&table(&[0; 16], &links), &[])), (9, 67 + 8 * 7));
 }
 
 #[test]
 fn small_recordings() {
-    let a = replay(&[1, 0, 0, 0, 0, 0, 0, 0], &mut []);
-    assert_eq!((a.refusal, a.place, counts(&a)), (0, 8, [0; 4]));
-    let a = replay(&[1, 0, 0, 0, 0, 0, 0, 0, 5], &mut [3]);
-    assert_eq!((a.refusal, a.place), (17, 8));
-    assert_eq!(rest(&[1, 0, 0, 0, 0, 0, 0, 0, 5], &a), [5]);
+    let a = replay(&[253, 1, 0, 0, 0, 0, 0, 0, 0], &mut []);
+    assert_eq!((a.refusal, a.place, counts(&a)), (0, 9, [0; 4]));
+    let a = replay(&[253, 1, 0, 0, 0, 0, 0, 0, 0, 5], &mut [3]);
+    assert_eq!((a.refusal, a.place), (17, 9));
+    assert_eq!(rest(&[253, 1, 0, 0, 0, 0, 0, 0, 0, 5], &a), [5]);
     // a place past the end of other bytes leaves none of them
-    assert!(rest(&[1, 0, 0], &a).is_empty());
-    let a = replay(&[1, 0, 0, 0, 0, 0, 1, 0, 5], &mut []);
-    assert_eq!((a.refusal, a.place), (11, 8));
+    assert!(rest(&[253, 1, 0, 0], &a).is_empty());
+    let a = replay(&[253, 1, 0, 0, 0, 0, 0, 1, 0, 5], &mut []);
+    assert_eq!((a.refusal, a.place), (11, 9));
 }
 
 /// A power cut: the answer is that of the whole records, with 1 at the first that isn't whole.
@@ -257,7 +282,100 @@ fn refusals_in_rising_order() {
     s.event(Start(0)).unwrap();
     assert_eq!(refused(&s, 2, 0, 0), 14);
     assert_eq!(refused(&s, 3, 2, 0), 15);
-    assert_eq!(s.event(Read(0)), Ok(100));
+    assert_eq!(s.event(Read(0)), Ok(90));
+}
+
+/// A state after these events, none of which is refused or reads.
+fn after(state: &State, events: &[Event]) -> State {
+    let mut s = state.clone();
+    for e in events {
+        assert_eq!(s.event(*e), Ok(0), "{:?}", e);
+    }
+    s
+}
+
+/// Two tasks with defaults 5 and 6 and a delayed link either way: link 0 from task 1 to task 0, ahead, with start value 90; link 1 from task
+/// 0 to task 1, behind, with start value 80.
+fn both_ways() -> State {
+    State::fresh(&table(&[5, 6], &[(1, 0, 1, 90), (0, 1, 1, 80)])).state
+}
+
+/// The marks of its two links.
+fn marks(s: &State) -> [u8; 2] {
+    [s.control.mark[0], s.control.mark[1]]
+}
+
+/// Both tasks arrive together and each reads and finishes with the round's number and its own: in the first round the start values are
+/// read, from the second on what the round before put out.
+#[test]
+fn start_values_are_read_in_the_first_round_alone() {
+    let mut s = both_ways();
+    let mut read = Vec::new();
+    for round in 1..=4 {
+        s = after(&s, &[Arrival(0b11), Start(0)]);
+        read.push(s.event(Read(0)));
+        s = after(&s, &[Finish(0, 10 * round), Start(1)]);
+        read.push(s.event(Read(1)));
+        s = after(&s, &[Finish(1, 10 * round + 1)]);
+    }
+    assert_eq!(read, [90, 80, 11, 10, 21, 20, 31, 30].map(Ok));
+}
+
+/// The writer's first output is not read before its second arrival, nor its default: neither by a reader ahead nor by one behind.
+#[test]
+fn the_second_arrival_of_the_writer_ends_the_start_value() {
+    for (link, writer, reader, start_value) in [(0, 1, 0, 90), (1, 0, 1, 80)] {
+        let read = |before: &State| {
+            let mut s = after(before, &[Arrival(1 << reader), Start(reader)]);
+            let number = s.event(Read(link)).unwrap();
+            (number, s.control.mark[link as usize])
+        };
+        let run = |s: &State, value| after(s, &[Arrival(1 << writer), Start(writer), Finish(writer, value)]);
+        let none = both_ways();
+        assert_eq!((none.control.seen[writer as usize], read(&none)), (0, (start_value, 1)));
+        let once = run(&none, 7);
+        assert_eq!((once.control.seen[writer as usize], read(&once)), (1, (start_value, 1)));
+        let twice = run(&once, 8);
+        assert_eq!((twice.control.seen[writer as usize], read(&twice)), (2, (7, 0)));
+        let thrice = run(&twice, 9);
+        assert_eq!((thrice.control.seen[writer as usize], read(&thrice)), (2, (8, 0)));
+    }
+}
+
+/// The writer's arrival in the same set counts.
+#[test]
+fn the_second_arrival_may_be_the_readers_own() {
+    let once = after(&both_ways(), &[Arrival(0b10), Start(1), Finish(1, 7)]);
+    let mut s = after(&once, &[Arrival(0b11), Start(0)]);
+    assert_eq!(marks(&s), [0, 1]);
+    assert_eq!(s.event(Read(0)), Ok(7));
+}
+
+/// A reader that was interrupted by the writer's second and third arrival still reads what its own arrival settled on.
+#[test]
+fn a_start_value_stays_for_the_reader_that_runs() {
+    let writer_runs = [Arrival(0b01), Start(0), Finish(0, 7)];
+    let mut s = after(&both_ways(), &[Arrival(0b10), Start(1)]);
+    for seen in [1, 2, 2] {
+        s = after(&s, &writer_runs);
+        assert_eq!((s.control.seen[0], s.control.mark[1]), (seen, 1));
+        assert_eq!(s.event(Read(1)), Ok(80));
+    }
+}
+
+/// At the reader's finish the pointer from a writer ahead goes, and the mark with it; those from a writer behind stay, until the reader's
+/// next arrival sets both.
+#[test]
+fn the_mark_goes_with_the_pointer() {
+    let pointers = |s: &State| [s.control.pointer[0], s.control.pointer[1]];
+    let arrived = after(&both_ways(), &[Arrival(0b11)]);
+    assert_eq!((pointers(&arrived), marks(&arrived)), ([1, 1], [1, 1]));
+    let finished = after(&arrived, &[Start(0), Finish(0, 7), Start(1), Finish(1, 8)]);
+    assert_eq!((pointers(&finished), marks(&finished)), ([1, 0], [1, 0]));
+    let behind_again = after(&finished, &[Arrival(0b10)]);
+    assert_eq!((pointers(&behind_again), marks(&behind_again)), ([1, 1], [1, 1]));
+    let both_again = after(&finished, &[Arrival(0b11)]);
+    assert_eq!((pointers(&both_again), marks(&both_again)), ([2, 2], [0, 0]));
 }
 
 /// 19 before anything else: for every kind, also an unknown one, and for numbers in no table.
@@ -286,9 +404,53 @@ fn unsound_states() {
     }
     let mut past = good;
     past.control.phase[4] = 200;
+    past.control.seen[4] = 200;
     past.control.writer[3] = 200;
+    past.control.mark[3] = 200;
+    past.values.start_value[3] = 200;
     assert_eq!(past.event(Arrival(1)), Ok(0), "slots past the counts are not looked at");
-    assert_eq!((past.control.phase[4], past.control.writer[3]), (200, 200));
+    assert_eq!((past.control.phase[4], past.control.seen[4]), (200, 200));
+    assert_eq!((past.control.writer[3], past.control.mark[3], past.values.start_value[3]), (200, 200, 200));
+}
+
+/// What soundness asks of arrivals, marks and start values, each by one change of a sound state: both links have a mark there; task 0, the
+/// writer of link 1, has had one arrival and is idle; task 1, the writer of link 0, has had two and waits.
+#[test]
+fn unsound_arrivals_and_marks() {
+    let once = [Arrival(0b11), Start(0), Finish(0, 7), Start(1), Finish(1, 8)];
+    let good = after(&both_ways(), &[&once[..], &[Arrival(0b10)]].concat());
+    assert_eq!((good.control.seen[..2].to_vec(), marks(&good)), (vec![1, 2], [1, 1]));
+    let answer = |change: fn(&mut State)| {
+        let mut s = good.clone();
+        change(&mut s);
+        s.event(Start(1))
+    };
+    assert_eq!(answer(|_| ()), Ok(0));
+    assert_eq!(answer(|s| s.control.seen[0] = 3), Err(19), "none of the three values");
+    assert_eq!(answer(|s| s.control.seen[0] = 0), Ok(0), "without arrivals, and idle");
+    assert_eq!(answer(|s| s.control.seen[1] = 0), Err(19), "without arrivals, and waiting");
+    assert_eq!(answer(|s| s.control.mark[0] = 2), Err(19), "neither 0 nor 1");
+    assert_eq!(answer(|s| s.control.pointer[0] = 0), Err(19), "a mark at an absent pointer");
+    assert_eq!(answer(|s| s.control.mark[1] = 0), Err(19), "no mark, and a writer with one arrival");
+    assert_eq!(answer(|s| s.control.mark[0] = 0), Ok(0), "no mark, and a writer with two arrivals");
+    assert_eq!(
+        answer(|s| {
+            s.control.pointer[0] = 0;
+            s.control.mark[0] = 0;
+        }),
+        Ok(0),
+        "neither pointer nor mark"
+    );
+    // as a direct link, link 1 may have neither a mark nor a start value
+    let direct = |s: &mut State, mark: u8, start_value: u32| {
+        s.control.kind[1] = 0;
+        s.control.mark[1] = mark;
+        s.values.start_value[1] = start_value;
+        s.event(Start(1))
+    };
+    assert_eq!(direct(&mut good.clone(), 0, 0), Ok(0));
+    assert_eq!(direct(&mut good.clone(), 1, 0), Err(19));
+    assert_eq!(direct(&mut good.clone(), 0, 80), Err(19));
 }
 
 #[test]
@@ -305,16 +467,24 @@ fn tables() {
     for links in [33, usize::MAX] {
         assert_eq!(refusal(&Table { links, ..example_table() }), 3);
     }
-    assert_eq!(refusal(&table(&[0; 2], &[(0, 2, 0)])), 4);
-    assert_eq!(refusal(&table(&[0; 2], &[(0, 0, 0)])), 5);
-    assert_eq!(refusal(&table(&[0; 2], &[(0, 1, 2)])), 6);
-    assert_eq!(refusal(&table(&[0; 2], &[(1, 0, 0)])), 7);
-    assert_eq!(refusal(&table(&[0; 2], &[(0, 1, 0), (0, 1, 1)])), 8);
-    let eight: Vec<_> = (1..=8).map(|r| (0, r, 0)).collect();
-    let nine: Vec<_> = (1..=9).map(|r| (0, r, 0)).collect();
-    assert_eq!(refusal(&table(&[0; 16], &eight)), 0);
-    assert_eq!(refusal(&table(&[0; 16], &nine)), 9);
-    let most: Vec<_> = (0..16).flat_map(|r| (0..16).filter(move |w| *w > r).map(move |w| (w, r, 1))).take(32).collect();
+    // each with a start value, which a direct link may not have: 20 is tried last
+    assert_eq!(refusal(&table(&[0; 2], &[(0, 2, 0, 1)])), 4);
+    assert_eq!(refusal(&table(&[0; 2], &[(0, 0, 0, 1)])), 5);
+    assert_eq!(refusal(&table(&[0; 2], &[(0, 1, 2, 1)])), 6);
+    assert_eq!(refusal(&table(&[0; 2], &[(1, 0, 0, 1)])), 7);
+    assert_eq!(refusal(&table(&[0; 2], &[(0, 1, 1, 1), (0, 1, 0, 1)])), 8);
+    let to = |readers: u8, last: u32| -> Vec<_> {
+        (1..=readers).map(|r| (0, r, 0, if r == readers { last } else { 0 })).collect()
+    };
+    assert_eq!(refusal(&table(&[0; 16], &to(8, 0))), 0);
+    assert_eq!(refusal(&table(&[0; 16], &to(9, 0))), 9);
+    assert_eq!(refusal(&table(&[0; 16], &to(9, 1))), 9);
+    for start_value in [1, 256, 1 << 16, 1 << 24, u32::MAX] {
+        assert_eq!(refusal(&table(&[0; 16], &to(8, start_value))), 20);
+        assert_eq!(refusal(&table(&[0; 2], &[(0, 1, 1, start_value), (1, 0, 1, start_value)])), 0);
+    }
+    let ahead = |r: u8| (0..16).filter(move |w| *w > r).map(move |w| (w, r, 1, 2000 + u32::from(w)));
+    let most: Vec<_> = (0..16).flat_map(ahead).take(32).collect();
     assert_eq!(refusal(&table(&[5; 16], &most)), 0);
 }
 
@@ -324,6 +494,8 @@ fn a_fresh_state() {
     assert_eq!((tasks, links), (4, 3));
     assert_eq!(values.defaults[..6], [0, 100, 0, 0, 0, 0], "past the tasks stands 0");
     assert_eq!((control.phase, control.newest, control.previous), ([0; TASKS], [1; TASKS], [1; TASKS]));
+    assert_eq!((control.seen, control.mark), ([0; TASKS], [0; LINKS]));
+    assert_eq!(values.start_value[..5], [90, 0, 0, 0, 0], "past the links stands 0");
     assert!(values.cells[10..20].iter().all(|&c| c == 100));
     assert!(values.cells[..10].iter().chain(&values.cells[20..]).all(|&c| c == 0));
     assert_eq!(
@@ -335,7 +507,7 @@ fn a_fresh_state() {
 
 /// A table's defaults and links as they are handed over, and events.
 fn numbers(t: &Table, events: &[Event]) -> (Vec<u32>, Vec<u32>, Vec<u32>) {
-    let links = (0..t.links).flat_map(|l| [t.writer[l], t.reader[l], t.kind[l]].map(u32::from));
+    let links = (0..t.links).flat_map(|l| [t.writer[l].into(), t.reader[l].into(), t.kind[l].into(), t.start_value[l]]);
     let events = events.iter().flat_map(|e| match *e {
         Arrival(set) => vec![1, set],
         Start(task) => vec![2, task],
@@ -358,20 +530,21 @@ fn written(defaults: &[u32], links: &[u32], events: &[u32], room: usize) -> (u8,
 #[test]
 fn the_long_example_is_written_and_replayed() {
     let (defaults, links, events) = numbers(&example_table(), &EVENTS);
-    for room in [148, 149, 1000] {
-        assert_eq!(written(&defaults, &links, &events, room), (0, 148, example()));
+    for room in [161, 162, 1000] {
+        assert_eq!(written(&defaults, &links, &events, room), (0, 161, example()));
     }
-    for room in [147, 29, 1, 0] {
-        assert_eq!(written(&defaults, &links, &events, room), (18, 148, vec![]));
+    for room in [160, 42, 1, 0] {
+        assert_eq!(written(&defaults, &links, &events, room), (18, 161, vec![]));
     }
-    let (_, place, bytes) = written(&defaults, &links, &events, 148);
+    let (_, place, bytes) = written(&defaults, &links, &events, 161);
     let mut list = [77; 8];
     let a = replay(&bytes, &mut list);
     assert_eq!((a.refusal, a.place, list), (0, place, NUMBERS));
     assert_eq!(a.state, replay(&example(), &mut [0; 8]).state);
 }
 
-/// Every number of the example in turn, replaced by those that a field can't hold: never cut, and refused unless it is a value.
+/// Every number of the example in turn, replaced by those that a field can't hold: never cut, and refused unless it is a value, as the start
+/// value of its delayed link is.
 #[test]
 fn numbers_that_no_field_holds() {
     let (defaults, links, events) = numbers(&example_table(), &EVENTS);
@@ -379,8 +552,12 @@ fn numbers_that_no_field_holds() {
         for at in 0..links.len() {
             let mut links = links.clone();
             links[at] = wide;
-            let refusal = if at % 3 == 2 { 6 } else { 4 };
-            assert_eq!(written(&defaults, &links, &events, 148), (refusal, 18 + at / 3 * 3, vec![]));
+            let (refusal, place, _) = written(&defaults, &links, &events, 161);
+            if at == 3 {
+                assert_eq!((refusal, place), (0, 161));
+            } else {
+                assert_eq!((refusal, place), ([4, 4, 6, 20][at % 4], 19 + at / 4 * 7));
+            }
         }
         let mut at = 0;
         for (i, e) in EVENTS.iter().enumerate() {
@@ -388,16 +565,16 @@ fn numbers_that_no_field_holds() {
             for (field, refusal) in [11, 12].into_iter().enumerate() {
                 let mut events = events.clone();
                 events[at + field] = wide;
-                assert_eq!(written(&defaults, &links, &events, 148), (refusal, place_of(i), vec![]));
+                assert_eq!(written(&defaults, &links, &events, 161), (refusal, place_of(i), vec![]));
             }
             if size == 3 {
                 let mut events = events.clone();
                 events[at + 2] = wide;
-                assert_eq!(written(&defaults, &links, &events, 148).0, 0);
+                assert_eq!(written(&defaults, &links, &events, 161).0, 0);
             }
             at += size;
         }
-        assert_eq!(written(&[wide], &[], &[], 8).0, 0);
+        assert_eq!(written(&[wide], &[], &[], 9).0, 0);
     }
 }
 
@@ -406,11 +583,11 @@ fn numbers_that_no_field_holds() {
 fn slices_that_end_too_early() {
     let (defaults, links, events) = numbers(&example_table(), &EVENTS);
     for cut in 0..links.len() {
-        let begun = (1, 18 + cut / 3 * 3, vec![]);
-        let without_events = written(&defaults, &links[..cut], &[], 148);
-        match cut % 3 {
-            0 => assert_eq!((without_events.0, without_events.1), (0, 20 + cut)),
-            _ => assert_eq!(without_events, begun),
+        let after_whole_links = 19 + cut / 4 * 7;
+        let without_events = written(&defaults, &links[..cut], &[], 161);
+        match cut % 4 {
+            0 => assert_eq!((without_events.0, without_events.1), (0, after_whole_links + 2)),
+            _ => assert_eq!(without_events, (1, after_whole_links, vec![])),
         }
     }
     let mut ends = vec![0];
@@ -419,7 +596,7 @@ fn slices_that_end_too_early() {
     }
     for cut in 0..events.len() {
         let whole = ends.iter().rposition(|&end| end <= cut).unwrap();
-        let w = written(&defaults, &links, &events[..cut], 148);
+        let w = written(&defaults, &links, &events[..cut], 161);
         if ends[whole] == cut {
             assert_eq!(w, (0, place_of(whole), record(&example_table(), &EVENTS[..whole])));
         } else {
@@ -431,31 +608,33 @@ fn slices_that_end_too_early() {
 #[test]
 fn writing_is_refused_as_reading_is() {
     let refused = |defaults: &[u32], links: &[u32], events: &[u32]| {
-        let (refusal, place, _) = written(defaults, links, events, 60_164);
+        let (refusal, place, _) = written(defaults, links, events, 60_293);
         (refusal, place)
     };
-    assert_eq!(refused(&[], &[], &[]), (2, 0));
-    assert_eq!(refused(&[0; 17], &[], &[]), (2, 0));
-    assert_eq!(refused(&[0; 16], &[0; 97], &[]), (3, 65));
-    let second = |link: [u32; 3]| refused(&[9, 8], &[&[0, 1, 0], &link[..]].concat(), &[]);
-    assert_eq!(second([0, 2, 0]), (4, 13));
-    assert_eq!(second([1, 1, 0]), (5, 13));
-    assert_eq!(second([1, 0, 2]), (6, 13));
-    assert_eq!(second([1, 0, 0]), (7, 13));
-    assert_eq!(second([0, 1, 1]), (8, 13));
-    let nine: Vec<u32> = (1..=9).flat_map(|r| [0, r, 0]).collect();
-    assert_eq!(refused(&[0; 16], &nine, &[]), (9, 66 + 24));
-    let event = |events: &[u32]| refused(&[9, 8], &[0, 1, 0], events);
-    assert_eq!(event(&[1, 1].repeat(10_001)), (10, 13));
-    assert_eq!(event(&[&[0][..], &[1, 1].repeat(10_001)].concat()), (11, 15));
-    assert_eq!(event(&[1, 0]), (12, 15));
-    assert_eq!(event(&[1, 1, 1, 1]), (13, 18));
-    assert_eq!(event(&[2, 0]), (14, 15));
-    assert_eq!(event(&[3, 0]), (15, 15));
-    assert_eq!(event(&[1, 3, 2, 1]), (16, 18));
-    assert_eq!(event(&[1, 3, 2, 0]), (0, 20));
+    assert_eq!(refused(&[], &[], &[]), (2, 1));
+    assert_eq!(refused(&[0; 17], &[], &[]), (2, 1));
+    assert_eq!(refused(&[0; 16], &[0; 129], &[]), (3, 66));
+    let second = |link: [u32; 4]| refused(&[9, 8, 7], &[&[0, 1, 0, 0], &link[..]].concat(), &[]);
+    assert_eq!(second([0, 3, 0, 1]), (4, 22));
+    assert_eq!(second([1, 1, 0, 1]), (5, 22));
+    assert_eq!(second([1, 0, 2, 1]), (6, 22));
+    assert_eq!(second([1, 0, 0, 1]), (7, 22));
+    assert_eq!(second([0, 1, 0, 1]), (8, 22));
+    assert_eq!(second([0, 2, 0, 1]), (20, 22));
+    assert_eq!(second([0, 2, 1, 1]), (0, 31));
+    let nine: Vec<u32> = (1..=9).flat_map(|r| [0, r, 0, r / 9]).collect();
+    assert_eq!(refused(&[0; 16], &nine, &[]), (9, 67 + 8 * 7));
+    let event = |events: &[u32]| refused(&[9, 8], &[0, 1, 0, 0], events);
+    assert_eq!(event(&[1, 1].repeat(10_001)), (10, 18));
+    assert_eq!(event(&[&[0][..], &[1, 1].repeat(10_001)].concat()), (11, 20));
+    assert_eq!(event(&[1, 0]), (12, 20));
+    assert_eq!(event(&[1, 1, 1, 1]), (13, 23));
+    assert_eq!(event(&[2, 0]), (14, 20));
+    assert_eq!(event(&[3, 0]), (15, 20));
+    assert_eq!(event(&[1, 3, 2, 1]), (16, 23));
+    assert_eq!(event(&[1, 3, 2, 0]), (0, 25));
     // the buffer is tried last, and empty slices are slices
-    assert_eq!(written(&[9, 8], &[0, 1, 2], &[0], 0), (6, 10, vec![]));
-    assert_eq!(written(&[9, 8], &[], &[], 0), (18, 12, vec![]));
-    assert_eq!(written(&[0], &[], &[], 8), (0, 8, vec![1, 0, 0, 0, 0, 0, 0, 0]));
+    assert_eq!(written(&[9, 8], &[0, 1, 2, 0], &[0], 0), (6, 11, vec![]));
+    assert_eq!(written(&[9, 8], &[], &[], 0), (18, 13, vec![]));
+    assert_eq!(written(&[0], &[], &[], 9), (0, 9, vec![253, 1, 0, 0, 0, 0, 0, 0, 0]));
 }

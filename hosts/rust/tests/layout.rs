@@ -18,31 +18,35 @@ fn each_field_stands_where_the_layout_has_its_region() {
     assert_eq!(region(&control, &control.phase), (0, 16));
     assert_eq!(region(&control, &control.newest), (16, 16));
     assert_eq!(region(&control, &control.previous), (32, 16));
-    assert_eq!(region(&control, &control.pointer), (48, 32));
-    assert_eq!(region(&control, &control.writer), (80, 32));
-    assert_eq!(region(&control, &control.reader), (112, 32));
-    assert_eq!(region(&control, &control.kind), (144, 32));
-    assert_eq!((CONTROL, size_of::<Control>()), (176, 176));
+    assert_eq!(region(&control, &control.seen), (48, 16));
+    assert_eq!(region(&control, &control.pointer), (64, 32));
+    assert_eq!(region(&control, &control.mark), (96, 32));
+    assert_eq!(region(&control, &control.writer), (128, 32));
+    assert_eq!(region(&control, &control.reader), (160, 32));
+    assert_eq!(region(&control, &control.kind), (192, 32));
+    assert_eq!((CONTROL, size_of::<Control>()), (224, 224));
     assert_eq!(region(&values, &values.defaults), (0, 16));
-    assert_eq!(region(&values, &values.cells), (16, 160));
-    assert_eq!((VALUES, size_of::<Values>()), (176, 4 * 176));
+    assert_eq!(region(&values, &values.start_value), (16, 32));
+    assert_eq!(region(&values, &values.cells), (48, 160));
+    assert_eq!((VALUES, size_of::<Values>()), (208, 4 * 208));
 }
 
 /// As many tasks and links as there can be, so that no slot of a region is left out: each task writes to the next one, then each to the one
-/// before, direct where the reader is behind.
+/// before, direct where the reader is behind. A delayed one has a start value of its own.
 fn full_table() -> Table {
     let step = |l: usize| if l < TASKS { 1 } else { TASKS - 1 };
     let writer: [u8; LINKS] = from_fn(|l| (l % TASKS) as u8);
     let reader: [u8; LINKS] = from_fn(|l| ((l + step(l)) % TASKS) as u8);
-    let kind = from_fn(|l| u8::from(reader[l] < writer[l]));
-    Table { tasks: TASKS, links: LINKS, defaults: from_fn(|t| 1000 + t as u32), writer, reader, kind }
+    let kind: [u8; LINKS] = from_fn(|l| u8::from(reader[l] < writer[l]));
+    let start_value = from_fn(|l| if kind[l] == 1 { 2000 + l as u32 } else { 0 });
+    Table { tasks: TASKS, links: LINKS, defaults: from_fn(|t| 1000 + t as u32), writer, reader, kind, start_value }
 }
 
-/// A state in which no two regions hold the same: the odd tasks have run once; then all have arrived, tasks 0 and 1 have run, and task 2
-/// runs.
+/// A state in which no two regions hold the same: the odd tasks have run once; then all but task 14 have arrived, tasks 0 and 1 have run,
+/// and task 2 runs.
 fn amid_a_round() -> State {
     let odd_ones_run = (1..16).step_by(2).flat_map(|t| [Start(t), Finish(t, 100 + t)]);
-    let then = [Arrival(0xffff), Start(0), Finish(0, 500), Start(1), Finish(1, 501), Start(2)];
+    let then = [Arrival(0xbfff), Start(0), Finish(0, 500), Start(1), Finish(1, 501), Start(2)];
     let mut state = State::fresh(&full_table()).state;
     for event in [Arrival(0xaaaa)].into_iter().chain(odd_ones_run).chain(then) {
         assert_eq!(state.event(event), Ok(0), "{:?}", event);
@@ -64,12 +68,17 @@ fn number_at(t: usize, p: usize) -> u32 {
 fn the_library_puts_each_field_where_the_host_has_it() {
     let State { tasks, links, control, values } = amid_a_round();
     assert_eq!((tasks, links), (16, 32));
-    assert_eq!(control.phase, [0, 0, 2, 1, 1, 1, 1, 1, 1, 1, 1, 1, 1, 1, 1, 1]);
-    assert_eq!(control.newest, [2, 1, 2, 1, 2, 1, 2, 1, 2, 1, 2, 1, 2, 1, 2, 1]);
+    assert_eq!(control.phase, [0, 0, 2, 1, 1, 1, 1, 1, 1, 1, 1, 1, 1, 1, 0, 1]);
+    assert_eq!(control.newest, [2, 1, 2, 1, 2, 1, 2, 1, 2, 1, 2, 1, 2, 1, 1, 1]);
     assert_eq!(control.previous, [1, 2, 1, 2, 1, 2, 1, 2, 1, 2, 1, 2, 1, 2, 1, 2]);
-    // a direct link has the writer's newest position, a delayed one its previous; that of task 1, which has finished, is absent
-    assert_eq!(control.pointer[..16], [0, 1, 2, 1, 2, 1, 2, 1, 2, 1, 2, 1, 2, 1, 2, 2]);
-    assert_eq!(control.pointer[16..], [2, 2, 1, 2, 1, 2, 1, 2, 1, 2, 1, 2, 1, 2, 1, 2]);
+    assert_eq!(control.seen, [1, 2, 1, 2, 1, 2, 1, 2, 1, 2, 1, 2, 1, 2, 0, 2]);
+    // a direct link has the writer's newest position, a delayed one its previous; absent are the pointer from task 0 to task 1, which has
+    // finished, and both to task 14, which has not arrived
+    assert_eq!(control.pointer[..16], [0, 1, 2, 1, 2, 1, 2, 1, 2, 1, 2, 1, 2, 0, 1, 2]);
+    assert_eq!(control.pointer[16..], [2, 2, 1, 2, 1, 2, 1, 2, 1, 2, 1, 2, 1, 2, 1, 0]);
+    // a mark has each delayed link from an even task, which has had fewer than two arrivals
+    assert_eq!(control.mark[..16], [0; 16]);
+    assert_eq!(control.mark[16..], [0, 0, 1, 0, 1, 0, 1, 0, 1, 0, 1, 0, 1, 0, 1, 0]);
     assert_eq!(control.writer[..16], [0, 1, 2, 3, 4, 5, 6, 7, 8, 9, 10, 11, 12, 13, 14, 15]);
     assert_eq!(control.writer[16..], [0, 1, 2, 3, 4, 5, 6, 7, 8, 9, 10, 11, 12, 13, 14, 15]);
     assert_eq!(control.reader[..16], [1, 2, 3, 4, 5, 6, 7, 8, 9, 10, 11, 12, 13, 14, 15, 0]);
@@ -78,6 +87,9 @@ fn the_library_puts_each_field_where_the_host_has_it() {
     assert_eq!(control.kind[16..], [0, 1, 1, 1, 1, 1, 1, 1, 1, 1, 1, 1, 1, 1, 1, 1]);
     let defaults: [u32; TASKS] = from_fn(|t| 1000 + t as u32);
     assert_eq!(values.defaults, defaults);
+    assert_eq!(values.start_value[..16], [0, 0, 0, 0, 0, 0, 0, 0, 0, 0, 0, 0, 0, 0, 0, 2015]);
+    let start_values: [u32; 15] = from_fn(|l| 2017 + l as u32);
+    assert_eq!((values.start_value[16], &values.start_value[17..]), (0, &start_values[..]));
     let cells: [u32; CELLS] = from_fn(|c| number_at(c / POSITIONS, c % POSITIONS + 1));
     assert_eq!(values.cells, cells);
 }
@@ -86,7 +98,15 @@ fn the_library_puts_each_field_where_the_host_has_it() {
 fn one_link() -> State {
     let mut reader = [0; LINKS];
     reader[0] = 2;
-    let table = Table { tasks: 4, links: 1, defaults: [0; TASKS], writer: [0; LINKS], reader, kind: [0; LINKS] };
+    let table = Table {
+        tasks: 4,
+        links: 1,
+        defaults: [0; TASKS],
+        writer: [0; LINKS],
+        reader,
+        kind: [0; LINKS],
+        start_value: [0; LINKS],
+    };
     let mut state = State::fresh(&table).state;
     state.values.cells = from_fn(|c| 100 + c as u32);
     state
@@ -117,6 +137,31 @@ fn a_read_takes_each_field_from_where_the_host_has_it() {
     assert_eq!(read(|s| s.control.writer[0] = 1), Ok(110), "position 1 of task 1");
     assert_eq!(read(|s| s.control.reader[0] = 3), Err(15), "task 3 only waits");
     assert_eq!(read(|s| s.control.phase[2] = 1), Err(15), "task 2 only waits");
+    assert_eq!(read(|s| s.control.seen[2] = 0), Err(19), "task 2 runs without an arrival");
+}
+
+/// Makes link 0 a delayed one with start value 55.
+fn delay(s: &mut State) {
+    s.control.kind[0] = 1;
+    s.values.start_value[0] = 55;
+}
+
+/// And gives it a mark.
+fn delay_and_mark(s: &mut State) {
+    delay(s);
+    s.control.mark[0] = 1;
+}
+
+#[test]
+fn a_read_takes_mark_and_start_value_from_where_the_host_has_them() {
+    let read = |change: fn(&mut State)| changed(reader_runs(), change, Read(0)).0;
+    assert_eq!(read(delay_and_mark), Ok(55));
+    let writer_arrived_twice = |s: &mut State| {
+        delay(s);
+        s.control.seen[0] = 2;
+    };
+    assert_eq!(read(writer_arrived_twice), Ok(100), "no mark: position 1 of task 0");
+    assert_eq!(read(delay), Err(19), "no mark, though task 0 has not arrived");
 }
 
 #[test]
@@ -131,6 +176,23 @@ fn an_arrival_takes_each_field_from_where_the_host_has_it() {
         s.control.previous[0] = 3;
     };
     assert_eq!(pointer(delayed), 3, "delayed: where the writer was");
+    let seen = |change: fn(&mut State)| changed(one_link(), change, Arrival(0b0100)).1.control.seen;
+    assert_eq!(seen(|_| ())[..4], [0, 0, 1, 0]);
+    assert_eq!(seen(|s| s.control.seen[2] = 1)[..4], [0, 0, 2, 0]);
+    assert_eq!(seen(|s| s.control.seen[2] = 2)[..4], [0, 0, 2, 0]);
+}
+
+#[test]
+fn an_arrival_puts_the_mark_where_the_host_has_it() {
+    let mark_of_delayed = |seen_of_writer: u8| {
+        let mut state = one_link();
+        delay(&mut state);
+        state.control.seen[0] = seen_of_writer;
+        assert_eq!(state.event(Arrival(0b0100)), Ok(0));
+        state.control.mark[0]
+    };
+    assert_eq!([0, 1, 2].map(mark_of_delayed), [1, 1, 0]);
+    assert_eq!(changed(one_link(), |_| (), Arrival(0b0100)).1.control.mark[0], 0, "direct");
 }
 
 #[test]
@@ -142,6 +204,14 @@ fn a_finish_takes_each_field_from_where_the_host_has_it() {
     };
     assert_eq!(positions(|_| ()), (120, 9));
     assert_eq!(positions(|s| s.control.newest[2] = 1), (9, 121));
+}
+
+/// A finish takes the mark away with the pointer.
+#[test]
+fn a_finish_takes_the_mark_from_where_the_host_has_it() {
+    let (answer, after) = changed(reader_runs(), delay_and_mark, Finish(2, 9));
+    assert_eq!((answer, after.control.pointer[0], after.control.mark[0]), (Ok(0), 0, 0));
+    assert_eq!(after.values.start_value[0], 55);
 }
 
 /// An event neither looks at a default nor changes one.

@@ -2,7 +2,7 @@
 //! the refusals shows.
 
 use super::Case;
-use crate::format::{encode, encode_event, encode_table, place_of_event_count};
+use crate::format::{encode, encode_event, encode_table, place_of_event_count, LINK_BYTES};
 use crate::nasty::{competing_table, nasty_event};
 use crate::prng::Prng;
 use crate::random_table::Size;
@@ -38,7 +38,7 @@ pub fn competing_links(prng: &mut Prng) -> Case {
     if prng.chance(80) {
         bytes.extend_from_slice(&[0, 0]);
     } else {
-        bytes.truncate(bytes.len() - prng.below(4));
+        bytes.truncate(bytes.len() - prng.below(LINK_BYTES + 1));
     }
     Case::other(bytes, prng.below(3))
 }

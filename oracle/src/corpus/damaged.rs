@@ -5,7 +5,9 @@ use std::rc::Rc;
 
 use super::{Case, Origin};
 use crate::example::long_example;
-use crate::format::{encode, place_of_event_count, Recording, MOST_BYTES, MOST_EVENTS};
+use crate::format::{
+    encode, place_of_event_count, place_of_link_count, Recording, FIRST_BYTE, MOST_BYTES, MOST_EVENTS,
+};
 use crate::prng::Prng;
 use crate::random_table::{random_table, Size};
 use crate::schedule::{random_events, random_recording, reads};
@@ -86,14 +88,19 @@ pub fn extra_bytes(prng: &mut Prng, number: usize) -> Case {
     Case::other(bytes, reads(&recording) + prng.below(3))
 }
 
+/// A count, or the first byte before them, changed or left out.
 pub fn counts_changed(prng: &mut Prng) -> Case {
     let (recording, _) = random_recording(prng, Size::Any, 40);
     let mut bytes = encode(&recording);
-    let links_at = 1 + 4 * recording.table.defaults.len();
+    let links_at = place_of_link_count(recording.table.defaults.len());
     let events_at = place_of_event_count(&recording.table);
-    match prng.below(3) {
-        0 => bytes[0] = near(prng, bytes[0], &[0, 1, 15, 16, 17, 255]),
-        1 => bytes[links_at] = near(prng, bytes[links_at], &[0, 1, 31, 32, 33, 255]),
+    match prng.below(4) {
+        0 if prng.chance(30) => {
+            bytes.remove(0);
+        }
+        0 => bytes[0] = near(prng, bytes[0], &[0, 1, 16, 125, 253, 255]),
+        1 => bytes[1] = near(prng, bytes[1], &[0, 1, 15, 16, 17, 255]),
+        2 => bytes[links_at] = near(prng, bytes[links_at], &[0, 1, 31, 32, 33, 255]),
         _ => {
             let count = changed_event_count(prng, recording.events.len() as u16);
             bytes[events_at..events_at + 2].copy_from_slice(&count.to_le_bytes());
@@ -132,10 +139,14 @@ pub fn short_list(prng: &mut Prng) -> Case {
     Case::other(bytes, room)
 }
 
-/// Bytes that were never a recording, small values in the main.
+/// Bytes that were never a recording, small values in the main; most of them
+/// begin as one, since nothing is looked at after another first byte.
 pub fn soup(prng: &mut Prng) -> Case {
     let length = prng.below(40);
     let small = prng.chance(70);
-    let bytes = (0..length).map(|_| if small { prng.below(5) as u8 } else { prng.byte() }).collect();
+    let mut bytes: Vec<u8> = (0..length).map(|_| if small { prng.below(5) as u8 } else { prng.byte() }).collect();
+    if prng.chance(90) {
+        bytes.insert(0, FIRST_BYTE);
+    }
     Case::other(bytes, prng.below(4))
 }

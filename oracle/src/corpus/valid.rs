@@ -3,7 +3,7 @@
 use std::rc::Rc;
 
 use super::{Case, Origin};
-use crate::format::{encode, Event, Link, Recording, Table, MOST_BEHIND, MOST_EVENTS, MOST_TASKS};
+use crate::format::{encode, Event, Link, Recording, Table, DELAYED, MOST_BEHIND, MOST_EVENTS, MOST_TASKS};
 use crate::prng::Prng;
 use crate::random_table::{random_table, Size};
 use crate::schedule::{random_events, random_recording, reads};
@@ -50,5 +50,11 @@ fn largest(prng: &mut Prng, most_bytes: bool) -> Case {
 /// Four writers with eight readers behind each, direct and delayed in turn.
 fn crowded_links() -> Vec<Link> {
     let pairs = (0..4).flat_map(|writer| (0..MOST_BEHIND as u8).map(move |reader| (writer, reader)));
-    pairs.map(|(writer, reader)| Link { writer, reader: 8 + reader, kind: (writer + reader) % 2 }).collect()
+    pairs.map(|(writer, reader)| crowded_link(writer, 8 + reader)).collect()
+}
+
+fn crowded_link(writer: u8, reader: u8) -> Link {
+    let kind = (writer + reader) % 2;
+    let start_value = if kind == DELAYED { u32::from_le_bytes([reader, writer, kind, 0xFE]) } else { 0 };
+    Link { writer, reader, kind, start_value }
 }

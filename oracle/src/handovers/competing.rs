@@ -15,9 +15,9 @@ pub fn competing_links(prng: &mut Prng) -> Lent {
     let mut handover = Handover::of(&Recording { table: competing_table(prng), events: Vec::new() });
     let length = handover.links.len();
     if prng.chance(15) {
-        handover.links.truncate(length - prng.between(1, 2));
+        handover.links.truncate(length - prng.between(1, 3));
     } else if prng.chance(30) {
-        let place = length - prng.between(1, 3);
+        let place = length - prng.between(1, 4);
         handover.links[place] = widened(prng, handover.links[place]);
     }
     if prng.chance(20) {
@@ -59,6 +59,6 @@ pub fn soup(prng: &mut Prng) -> Lent {
         let length = prng.below(most + 1);
         (0..length).map(|_| if small { prng.below(5) as u32 } else { prng.word() >> prng.below(32) }).collect()
     };
-    let handover = Handover { defaults: slice(5), links: slice(8), events: slice(20) };
+    let handover = Handover { defaults: slice(5), links: slice(9), events: slice(20) };
     some_room(prng, handover)
 }

@@ -3,7 +3,7 @@
 
 use super::Lent;
 use crate::format::{MOST_BEHIND, MOST_EVENTS, MOST_LINKS, MOST_TASKS};
-use crate::writing::Handover;
+use crate::writing::{Handover, LINK_NUMBERS};
 
 pub fn limits() -> Vec<Lent> {
     let mut handovers = task_counts();
@@ -25,9 +25,9 @@ fn task_counts() -> Vec<Handover> {
     let each = counts.flat_map(|tasks| {
         [
             with(tasks, Vec::new(), Vec::new()),
-            with(tasks, vec![0, 1, 0], vec![1, 1]),
-            with(tasks, vec![0, 1, 1, 0, 1, 1], vec![0]),
-            with(tasks, vec![0; 3 * (MOST_LINKS + 1)], Vec::new()),
+            with(tasks, vec![0, 1, 0, 0], vec![1, 1]),
+            with(tasks, vec![0, 1, 1, 5, 0, 1, 1, 5], vec![0]),
+            with(tasks, vec![0; LINK_NUMBERS * (MOST_LINKS + 1)], Vec::new()),
         ]
     });
     each.collect()
@@ -39,31 +39,43 @@ fn link_counts() -> Vec<Handover> {
     let counts = [0, 1, 31, 32, 33, 34, 255, 256, 257, 288, 289, 65_536];
     let slices = counts.iter().flat_map(|&count| {
         let numbers: Vec<u32> = (0..count).flat_map(link).collect();
-        (0..3).map(move |more| [&numbers[..], &vec![0; more]].concat())
+        (0..LINK_NUMBERS).map(move |more| [&numbers[..], &vec![0; more]].concat())
     });
     slices.map(|links| Handover { defaults: vec![5; MOST_TASKS], links, events: Vec::new() }).collect()
 }
 
-/// Four writers with eight readers behind each; then their first ones again.
-fn link(number: usize) -> [u32; 3] {
+/// Four writers with eight readers behind each, direct and delayed in turn;
+/// then their first ones again.
+fn link(number: usize) -> [u32; LINK_NUMBERS] {
     let behind = number % MOST_LINKS;
-    [(behind / MOST_BEHIND) as u32, (MOST_BEHIND + behind % MOST_BEHIND) as u32, 0]
+    let kind = behind as u32 % 2;
+    [
+        (behind / MOST_BEHIND) as u32,
+        (MOST_BEHIND + behind % MOST_BEHIND) as u32,
+        kind,
+        kind * (u32::MAX - behind as u32),
+    ]
 }
 
 /// Seven to nine readers behind a writer, and three ahead of it, which don't
-/// count; the ninth by itself, a second one to its reader, and begun.
+/// count; the ninth by itself, direct with a start value, a second one to its
+/// reader, and begun.
 fn readers_behind() -> Vec<Handover> {
-    let ahead: Vec<u32> = (0..3).flat_map(|reader| [3, reader, 1]).collect();
-    let behind = |count: u32| (4..4 + count).flat_map(|reader| [3, reader, reader % 2]).collect::<Vec<u32>>();
+    let ahead: Vec<u32> = (0..3).flat_map(|reader| [3, reader, 1, reader]).collect();
+    let behind = |count: u32| (4..4 + count).flat_map(|reader| [3, reader, reader % 2, 0]).collect::<Vec<u32>>();
     let slices = [
         [&ahead[..], &behind(7)].concat(),
         [&ahead[..], &behind(8)].concat(),
         [&ahead[..], &behind(9)].concat(),
         [&behind(8)[..], &ahead].concat(),
         behind(9),
-        [&behind(8)[..], &[3, 4, 1]].concat(),
+        [&behind(8)[..], &[3, 12, 0, 1]].concat(),
+        [&behind(8)[..], &[3, 4, 1, 0]].concat(),
+        [&behind(8)[..], &[3, 4, 0, 1]].concat(),
         [&behind(8)[..], &[3, 12]].concat(),
-        [&behind(8)[..], &[2, 12, 0]].concat(),
+        [&behind(8)[..], &[3, 12, 1]].concat(),
+        [&behind(8)[..], &[2, 12, 0, 0]].concat(),
+        [&behind(8)[..], &[2, 12, 0, 1]].concat(),
     ];
     slices.map(|links| Handover { defaults: vec![6; MOST_TASKS], links, events: Vec::new() }).to_vec()
 }
@@ -82,9 +94,9 @@ fn event_counts() -> Vec<Handover> {
     slices.push([&[1, 1, 7][..], &events(MOST_EVENTS + 1)].concat());
     slices.push([&[2, 9][..], &events(MOST_EVENTS - 1)].concat());
     slices.push([&[2, 9][..], &events(MOST_EVENTS)].concat());
-    let mut handovers: Vec<Handover> = slices.into_iter().map(|slice| two(vec![0, 1, 0], slice)).collect();
+    let mut handovers: Vec<Handover> = slices.into_iter().map(|slice| two(vec![0, 1, 0, 0], slice)).collect();
     // A fault in the links, or a link that was begun, comes before the events.
-    for links in [vec![0, 1, 2], vec![0, 1, 0, 1], vec![0, 0, 0]] {
+    for links in [vec![0, 1, 2, 0], vec![0, 1, 0, 0, 1], vec![0, 0, 0, 0], vec![0, 1, 0, 1]] {
         handovers.push(two(links, events(MOST_EVENTS + 1)));
     }
     handovers.push(Handover { defaults: Vec::new(), ..two(Vec::new(), events(MOST_EVENTS + 1)) });
@@ -108,7 +120,7 @@ fn longest() -> Vec<Handover> {
 
 /// Counts that two bytes can't hold, or just can.
 fn large_event_counts() -> Vec<Handover> {
-    [65_535, 65_536, 65_537].map(|count| two(vec![0, 1, 0], events(count))).to_vec()
+    [65_535, 65_536, 65_537].map(|count| two(vec![0, 1, 0, 0], events(count))).to_vec()
 }
 
 /// Sets and tasks around the end of a table with so many tasks, where the last
@@ -131,7 +143,7 @@ fn named_tasks(tasks: u32) -> Vec<Handover> {
 /// reader is running.
 fn named_links(links: u32) -> Vec<Handover> {
     let numbers: Vec<u32> = (0..links as usize).flat_map(link).collect();
-    let reader = numbers[numbers.len() - 2];
+    let reader = numbers[numbers.len() - LINK_NUMBERS + 1];
     let with = |which: u32| {
         let events = vec![1, 1 << reader, 2, reader, 3, which];
         Handover { defaults: vec![1; MOST_TASKS], links: numbers.clone(), events }

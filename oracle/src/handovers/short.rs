@@ -3,14 +3,16 @@
 use super::Lent;
 use crate::writing::Handover;
 
-/// Every slice of links of up to six numbers from 0 to 3, with none to three
-/// tasks; every slice of events of up to seven numbers from 0 to 4, with two
+/// Every slice of links of up to five numbers from 0 to 3, with none to three
+/// tasks, and of up to eight numbers from 0 to 2, with two tasks and with
+/// three; every slice of events of up to seven numbers from 0 to 4, with two
 /// tasks and the link between them, and of up to five without the link.
 pub fn every_short() -> impl Iterator<Item = Lent> {
-    let links = (0..=3).flat_map(|tasks| slices(4, 6).map(move |links| (tasks, links, Vec::new())));
-    let linked = slices(5, 7).map(|events| (2, vec![0, 1, 0], events));
+    let links = (0..=3).flat_map(|tasks| slices(4, 5).map(move |links| (tasks, links, Vec::new())));
+    let pairs = (2..=3).flat_map(|tasks| slices(3, 8).map(move |links| (tasks, links, Vec::new())));
+    let linked = slices(5, 7).map(|events| (2, vec![0, 1, 0, 0], events));
     let without = slices(5, 5).map(|events| (2, Vec::new(), events));
-    let all = links.chain(linked).chain(without).enumerate();
+    let all = links.chain(pairs).chain(linked).chain(without).enumerate();
     all.map(|(number, (tasks, links, events))| {
         let handover = Handover { defaults: (7..7 + tasks).collect(), links, events };
         // One byte short, exact, and one more.

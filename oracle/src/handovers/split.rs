@@ -1,17 +1,20 @@
 //! The bytes of a recording taken apart into what a station would hand over.
 
-use crate::format::{MOST_EVENTS, MOST_LINKS, MOST_TASKS};
-use crate::writing::{begun_events, Handover};
+use crate::format::{Fault, MOST_EVENTS, MOST_LINKS, MOST_TASKS};
+use crate::writing::{begun_events, Handover, LINK_NUMBERS};
 
 /// The numbers in the bytes, as far as they go. What the bytes end inside of
-/// is left out, and so are bytes after the last event.
+/// is left out, and so are bytes after the last event. The first byte is no
+/// number that is handed over, whatever it is.
 pub fn split(bytes: &[u8]) -> Handover {
     let mut rest = Rest { bytes };
     let mut handover = Handover::default();
+    rest.number(1);
     let tasks = rest.number(1).unwrap_or(0);
     handover.defaults.extend((0..tasks).map_while(|_| rest.number(4)));
     let links = rest.number(1).unwrap_or(0);
-    handover.links.extend((0..3 * links).map_while(|_| rest.number(1)));
+    let fields = [1, 1, 1, 4].into_iter().cycle().take(LINK_NUMBERS * links as usize);
+    handover.links.extend(fields.map_while(|length| rest.number(length)));
     let events = rest.number(2).unwrap_or(0);
     for _ in 0..events {
         let kind = match rest.number(1) {
@@ -49,15 +52,16 @@ impl Rest<'_> {
 }
 
 /// Whether the reader's refusal of a recording is one that the numbers taken
-/// from it earn too. A count above what is there can't be handed over: there
-/// is no count but that of the numbers. Nor can extra bytes, and no list is
-/// lent.
-pub fn arises_in_writing(handover: &Handover, refusal: u8) -> bool {
+/// from it earn too. A wrong first byte can't be handed over, nor can a count
+/// above what is there: there is no count but that of the numbers. Nor can
+/// extra bytes, and no list is lent.
+pub fn arises_in_writing(handover: &Handover, fault: Fault) -> bool {
     let events = || begun_events(&handover.events);
-    match refusal {
-        1 => handover.links.len() % 3 != 0 || events().last().map_or(false, |last| unfinished(last)),
+    match fault.refusal {
+        _ if fault.place == 0 => false,
+        1 => handover.links.len() % LINK_NUMBERS != 0 || events().last().map_or(false, |last| unfinished(last)),
         2 => handover.defaults.is_empty() || handover.defaults.len() > MOST_TASKS,
-        3 => handover.links.len() > 3 * MOST_LINKS,
+        3 => handover.links.len() > LINK_NUMBERS * MOST_LINKS,
         10 => events().len() > MOST_EVENTS,
         17 | 18 => false,
         _ => true,

@@ -12,14 +12,20 @@ use crate::writing::{begun_events, Handover, Written};
 /// numbers end inside of, and after an unknown kind.
 fn stand_in(handover: &Handover) -> Vec<u8> {
     let byte = |number: u32| number.min(255) as u8;
-    let mut bytes = vec![handover.defaults.len().min(255) as u8];
-    for default in &handover.defaults {
-        bytes.extend([0, 8, 16, 24].map(|shift| (default >> shift & 255) as u8));
-    }
+    let mut bytes = vec![253, handover.defaults.len().min(255) as u8];
+    let four = |number: u32| [0, 8, 16, 24].map(|shift| (number >> shift & 255) as u8);
+    bytes.extend(handover.defaults.iter().flat_map(|default| four(*default)));
     let numbers = handover.links.len();
-    bytes.push((numbers / 3 + (numbers % 3 > 0) as usize).min(255) as u8);
-    bytes.extend(handover.links.iter().map(|number| byte(*number)));
-    if numbers % 3 > 0 {
+    bytes.push((numbers / 4 + (numbers % 4 > 0) as usize).min(255) as u8);
+    for (number, &handed) in handover.links.iter().enumerate() {
+        // The fourth number of a link is its start value.
+        if number % 4 == 3 {
+            bytes.extend(four(handed));
+        } else {
+            bytes.push(byte(handed));
+        }
+    }
+    if numbers % 4 > 0 {
         return bytes;
     }
     let (events, records) = stand_in_events(&handover.events, byte);
@@ -91,12 +97,16 @@ pub fn read_back_law_broken(subject: &dyn Subject, handover: &Handover, written:
         return Some("what is written is read with the counts of the events");
     }
     let tasks = handover.defaults.len();
-    let links = handover.links.len() / 3;
+    let links = handover.links.len() / 4;
     let state = &read.state;
     let same_tasks = usize::from(state.tasks) == tasks && state.defaults[..tasks] == handover.defaults[..];
-    let link = |l: usize| [state.writer[l], state.reader[l], state.kind[l]].map(u32::from);
+    let ends = |l: usize| [state.writer[l], state.reader[l], state.kind[l]].map(u32::from);
     let same_links = usize::from(state.links) == links
-        && handover.links.chunks(3).enumerate().all(|(number, handed)| handed == link(number));
+        && handover
+            .links
+            .chunks(4)
+            .enumerate()
+            .all(|(l, handed)| handed[..3] == ends(l) && handed[3] == state.start_value[l]);
     if same_tasks && same_links {
         None
     } else {

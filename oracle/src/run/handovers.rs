@@ -3,6 +3,7 @@
 
 use super::recordings::hex;
 use super::Run;
+use crate::format::Fault;
 use crate::handovers::{arises_in_writing, batch, every_short, limits, split, Lent};
 use crate::laws;
 use crate::prng::Prng;
@@ -65,7 +66,7 @@ impl Run<'_> {
                 self.differ("an accepted recording written again gives the same bytes", || hex(bytes));
             }
             self.take_split_short(&handover, bytes.len());
-        } else if arises_in_writing(&handover, read.refusal) {
+        } else if arises_in_writing(&handover, Fault { refusal: read.refusal, place: read.place }) {
             self.reached.refused_alike += 1;
             if !same {
                 let told = format!("{:?}, the reader {} at {}", answer, read.refusal, read.place);

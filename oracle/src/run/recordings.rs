@@ -2,8 +2,10 @@
 
 use super::Run;
 use crate::corpus::{batch, Case, Corpus, Origin};
+use crate::engine::{Engine, FreshEngine};
 use crate::format::Recording;
 use crate::laws;
+use crate::pointers::Pointers;
 use crate::prng::Prng;
 use crate::subject::{disagreement, zero_time_reading, Answer, Oracle, Subject};
 use crate::tables::LentTable;
@@ -62,7 +64,17 @@ impl Run<'_> {
 
     fn compare_valid(&mut self, recording: &Recording, answer: &Answer) -> Option<String> {
         self.take_table(&LentTable::of(&recording.table));
+        self.note_starts(recording);
         laws::stepwise_law_broken(self.subject, recording, answer)
+    }
+
+    fn note_starts(&mut self, recording: &Recording) {
+        let mut engine = Pointers::fresh(&recording.table);
+        for &event in &recording.events {
+            let before = engine.state;
+            engine.apply(event);
+            self.reached.recordings.starts.note(&before, event, &engine.state);
+        }
     }
 
     fn expose_replay(&mut self, bytes: &[u8], lent: &[u32], answer: &Answer) {

@@ -1,6 +1,6 @@
 //! An engine with a flaw: the right one's parts, put together wrongly.
 
-use super::Flaw;
+use super::{marks, Flaw};
 use crate::engine::{Engine, IDLE, RUNNING};
 use crate::format::Event;
 use crate::pointers as right;
@@ -9,50 +9,64 @@ use crate::state::{State, ABSENT};
 pub struct WrongEngine {
     flaw: Flaw,
     pub state: State,
-    /// Where a reader goes on reading after its pointer was freed too early.
-    held: [u8; 32],
+    /// Where a reader goes on reading after its pointer was freed too early:
+    /// the pointers and marks of this state.
+    held: State,
 }
 
 impl WrongEngine {
     pub fn new(flaw: Flaw, state: State) -> WrongEngine {
-        WrongEngine { flaw, state, held: state.pointer }
+        WrongEngine { flaw, state, held: state }
     }
 
     fn arrival(&mut self, set: u16) {
         let flaw = self.flaw;
+        let before = self.state;
+        let settles = |state: &State, link: usize| marks::settles(flaw, &before, state, link);
         let search = move |state: &State, task: usize| wrong_search(flaw, state, task);
         if flaw == Flaw::ReadersFirst {
-            right::readers_part(&mut self.state, set);
+            right::readers_part(&mut self.state, set, settles);
         }
         right::writers_part(&mut self.state, set, search);
-        match flaw {
-            Flaw::ReadersFirst | Flaw::PointersAtStart => {}
-            Flaw::DelayedAsDirect => all_direct(&mut self.state, set),
-            _ => right::readers_part(&mut self.state, set),
+        marks::after_writers(flaw, &before, &mut self.state, set);
+        if flaw != Flaw::ReadersFirst && flaw != Flaw::PointersAtStart {
+            right::readers_part(&mut self.state, set, settles);
+        }
+        if flaw == Flaw::DelayedAsDirect {
+            all_direct(&mut self.state, set);
         }
         right::now_waiting(&mut self.state, set);
     }
 
     fn start(&mut self, task: usize) {
         self.state.phase[task] = RUNNING;
+        marks::at_start(self.flaw, &mut self.state, task);
         if self.flaw == Flaw::PointersAtStart {
-            right::readers_part(&mut self.state, 1 << task);
+            right::readers_part(&mut self.state, 1 << task, right::settles_on_start);
         }
         if self.flaw == Flaw::FreedAtStart {
-            self.held = self.state.pointer;
+            self.held = self.state;
             right::free_pointers(&mut self.state, task);
         }
     }
 
     fn read(&self, link: usize) -> u32 {
-        let mut seen = self.state;
-        if seen.pointer[link] == ABSENT {
-            seen.pointer[link] = self.held[link].max(1);
+        let mut lent = self.state;
+        if self.flaw == Flaw::DefaultForStart {
+            lent.start_value[link] = lent.defaults[usize::from(lent.writer[link])];
         }
-        right::number_at(&seen, link)
+        if self.flaw == Flaw::StartBySeen {
+            lent.mark[link] = u8::from(right::settles_on_start(&lent, link));
+        }
+        if lent.pointer[link] == ABSENT {
+            lent.pointer[link] = self.held.pointer[link].max(1);
+            lent.mark[link] = self.held.mark[link];
+        }
+        right::number_at(&lent, link)
     }
 
     fn finish(&mut self, task: usize, value: u32) {
+        let before = self.state;
         let state = &mut self.state;
         let position = if self.flaw == Flaw::WrittenToPrevious { state.previous[task] } else { state.newest[task] };
         let cell = state.cell(task, position);
@@ -64,10 +78,12 @@ impl WrongEngine {
                     (0..usize::from(state.links)).filter(|l| usize::from(state.reader[*l]) == task).collect::<Vec<_>>()
                 {
                     state.pointer[number] = ABSENT;
+                    state.mark[number] = 0;
                 }
             }
             _ => right::free_pointers(state, task),
         }
+        marks::at_finish(self.flaw, &before, state, task);
         state.phase[task] = IDLE;
     }
 

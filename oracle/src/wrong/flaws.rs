@@ -20,7 +20,29 @@ pub enum Flaw {
     AheadProtectedToo,
     OnlyRunningBlock,
     SixteenFirst,
+    // In the engine's arrivals, marks and start values.
+    DefaultForStart,
+    StartBySeen,
+    StartAfterSecond,
+    OneArrivalEnough,
+    MarkByReader,
+    MarkBeforeWriters,
+    MarkAtDirect,
+    MarkStays,
+    MarkGoneAtStart,
+    MarkGoneBySecond,
+    MarkKeptAtFinish,
+    MarkGoneAtFinish,
+    SeenAtStart,
+    SeenAtFinish,
+    SeenPastTwo,
     // In the reader of recordings.
+    FirstByteIgnored,
+    FirstByteOptional,
+    FirstByteAtOne,
+    TaskCountAtZero,
+    StartHighByteFirst,
+    TwentyBeforeNine,
     RefusedEffectKept,
     EighteenBeforeFifteen,
     PlaceInsideEvent,
@@ -39,9 +61,14 @@ pub enum Flaw {
     CountsCutToBytes,
     LeastOfAllLinks,
     PastCountsKept,
+    TwentyByLowByte,
     // In the judgement of a saved state, and of a table.
     Unsound(Clause),
     TwelveBeforeNineteen,
+    NoMarkAfterSecond,
+    MarkAtEachPresent,
+    SeenPastCounts,
+    MarkPastCounts,
     // In the writer of recordings: its counts and limits,
     NoTaskWritten,
     SeventeenTasks,
@@ -61,6 +88,7 @@ pub enum Flaw {
     RoomBeforeEvents,
     // the places,
     PlaceWithoutEventCount,
+    PlaceWithoutFirstByte,
     PlaceOfNumber,
     PlaceOfRoom,
     PlaceOfMissing,
@@ -74,11 +102,16 @@ pub enum Flaw {
     SetOfSixteenCut,
     TaskCut,
     LinkCut,
+    StartCut,
+    StartOptional,
     KindZeroAsOne,
     AnyKindDelayed,
     // the rules of links and events,
     Untried(u8),
     // the bytes,
+    FirstByteLeftOut,
+    StartLeftOut,
+    StartBeforeEnds,
     LinkFieldsSwapped,
     FinishFieldsSwapped,
     DefaultHighByteFirst,
@@ -97,8 +130,32 @@ pub enum Flaw {
     OneShortWritten,
 }
 
+/// The errors about arrivals, marks and start values, which both recordings
+/// and saved states must expose.
+const OF_STARTS: [Flaw; 15] = [
+    Flaw::DefaultForStart,
+    Flaw::StartBySeen,
+    Flaw::StartAfterSecond,
+    Flaw::OneArrivalEnough,
+    Flaw::MarkByReader,
+    Flaw::MarkBeforeWriters,
+    Flaw::MarkAtDirect,
+    Flaw::MarkStays,
+    Flaw::MarkGoneAtStart,
+    Flaw::MarkGoneBySecond,
+    Flaw::MarkKeptAtFinish,
+    Flaw::MarkGoneAtFinish,
+    Flaw::SeenAtStart,
+    Flaw::SeenAtFinish,
+    Flaw::SeenPastTwo,
+];
+
 /// The errors the corpus of whole recordings must expose.
-pub const IN_RECORDINGS: [Flaw; 28] = [
+pub fn in_recordings() -> Vec<Flaw> {
+    IN_RECORDINGS.iter().chain(&OF_STARTS).copied().collect()
+}
+
+const IN_RECORDINGS: [Flaw; 34] = [
     Flaw::PointersAtStart,
     Flaw::ReadersFirst,
     Flaw::FreedAtStart,
@@ -127,6 +184,12 @@ pub const IN_RECORDINGS: [Flaw; 28] = [
     Flaw::ListCleared,
     Flaw::EarlyTableKept,
     Flaw::RestFromTheLeft,
+    Flaw::FirstByteIgnored,
+    Flaw::FirstByteOptional,
+    Flaw::FirstByteAtOne,
+    Flaw::TaskCountAtZero,
+    Flaw::StartHighByteFirst,
+    Flaw::TwentyBeforeNine,
 ];
 
 /// The errors the tables must expose.
@@ -138,8 +201,11 @@ pub fn in_tables() -> Vec<Flaw> {
         Flaw::CountsCutToBytes,
         Flaw::LeastOfAllLinks,
         Flaw::PastCountsKept,
+        Flaw::TwentyBeforeNine,
+        Flaw::TwentyByLowByte,
     ];
-    flaws.extend(CLAUSES.iter().filter(|clause| **clause as u8 <= 9).map(|clause| Flaw::Unsound(*clause)));
+    let table_rules = CLAUSES.iter().filter(|clause| clause.table_refusal().is_some());
+    flaws.extend(table_rules.map(|clause| Flaw::Unsound(*clause)));
     flaws
 }
 
@@ -147,7 +213,9 @@ pub fn in_tables() -> Vec<Flaw> {
 pub fn in_saved_states() -> Vec<Flaw> {
     let mut flaws: Vec<Flaw> = IN_RECORDINGS[..11].to_vec();
     flaws.extend([Flaw::AllFreedAtFinish, Flaw::AheadProtectedToo, Flaw::OnlyRunningBlock, Flaw::SixteenFirst]);
-    flaws.push(Flaw::TwelveBeforeNineteen);
+    flaws.extend(OF_STARTS);
+    flaws.extend([Flaw::TwelveBeforeNineteen, Flaw::TwentyByLowByte]);
+    flaws.extend([Flaw::NoMarkAfterSecond, Flaw::MarkAtEachPresent, Flaw::SeenPastCounts, Flaw::MarkPastCounts]);
     flaws.extend(CLAUSES.iter().map(|clause| Flaw::Unsound(*clause)));
     flaws
 }
@@ -161,15 +229,16 @@ pub fn in_handovers() -> Vec<Flaw> {
         UnfinishedLinkNotCounted, UnfinishedLinkDropped, UnfinishedEventNotCounted, UnfinishedEventDropped,
         UnknownEventNotCounted, UnknownEventDropped, CountedPastUnknown,
         EventCountBeforeLinks, RoomFirst, RoomBeforeEvents, RestBeforeKind, LinkFaultsFalling, ThirteenBeforeTwelve,
-        SixteenFirst,
-        PlaceInsideLink, PlaceInsideEvent, PlaceInsideCount, PlaceWithoutEventCount, PlaceOfNumber, PlaceOfRoom,
-        PlaceOfMissing, WrittenIsRoom,
+        SixteenFirst, TwentyBeforeNine, TwentyByLowByte,
+        PlaceInsideLink, PlaceInsideEvent, PlaceInsideCount, PlaceWithoutEventCount, PlaceWithoutFirstByte,
+        PlaceOfNumber, PlaceOfRoom, PlaceOfMissing, WrittenIsRoom,
         WriterCut, ReaderCut, LinkKindCut, EventKindCut, SetCut, SetOfSixteenCut, TaskCut, LinkCut, KindZeroAsOne,
-        AnyKindDelayed,
+        AnyKindDelayed, StartCut, StartOptional,
+        FirstByteLeftOut, StartLeftOut, StartBeforeEnds, StartHighByteFirst,
         LinkFieldsSwapped, FinishFieldsSwapped, DefaultHighByteFirst, ValueHighByteFirst, SetHighByteFirst,
         EventCountHighByteFirst, LinkCountOneLess, EventCountOneLess, KindFromZero,
         BytePastEnd, BufferCleared, ShortBufferFilled, TouchedOnRefusal, ExactRoomRefused, OneShortWritten,
     ];
-    flaws.extend((4..=9).chain(12..=16).map(Untried));
+    flaws.extend((4..=9).chain(12..=16).chain([20]).map(Untried));
     flaws
 }

@@ -1,12 +1,26 @@
 //! A reader of recordings with a flaw: the right answer, bent.
 
-use super::tables::greatest_link_fault;
+use super::tables::link_rule;
 use super::Flaw;
 use crate::engine::{Engine, IDLE, RUNNING};
-use crate::format::{Event, Link, Table, Walker};
+use crate::format::{place_of_link_count, Event, Link, Table, Walker, FIRST_BYTE, LINK_BYTES};
 use crate::pointers as right;
 use crate::state::State;
 use crate::subject::{Answer, Oracle, Subject};
+
+/// The answer of a reader that takes the first byte for another one.
+pub fn with_other_first_byte<'a>(flaw: Flaw, bytes: &'a [u8], lent: &[u32]) -> Option<Answer<'a>> {
+    let (&first, after) = bytes.split_first()?;
+    let taken = match flaw {
+        Flaw::FirstByteIgnored => [&[FIRST_BYTE], after].concat(),
+        Flaw::FirstByteOptional if first != FIRST_BYTE => [&[FIRST_BYTE], bytes].concat(),
+        _ => return None,
+    };
+    let Answer { refusal, place, counts, state, list, .. } = Oracle.replay(&taken, lent);
+    let place = place.saturating_sub(taken.len() - bytes.len());
+    let rest = if refusal == 0 { &[] } else { &bytes[place..] };
+    Some(Answer { refusal, place, counts, state, list, rest })
+}
 
 /// The right answer bent the way a wrong reader would give it.
 pub fn distorted<'a>(flaw: Flaw, bytes: &'a [u8], mut answer: Answer<'a>) -> Answer<'a> {
@@ -17,7 +31,12 @@ pub fn distorted<'a>(flaw: Flaw, bytes: &'a [u8], mut answer: Answer<'a>) -> Ans
         Flaw::RefusedEffectKept if (12..=16).contains(&refusal) => keep_effect(bytes, &mut answer),
         Flaw::EighteenBeforeFifteen if (15..=16).contains(&refusal) => room_first(bytes, &mut answer),
         Flaw::PlaceInsideEvent if refusal != 0 && refusal != 17 && part() == Part::Events => shift_place(&mut answer),
-        Flaw::PlaceInsideLink if (5..=9).contains(&refusal) => shift_place(&mut answer),
+        Flaw::PlaceInsideLink if matches!(refusal, 5..=9 | 20) => shift_place(&mut answer),
+        Flaw::FirstByteAtOne if refusal == 2 && place == 0 => shift_place(&mut answer),
+        Flaw::TaskCountAtZero if place == 1 => {
+            answer.place = 0;
+            answer.rest = bytes;
+        }
         Flaw::PlaceInsideCount if refusal == 10 => shift_place(&mut answer),
         Flaw::PlacePastExtra if refusal == 17 => shift_place(&mut answer),
         Flaw::SeventeenNotGiven if refusal == 17 => {
@@ -26,7 +45,9 @@ pub fn distorted<'a>(flaw: Flaw, bytes: &'a [u8], mut answer: Answer<'a>) -> Ans
             answer.rest = &[];
         }
         Flaw::ArrivalEventsCounted => answer.counts.arrivals = arrival_events(bytes, answer.place),
-        Flaw::LinkFaultsFalling if (4..=9).contains(&refusal) => falling_link_fault(bytes, &mut answer),
+        Flaw::LinkFaultsFalling | Flaw::TwentyBeforeNine if matches!(refusal, 4..=9 | 20) => {
+            judge_link_again(flaw, bytes, &mut answer)
+        }
         Flaw::RestBeforeKind if refusal == 11 && answer.rest.len() < 2 => answer.refusal = 1,
         Flaw::ListCleared => {
             let reads = answer.counts.reads as usize;
@@ -53,7 +74,7 @@ fn part_of(bytes: &[u8], place: usize) -> Part {
     let whole = walker.head().is_ok();
     match whole {
         true if walker.place() <= place => Part::Events,
-        false if walker.place() == place && place >= 6 && event_count_reached(bytes, place) => Part::EventCount,
+        false if walker.place() == place && place >= 7 && event_count_reached(bytes, place) => Part::EventCount,
         _ => Part::Earlier,
     }
 }
@@ -67,11 +88,9 @@ fn event_count_reached(bytes: &[u8], place: usize) -> bool {
 }
 
 fn table_before(bytes: &[u8]) -> Table {
-    let mut place = 0;
-    let tasks = usize::from(bytes[place]);
-    place += 1 + 4 * tasks;
-    let links = usize::from(bytes[place]);
-    let mut whole = bytes[..place + 1 + 3 * links].to_vec();
+    let links_at = place_of_link_count(usize::from(bytes[1]));
+    let links = usize::from(bytes[links_at]);
+    let mut whole = bytes[..links_at + 1 + LINK_BYTES * links].to_vec();
     whole.extend_from_slice(&[0, 0]);
     Walker::new(&whole).head().map(|(table, _)| table).unwrap_or_default()
 }
@@ -128,13 +147,12 @@ fn arrival_events(bytes: &[u8], place: usize) -> u32 {
     arrivals
 }
 
-/// The last rule a link breaks in place of the first.
-fn falling_link_fault(bytes: &[u8], answer: &mut Answer) {
-    let tasks = usize::from(bytes[0]);
-    let first = 2 + 4 * tasks;
-    let links: Vec<Link> =
-        bytes[first..answer.place + 3].chunks(3).map(|record| Link::of([record[0], record[1], record[2]])).collect();
+/// Another of the rules that a link breaks in place of the first.
+fn judge_link_again(flaw: Flaw, bytes: &[u8], answer: &mut Answer) {
+    let tasks = usize::from(bytes[1]);
+    let first = place_of_link_count(tasks) + 1;
+    let links: Vec<Link> = bytes[first..answer.place + LINK_BYTES].chunks(LINK_BYTES).map(Link::of_record).collect();
     if let Some((&last, earlier)) = links.split_last() {
-        answer.refusal = greatest_link_fault(tasks, earlier, last);
+        answer.refusal = link_rule(flaw)(tasks, earlier, last);
     }
 }

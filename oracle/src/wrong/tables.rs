@@ -1,18 +1,18 @@
 //! A judge of tables with a flaw: the right answer, bent.
 
 use super::Flaw;
-use crate::format::{link_faults, link_refusal, Link};
+use crate::format::{link_faults, link_refusal, Link, DIRECT};
 use crate::state::State;
 use crate::subject::{Made, Oracle, Subject};
 use crate::tables::LentTable;
 
 /// The right answer to a table bent the way a wrong judge would give it.
 pub fn distorted_table(flaw: Flaw, table: &LentTable, right: Made) -> Made {
-    let in_links = (4..=9).contains(&right.refusal);
+    let in_links = matches!(right.refusal, 4..=9 | 20);
     match flaw {
-        Flaw::LinkFaultsFalling if in_links => {
-            let last = link_faults(table.tasks, &table.as_it_stands().links, greatest_link_fault).next();
-            Made { refusal: last.unwrap_or(0), ..right }
+        Flaw::LinkFaultsFalling | Flaw::TwentyBeforeNine | Flaw::TwentyByLowByte if in_links => {
+            let other = link_faults(table.tasks, &table.as_it_stands().links, link_rule(flaw)).next();
+            Made { refusal: other.unwrap_or(0), ..right }
         }
         Flaw::LeastOfAllLinks if in_links => {
             let least = link_faults(table.tasks, &table.as_it_stands().links, link_refusal).min();
@@ -25,16 +25,46 @@ pub fn distorted_table(flaw: Flaw, table: &LentTable, right: Made) -> Made {
             Oracle.fresh(&LentTable { tasks: byte(table.tasks), links: byte(table.links), ..table.clone() })
         }
         Flaw::PastCountsKept if right.refusal == 0 => {
-            let state = State { defaults: table.defaults, kind: table.kind, ..right.state };
+            let state =
+                State { defaults: table.defaults, kind: table.kind, start_value: table.start_value, ..right.state };
             Made { refusal: 0, state }
         }
-        Flaw::Unsound(clause) if clause as u8 == right.refusal => Made { refusal: 0, ..right },
+        Flaw::Unsound(clause) if clause.table_refusal() == Some(right.refusal) => Made { refusal: 0, ..right },
         _ => right,
     }
 }
 
+/// The rule by which a wrong judge knows a link at fault after earlier ones.
+pub fn link_rule(flaw: Flaw) -> fn(usize, &[Link], Link) -> u8 {
+    match flaw {
+        Flaw::LinkFaultsFalling => greatest_link_fault,
+        Flaw::TwentyBeforeNine => twenty_before_nine,
+        Flaw::TwentyByLowByte => twenty_by_low_byte,
+        _ => link_refusal,
+    }
+}
+
+fn direct_with_start(link: Link) -> bool {
+    link.kind == DIRECT && link.start_value != 0
+}
+
+fn twenty_before_nine(tasks: usize, earlier: &[Link], link: Link) -> u8 {
+    match link_refusal(tasks, earlier, link) {
+        9 if direct_with_start(link) => 20,
+        refusal => refusal,
+    }
+}
+
+/// A start value whose lowest byte is 0 passes for none.
+fn twenty_by_low_byte(tasks: usize, earlier: &[Link], link: Link) -> u8 {
+    match link_refusal(tasks, earlier, link) {
+        20 if link.start_value as u8 == 0 => 0,
+        refusal => refusal,
+    }
+}
+
 /// The last rule that a link breaks, in place of the first.
-pub fn greatest_link_fault(tasks: usize, earlier: &[Link], link: Link) -> u8 {
+fn greatest_link_fault(tasks: usize, earlier: &[Link], link: Link) -> u8 {
     let same = earlier.iter().filter(|other| other.writer == link.writer);
     let behind = same.clone().filter(|other| other.reader_behind()).count();
     [
@@ -44,6 +74,7 @@ pub fn greatest_link_fault(tasks: usize, earlier: &[Link], link: Link) -> u8 {
         (7, link.kind == 0 && link.reader < link.writer),
         (8, same.clone().any(|other| other.reader == link.reader)),
         (9, link.reader_behind() && behind >= 8),
+        (20, direct_with_start(link)),
         (link_refusal(tasks, earlier, link), true),
     ]
     .iter()

@@ -14,16 +14,16 @@ few-requires-2 c κs = search needs
 move-tasks-requires : tie.Need-move-tasks-requires
 move-tasks-requires c κs = search needs
 
-set-pointers-requires : tie.Need-set-pointers-requires
-set-pointers-requires c κs = search needs
+point-links-requires : tie.Need-point-links-requires
+point-links-requires c κs = search needs
 
 returns : tie.Need-returns
 returns c right n =
     let m = c .before .before in
     rw (← m .before .before .before .few .ensures, ← m .before .before .few2 .ensures)
-    (both _ _ (m .move-tasks .ensures right _ n) (c .set-pointers .ensures _ _ n))
+    (both _ _ (m .move-tasks .ensures right _ n) (c .point-links .ensures _ _ n))
 
 pub arrive-spec : {M : Type 1} → statement M
 arrive-spec =
     tie.close
-    (tie.spec few-requires few-requires-2 move-tasks-requires set-pointers-requires returns)
+    (tie.spec few-requires few-requires-2 move-tasks-requires point-links-requires returns)

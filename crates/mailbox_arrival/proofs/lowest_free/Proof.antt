@@ -1,5 +1,5 @@
 -- `mailbox_arrival::lowest_free` meets its contract: no link holds the lowest position other than the newest, or a position is taken where
--- its mark is set.
+-- its bit is set.
 -- Assumes nothing.
 use mathlib.Core.Path.{sym, ap, ap₂, _∙_}
 use mathlib.Core.Bool.{Bool, true, _||_}
@@ -14,7 +14,7 @@ use Rattle.protocol.specs.Free.{holds}
 use Rattle.mailbox_layout.specs.Layout.{writerIn, readerIn, pointerIn}
 use Rattle.protocol_state.specs.Saved.{at}
 use Rattle.protocol_state.specs.Records.{earlier}
-use Rattle.mailbox_free.proofs.Marked.{has-or, has-mark}
+use Rattle.mailbox_free.proofs.TakenBits.{has-or, has-taken}
 use Rattle.mailbox_arrival.proofs.Other.{other-than}
 use Rattle.mailbox_arrival.proofs.lowest_free.Statement.{statement}
 use Rattle.mailbox_arrival.proofs.lowest_free.Tie as tie
@@ -32,24 +32,24 @@ returns c right =
     c .before .before .pick .ensures
     ∙ other-than taken (a .x) (ap taken (sym (c .before .before .pick .ensures)) ∙ sym (c .before .held .ensures) ∙ not-true _ (c .if1 .taken))
 
-mark-requires : tie.Need-mark-requires
-mark-requires c κs = search needs
+taken-bit-requires : tie.Need-taken-bit-requires
+taken-bit-requires c κs = search needs
 
-held-marks-requires : tie.Need-held-marks-requires
-held-marks-requires c κs = search needs
+held-bits-requires : tie.Need-held-bits-requires
+held-bits-requires c κs = search needs
 
-lowest-unmarked-requires : tie.Need-lowest-unmarked-requires
-lowest-unmarked-requires c κs = search needs
+lowest-outside-requires : tie.Need-lowest-outside-requires
+lowest-outside-requires c κs = search needs
 
 returns-2 : tie.Need-returns-2
 returns-2 c right =
     let x = c .before .before .before .before .before .before .args .x in
-    c .lowest-unmarked .ensures right
+    c .lowest-outside .ensures right
     ∙ first-same _ _ 9 1
     (λ p l h. has-or _ _ p
     ∙ ap₂ _||_
-    (ap (λ (n : ℕ). has n p) (c .before .before .mark .ensures) ∙ has-mark true x p (omega arith))
-    (c .before .held-marks .ensures p (omega arith)))
+    (ap (λ (n : ℕ). has n p) (c .before .before .taken-bit .ensures) ∙ has-taken true x p (omega arith))
+    (c .before .held-bits .ensures p (omega arith)))
 
 pub lowest-free-spec : {M : Type 1} → statement M
-lowest-free-spec = tie.close (tie.spec pick-requires held-requires returns mark-requires held-marks-requires lowest-unmarked-requires returns-2)
+lowest-free-spec = tie.close (tie.spec pick-requires held-requires returns taken-bit-requires held-bits-requires lowest-outside-requires returns-2)

@@ -9,8 +9,8 @@ use Rattle.mailbox_finish.proofs.release.Tie as tie
 few-requires : tie.Need-few-requires
 few-requires c κs = search needs
 
-free-pointers-requires : tie.Need-free-pointers-requires
-free-pointers-requires c κs = search needs
+free-links-requires : tie.Need-free-links-requires
+free-links-requires c κs = search needs
 
 advance-requires : tie.Need-advance-requires
 advance-requires c κs = search needs
@@ -20,7 +20,7 @@ returns c T v =
     let f = c .before .before .before .before in
     let a = f .before .args in
     rw (← f .few .ensures)
-    (release-both (a .t) (stateOf T (f .few .result) (a .control .now) v) (c .before .before .free-pointers .ensures T _ v) (c .advance .ensures T _ v))
+    (release-both (a .t) (stateOf T (f .few .result) (a .control .now) v) (c .before .before .free-links .ensures T _ v) (c .advance .ensures T _ v))
 
 pub release-spec : {M : Type 1} → statement M
-release-spec = tie.close (tie.spec few-requires free-pointers-requires advance-requires returns)
+release-spec = tie.close (tie.spec few-requires free-links-requires advance-requires returns)

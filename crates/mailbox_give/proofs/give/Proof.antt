@@ -12,8 +12,8 @@ is-sound-requires c κs = search needs
 
 returns : tie.Need-returns
 returns c =
-    let a = c .before .before .before .args in (
-      given-unsound (a .tasks) (a .links) (a .control .now) (a .values .now) (plain (a .e)) (c .before .is-sound .ensures (a .values .now)) (c .if1 .taken),
+    let a = c .before .before .before .before .args in (
+      given-unsound (a .tasks) (a .links) (a .control .now) (a .values .now) (plain (a .e)) (c .before .is-sound .ensures) (c .if1 .taken),
       λ z. (refl, refl),
     )
 
@@ -23,8 +23,8 @@ judge-requires c κs = search needs
 returns-2 : tie.Need-returns-2
 returns-2 c =
     let t = c .before .before .before in
-    let a = t .before .before .before .args in (
-      given-refused (a .tasks) (a .links) (a .control .now) (a .values .now) (plain (a .e)) (t .before .is-sound .ensures (a .values .now)) (t .if1 .left)
+    let a = t .before .before .before .before .args in (
+      given-refused (a .tasks) (a .links) (a .control .now) (a .values .now) (plain (a .e)) (t .before .is-sound .ensures) (t .if1 .left)
           (c .before .judge .ensures (a .values .now)) (c .if2 .taken),
       λ z. (refl, refl),
     )
@@ -44,8 +44,8 @@ returns-3 c =
     let x = l .before in
     let j = x .before .before .before in
     let t = j .before .before .before in
-    let a = t .before .before .before .args in (
-      given-done (a .tasks) (a .links) (a .control .now) (a .values .now) (plain (a .e)) (t .before .is-sound .ensures (a .values .now)) (t .if1 .left)
+    let a = t .before .before .before .before .args in (
+      given-done (a .tasks) (a .links) (a .control .now) (a .values .now) (plain (a .e)) (t .before .is-sound .ensures) (t .if1 .left)
           (j .before .judge .ensures (a .values .now)) _ _ (j .if2 .left) (x .value-of .ensures (a .tasks) (a .links)) (c .do-event .ensures (l .lowest-table .ensures)),
       λ z. absurd (z refl),
     )

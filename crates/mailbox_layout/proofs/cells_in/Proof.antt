@@ -1,8 +1,7 @@
 -- `mailbox_layout::cells_in` meets its contract: the cells are the last region, so the part that holds them is that region.
 -- Assumes nothing.
-use mathlib.Core.Path.{refl}
 use borrow.Author.Needs.{needs}
-use Rattle.regions.specs.Regions.{regions}
+use Rattle.mailbox_layout.proofs.Places.{cells-part}
 use Rattle.mailbox_layout.proofs.cells_in.Statement.{statement}
 use Rattle.mailbox_layout.proofs.cells_in.Tie as tie
 
@@ -16,8 +15,7 @@ part-result-end : tie.Need-part-result-end
 part-result-end c = search needs
 
 returns : tie.Need-returns
-unfolding regions
-returns c = refl
+returns c = cells-part _
 
 pub cells-in-spec : {M : Type 1} → statement M
 cells-in-spec = tie.close (tie.spec sub-result part-result-start part-result-end returns)

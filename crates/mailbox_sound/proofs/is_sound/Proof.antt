@@ -12,23 +12,23 @@ judge-table-requires : tie.Need-judge-table-requires
 judge-table-requires c κs = search needs
 
 returns : tie.Need-returns
-returns c v =
+returns c =
     let a = c .before .before .args in
-    unsound (stateOf (a .tasks) (a .links) (a .control .now) v) (c .before .judge-table .ensures) (c .if1 .taken)
+    unsound (stateOf (a .tasks) (a .links) (a .control .now) (a .values .now)) (c .before .judge-table .ensures) (c .if1 .taken)
 
-tasks-ok-requires : tie.Need-tasks-ok-requires
-tasks-ok-requires c κs = room _ _ _ _ _ (sym (c .before .judge-table .ensures) ∙ c .if1 .left) .1
+tasks-stand-requires : tie.Need-tasks-stand-requires
+tasks-stand-requires c κs = room _ _ _ _ _ (sym (c .before .judge-table .ensures) ∙ c .if1 .left) .1
 
-pointers-ok-requires : tie.Need-pointers-ok-requires
-pointers-ok-requires c κs = room _ _ _ _ _ (sym (c .before .before .judge-table .ensures) ∙ c .before .if1 .left) .1
+links-stand-requires : tie.Need-links-stand-requires
+links-stand-requires c κs = room _ _ _ _ _ (sym (c .before .before .judge-table .ensures) ∙ c .before .if1 .left) .1
 
 returns-2 : tie.Need-returns-2
-returns-2 c v =
+returns-2 c =
     let a = c .before .before .before .before .args in
-    sound (stateOf (a .tasks) (a .links) (a .control .now) v) (c .before .before .before .judge-table .ensures) (c .before .before .if1 .left)
-    (c .before .tasks-ok .ensures (a .tasks) v) (c .pointers-ok .ensures (a .tasks) v)
+    sound (stateOf (a .tasks) (a .links) (a .control .now) (a .values .now)) (c .before .before .before .judge-table .ensures) (c .before .before .if1 .left)
+    (c .before .tasks-stand .ensures (a .tasks) (a .values .now)) (c .links-stand .ensures (a .tasks) (a .values .now))
 
 pub is-sound-spec : {M : Type 1} → statement M
 is-sound-spec =
     tie.close
-    (tie.spec judge-table-requires returns tasks-ok-requires pointers-ok-requires returns-2)
+    (tie.spec judge-table-requires returns tasks-stand-requires links-stand-requires returns-2)

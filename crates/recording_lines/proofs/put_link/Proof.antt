@@ -27,6 +27,9 @@ text-requires-2 c κs = search needs
 with-pointer-requires : tie.Need-with-pointer-requires
 with-pointer-requires c κs = search needs
 
+with-mark-requires : tie.Need-with-mark-requires
+with-mark-requires c κs = search needs
+
 put-requires : tie.Need-put-requires
 put-requires c κs = search needs
 
@@ -36,17 +39,19 @@ same-length c = search needs
 returns : tie.Need-returns
 returns c =
     let p = c .before .before in
-    let l₄ = p .before .before in
+    let l₅ = p .before .before in
+    let l₄ = l₅ .before in
     let l₃ = l₄ .before in
     let l₂ = l₃ .before .before in
     let l₁ = l₂ .before in
     let e = l₁ .before .before in
     let a = e .before .before .args in
-    whole _ (e .empty .ensures) (link-fits (a .link) (a .position))
+    whole _ (e .empty .ensures) (link-fits (a .link) (a .position) (a .m))
     (piece _ _ _ (l₁ .text .ensures .1)
     (piece _ _ _ (l₂ .number .ensures .1)
     (piece _ _ _ (l₃ .text2 .ensures .1)
-    (piece _ _ _ (l₄ .with-pointer .ensures) (p .put .ensures)))))
+    (piece _ _ _ (l₄ .with-pointer .ensures)
+    (piece _ _ _ (l₅ .with-mark .ensures) (p .put .ensures))))))
 
 pub put-link-spec : {M : Type 1} → statement M
 put-link-spec =
@@ -59,6 +64,7 @@ put-link-spec =
     slice-aggregate-text-2
     text-requires-2
     with-pointer-requires
+    with-mark-requires
     put-requires
     same-length
     returns)

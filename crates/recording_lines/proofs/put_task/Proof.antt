@@ -48,6 +48,9 @@ text-requires-4 c κs = search needs
 with-cells-requires : tie.Need-with-cells-requires
 with-cells-requires c κs = search needs
 
+with-had-requires : tie.Need-with-had-requires
+with-had-requires c κs = search needs
+
 put-requires : tie.Need-put-requires
 put-requires c κs = search needs
 
@@ -57,7 +60,8 @@ same-length c = search needs
 returns : tie.Need-returns
 returns c =
     let p = c .before .before in
-    let l₉ = p .before .before in
+    let l₀ = p .before .before in
+    let l₉ = l₀ .before in
     let l₈ = l₉ .before in
     let l₇ = l₈ .before .before in
     let l₆ = l₇ .before in
@@ -68,7 +72,7 @@ returns c =
     let l₁ = l₂ .before in
     let e = l₁ .before .before in
     let a = e .before .before .before .args in
-    whole _ (e .empty .ensures) (task-fits (a .task) (a .code) (a .newest) (a .previous) (a .cells .now))
+    whole _ (e .empty .ensures) (task-fits (a .task) (a .code) (a .newest) (a .previous) (a .cells .now) (a .seen))
     (piece _ _ _ (l₁ .text .ensures .1)
     (piece _ _ _ (l₂ .number .ensures .1)
     (piece _ _ _ (l₃ .with-phase .ensures)
@@ -77,7 +81,8 @@ returns c =
     (piece _ _ _ (l₆ .text3 .ensures .1)
     (piece _ _ _ (l₇ .number3 .ensures .1)
     (piece _ _ _ (l₈ .text4 .ensures .1)
-    (piece _ _ _ (l₉ .with-cells .ensures) (p .put .ensures))))))))))
+    (piece _ _ _ (l₉ .with-cells .ensures)
+    (piece _ _ _ (l₀ .with-had .ensures) (p .put .ensures)))))))))))
 
 pub put-task-spec : {M : Type 1} → statement M
 put-task-spec =
@@ -97,6 +102,7 @@ put-task-spec =
     slice-aggregate-text-4
     text-requires-4
     with-cells-requires
+    with-had-requires
     put-requires
     same-length
     returns)

@@ -20,6 +20,9 @@ loop-holds c = search needs
 control-at-requires : tie.Need-control-at-requires Inv-loop μ-loop
 control-at-requires c κs = search needs
 
+control-at-requires-2 : tie.Need-control-at-requires-2 Inv-loop μ-loop
+control-at-requires-2 c κs = search needs
+
 print-link-requires : tie.Need-print-link-requires Inv-loop μ-loop
 print-link-requires c κs = search needs
 
@@ -44,6 +47,7 @@ print-links-spec =
     few-requires
     loop-holds
     control-at-requires
+    control-at-requires-2
     print-link-requires
     add-l
     loop-less

@@ -26,7 +26,7 @@ copy-requires c κs =
     let a = no .before .before .before .args in
     let t = sym (no .before .is-taken .ensures) ∙ not-false _ (no .if1 .left) in
     let r = room-for (a .said) (a .sort) (a .most) (length (a .out .now)) (a .kept) (no .before .before .before .pre) t in
-    let l : length (a .said .numbers) ≡ 3 = search needs in
+    let l : length (a .said .numbers) ≡ 4 = search needs in
     (omega (arith, l, r .0), omega (arith, r .1 .0))
 
 add-t14 : tie.Need-add-t14

@@ -122,16 +122,16 @@ loop-again c =
     let x = said .line-says .result in
     let q = said .line-says .ensures .0 in
     let small = said .line-says .ensures .1 .0 .few in
-    let three = said .line-says .ensures .1 .1 in
+    let four = said .line-says .ensures .1 .1 in
     let z : says line .fault ≡ 0 = sym (ap (λ (y : Says). y .fault) q) ∙ no .if1 .left in (
       done ++ (line ∷ []),
       (
         before-more text (l .inv .1 .0) (piece .piece-end .ensures .0 (piece .before .loop-test .taken)) z,
         (
-          held-more 1 17 done (a .defaults .now) (held .0) line x q small three (c .before .before .before .before .keep .ensures .0) (c .before .before .before .before .keep .ensures .1),
+          held-more 1 17 done (a .defaults .now) (held .0) line x q small four (c .before .before .before .before .keep .ensures .0) (c .before .before .before .before .keep .ensures .1),
           (
-            held-more 2 33 done (a .links .now) (held .1 .0) line x q small three (c .before .before .keep2 .ensures .0) (c .before .before .keep2 .ensures .1),
-            held-more 3 10001 done (a .events .now) (held .1 .1) line x q small three (c .keep3 .ensures .0) (c .keep3 .ensures .1),
+            held-more 2 33 done (a .links .now) (held .1 .0) line x q small four (c .before .before .keep2 .ensures .0) (c .before .before .keep2 .ensures .1),
+            held-more 3 10001 done (a .events .now) (held .1 .1) line x q small four (c .keep3 .ensures .0) (c .keep3 .ensures .1),
           ),
         ),
       ),

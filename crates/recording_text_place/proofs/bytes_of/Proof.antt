@@ -23,9 +23,13 @@ returns-4 c = rw (c .match .keys4)
 
 returns-5 : tie.Need-returns-5
 unfolding bytesOf
-returns-5 c =
+returns-5 c = rw (c .match .keys5)
+
+returns-6 : tie.Need-returns-6
+unfolding bytesOf
+returns-6 c =
     let r = c .match .rest in
-    rw (ne-eqb _ _ (r .0 .0 .0 .1), ne-eqb _ _ (r .0 .0 .1), ne-eqb _ _ (r .0 .1), ne-eqb _ _ (r .1))
+    rw (ne-eqb _ _ (r .0 .0 .0 .0 .1), ne-eqb _ _ (r .0 .0 .0 .1), ne-eqb _ _ (r .0 .0 .1), ne-eqb _ _ (r .0 .1), ne-eqb _ _ (r .1))
 
 pub bytes-of-spec : {M : Type 1} → statement M
-bytes-of-spec = tie.close (tie.spec returns returns-2 returns-3 returns-4 returns-5)
+bytes-of-spec = tie.close (tie.spec returns returns-2 returns-3 returns-4 returns-5 returns-6)

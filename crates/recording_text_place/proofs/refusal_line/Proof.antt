@@ -8,8 +8,8 @@ use borrow.Author.Needs.{needs}
 use Rattle.recording_text_place.proofs.refusal_line.Statement.{statement}
 use Rattle.recording_text_place.proofs.refusal_line.Tie as tie
 
-one-of-requires : tie.Need-one-of-requires
-one-of-requires c κs = search needs
+of-link-requires : tie.Need-of-link-requires
+of-link-requires c κs = search needs
 
 left-requires : tie.Need-left-requires
 left-requires c κs = search needs
@@ -24,10 +24,10 @@ returns : tie.Need-returns
 returns c =
     let one = c .before .before .before .before in
     let a = one .before .before .args in
-    of-link (lines (a .text .now)) (a .refusal) (a .place) (one .one-of .ensures) (c .before .before .before .if1 .taken) (c .before .before .left .ensures) (c .before .behind .ensures) (c .line-after .ensures)
+    of-link (lines (a .text .now)) (a .refusal) (a .place) (one .of-link .ensures) (c .before .before .before .if1 .taken) (c .before .before .left .ensures) (c .before .behind .ensures) (c .line-after .ensures)
 
-one-of-requires-2 : tie.Need-one-of-requires-2
-one-of-requires-2 c κs = search needs
+one-of-requires : tie.Need-one-of-requires
+one-of-requires c κs = search needs
 
 left-requires-2 : tie.Need-left-requires-2
 left-requires-2 c κs = search needs
@@ -50,9 +50,9 @@ returns-2 c =
     (lines (a .text .now))
     (a .refusal)
     (a .place)
-    (one .one-of .ensures)
+    (one .of-link .ensures)
     (two .before .if1 .left)
-    (two .one-of2 .ensures)
+    (two .one-of .ensures)
     (c .before .before .before .before .if2 .taken)
     (c .before .before .before .left2 .ensures)
     (c .before .before .behind2 .ensures)
@@ -94,9 +94,9 @@ returns-6 c =
     (lines (a .text .now))
     (a .refusal)
     (a .place)
-    (one .one-of .ensures)
+    (one .of-link .ensures)
     (two .before .if1 .left)
-    (two .one-of2 .ensures)
+    (two .one-of .ensures)
     (no .if2 .left)
     (r .0 .0 .1)
     (r .0 .1)
@@ -107,12 +107,12 @@ pub refusal-line-spec : {M : Type 1} → statement M
 refusal-line-spec =
     tie.close
     (tie.spec
-    one-of-requires
+    of-link-requires
     left-requires
     behind-requires
     line-after-requires
     returns
-    one-of-requires-2
+    one-of-requires
     left-requires-2
     behind-requires-2
     behind-requires-3

@@ -18,9 +18,9 @@ is-sound-requires c κs = search needs
 
 returns : tie.Need-returns
 returns c =
-    let a = c .before .before .before .before .before .args in
+    let a = c .before .before .before .before .before .before .args in
     let q = stateOf (a .tasks) (a .links) (a .control .now) (a .values .now) in
-    (answered-unsound q (a .kind) (a .which) (a .value) (c .before .is-sound .ensures _) (c .if1 .taken), λ z. (refl, refl))
+    (answered-unsound q (a .kind) (a .which) (a .value) (c .before .is-sound .ensures) (c .if1 .taken), λ z. (refl, refl))
 
 number-of-requires : tie.Need-number-of-requires
 number-of-requires c κs = search needs
@@ -28,11 +28,11 @@ number-of-requires c κs = search needs
 returns-2 : tie.Need-returns-2
 returns-2 c =
     let s = c .before .before in
-    let m = s .before .before in
+    let m = s .before .before .before in
     let k = m .before .ask in
     let a = m .before .before .args in
     let q = stateOf (a .tasks) (a .links) (a .control .now) (a .values .now) in (
-      answered-none q (a .kind) (a .which) (a .value) (k .result) (k .ensures) (s .is-sound .ensures _) (c .before .if1 .left) (m .match .keys2) (c .number-of .ensures),
+      answered-none q (a .kind) (a .which) (a .value) (k .result) (k .ensures) (s .is-sound .ensures) (c .before .if1 .left) (m .match .keys2) (c .number-of .ensures),
       λ z. (refl, refl),
     )
 

@@ -1,4 +1,4 @@
--- `mailbox::State::sound` meets its contract: what the test of the control ensures.
+-- `mailbox::State::sound` meets its contract: what the test of the arrays ensures.
 -- Assumes nothing.
 use borrow.Author.Needs.{needs}
 use Rattle.mailbox.proofs.State.sound.Statement.{statement}
@@ -8,7 +8,7 @@ is-sound-requires : tie.Need-is-sound-requires
 is-sound-requires c κs = search needs
 
 returns : tie.Need-returns
-returns c = c .is-sound .ensures _
+returns c = c .is-sound .ensures
 
 pub sound-spec : {M : Type 1} → statement M
 sound-spec = tie.close (tie.spec is-sound-requires returns)

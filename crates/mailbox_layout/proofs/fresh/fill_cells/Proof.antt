@@ -5,14 +5,14 @@ use Prim.Native.Nat.{_*_, _≤_, _-_}
 use native.Mathlib.Omega.{arith}
 use borrow.Author.Needs.{needs}
 use Rattle.protocol_state.specs.Saved.{base, positions}
-use Rattle.mailbox_layout.specs.Layout.{cutValues, defaultsIn, cellsIn}
+use Rattle.mailbox_layout.specs.Layout.{cutValues, defaultsIn, startValueIn, cellsIn}
 use Rattle.mailbox_layout.proofs.Filling.{firstCells, cells-none, cells-more, cells-end}
 use Rattle.mailbox_layout.proofs.fresh.fill_cells.Statement.{statement}
 use Rattle.mailbox_layout.proofs.fresh.fill_cells.Tie as tie
 
 abbrev Inv-loop : tie.InvT-loop
 Inv-loop values₀ i₀ values i =
-    (i ≤ base .tasks * positions) × (cutValues values ≡ firstCells i (defaultsIn values₀) (cellsIn values₀))
+    (i ≤ base .tasks * positions) × (cutValues values ≡ firstCells i (defaultsIn values₀) (startValueIn values₀) (cellsIn values₀))
 
 abbrev μ-loop : tie.MeasureT-loop
 μ-loop values₀ i₀ values i = base .tasks * positions - i
@@ -34,7 +34,7 @@ loop-less c = omega arith
 
 loop-again : tie.Need-loop-again Inv-loop μ-loop
 loop-again c =
-    (omega arith, cells-more _ _ _ (c .before .before .before .before .before .loop .inv .1) (c .before .before .value-at .ensures) (c .put-value .ensures))
+    (omega arith, cells-more _ _ _ _ (c .before .before .before .before .before .loop .inv .1) (c .before .before .value-at .ensures) (c .put-value .ensures))
 
 returns : tie.Need-returns Inv-loop μ-loop
 returns c = cells-end _ _ (c .before .loop .inv .1) (c .before .loop .inv .0) (c .loop-test .left)

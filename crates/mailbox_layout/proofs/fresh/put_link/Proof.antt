@@ -1,4 +1,4 @@
--- `mailbox_layout::fresh::put_link` meets its contract: three bytes are put.
+-- `mailbox_layout::fresh::put_link` meets its contract: three bytes and a number are put.
 -- Assumes nothing.
 use mathlib.Core.Path.{ap, _∙_}
 use borrow.Author.Needs.{needs}
@@ -16,13 +16,19 @@ put-control-requires-2 c κs = search needs
 put-control-requires-3 : tie.Need-put-control-requires-3
 put-control-requires-3 c κs = search needs
 
+put-value-requires : tie.Need-put-value-requires
+put-value-requires c κs = search needs
+
 returns : tie.Need-returns
 returns c =
     let p = c .before .before in
-    let a = p .before .before .before .before .args in
-    c .put-control3 .ensures
-    ∙ ap (withNumber kindRegion (a .l) (a .k)) (p .put-control2 .ensures ∙ ap (withNumber readerRegion (a .l) (a .r)) (p .before .before .put-control .ensures))
+    let a = p .before .before .before .before .before .before .args in (
+      p .put-control3 .ensures
+          ∙ ap (withNumber kindRegion (a .l) (a .k)) (p .before .before .put-control2 .ensures ∙ ap (withNumber readerRegion (a .l) (a .r)) (p .before .before .before .before .put-control .ensures)),
+      c .put-value .ensures,
+    )
 
 pub put-link-spec : {M : Type 1} → statement M
 put-link-spec =
-    tie.close (tie.spec put-control-requires put-control-requires-2 put-control-requires-3 returns)
+    tie.close
+    (tie.spec put-control-requires put-control-requires-2 put-control-requires-3 put-value-requires returns)

@@ -14,7 +14,7 @@ fault-of-requires : tie.Need-fault-of-requires
 fault-of-requires c κs = search needs
 
 returns : tie.Need-returns
-returns c = rw (c .fault-of .ensures, c .before .readers-behind .ensures .0, c .before .before .has-pair .ensures)
+returns c b = rw (c .fault-of .ensures, c .before .readers-behind .ensures .0, c .before .before .has-pair .ensures)
 
 pub fault-after-spec : {M : Type 1} → statement M
 fault-after-spec =

@@ -1,4 +1,4 @@
--- `mailbox_rules::table::fault_at` meets its contract: what the call ensures of the link's three numbers.
+-- `mailbox_rules::table::fault_at` meets its contract: what the call ensures of the link's four numbers.
 -- Assumes nothing.
 use Prim.Native.Nat.{_≤_}
 use native.Mathlib.Nat.{min-eq-left}
@@ -18,19 +18,24 @@ control-at-requires-2 c κs = search needs
 control-at-requires-3 : tie.Need-control-at-requires-3
 control-at-requires-3 c κs = search needs
 
+value-at-requires : tie.Need-value-at-requires
+value-at-requires c κs = search needs
+
 fault-after-requires : tie.Need-fault-after-requires
 fault-after-requires c κs = search needs
 
 returns : tie.Need-returns
 unfolding fault
 returns c =
-    let l : c .before .before .before .before .args .l ≤ base .links = omega (arith, c .before .before .before .before .pre) in
+    let a = c .before .before .before .before .before in
+    let l : a .args .l ≤ base .links = omega (arith, a .pre) in
     rw (
       min-eq-left l,
-      c .before .before .before .control-at .ensures,
-      c .before .before .control-at2 .ensures,
-      c .before .control-at3 .ensures,
-    ) at (c .fault-after .ensures)
+      c .before .before .before .before .control-at .ensures,
+      c .before .before .before .control-at2 .ensures,
+      c .before .before .control-at3 .ensures,
+      c .before .value-at .ensures,
+    ) at (c .fault-after .ensures (a .args .values .now))
 
 pub fault-at-spec : {M : Type 1} → statement M
 fault-at-spec =
@@ -39,5 +44,6 @@ fault-at-spec =
     control-at-requires
     control-at-requires-2
     control-at-requires-3
+    value-at-requires
     fault-after-requires
     returns)

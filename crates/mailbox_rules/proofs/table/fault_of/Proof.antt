@@ -1,4 +1,4 @@
--- `mailbox_rules::table::fault_of` meets its contract: what the six calls ensure, put together.
+-- `mailbox_rules::table::fault_of` meets its contract: what the seven calls ensure, put together.
 -- Assumes nothing.
 use borrow.Author.Needs.{needs}
 use Rattle.mailbox_rules.proofs.table.fault_of.Statement.{statement}
@@ -22,15 +22,19 @@ pick-requires-5 c κs = search needs
 pick-requires-6 : tie.Need-pick-requires-6
 pick-requires-6 c κs = search needs
 
+pick-requires-7 : tie.Need-pick-requires-7
+pick-requires-7 c κs = search needs
+
 returns : tie.Need-returns
 returns c =
     rw (
-      c .pick6 .ensures,
-      c .before .pick5 .ensures,
-      c .before .before .pick4 .ensures,
-      c .before .before .before .pick3 .ensures,
-      c .before .before .before .before .pick2 .ensures,
-      c .before .before .before .before .before .pick .ensures,
+      c .pick7 .ensures,
+      c .before .pick6 .ensures,
+      c .before .before .pick5 .ensures,
+      c .before .before .before .pick4 .ensures,
+      c .before .before .before .before .pick3 .ensures,
+      c .before .before .before .before .before .pick2 .ensures,
+      c .before .before .before .before .before .before .pick .ensures,
     )
 
 pub fault-of-spec : {M : Type 1} → statement M
@@ -43,4 +47,5 @@ fault-of-spec =
     pick-requires-4
     pick-requires-5
     pick-requires-6
+    pick-requires-7
     returns)

@@ -13,11 +13,11 @@ use Rattle.mailbox_rules.proofs.table.first_fault.Statement.{statement}
 use Rattle.mailbox_rules.proofs.table.first_fault.Tie as tie
 
 abbrev Inv-loop : tie.InvT-loop
-Inv-loop tasks links control found₀ l₀ found l =
-    (l ≤ links) × (found ≡ leading (fault earlier tasks (linkHeld control)) l)
+Inv-loop tasks links control values found₀ l₀ found l =
+    (l ≤ links) × (found ≡ leading (fault earlier tasks (linkHeld control values)) l)
 
 abbrev μ-loop : tie.MeasureT-loop
-μ-loop tasks links control found₀ l₀ found l = links - l
+μ-loop tasks links control values found₀ l₀ found l = links - l
 
 loop-holds : tie.Need-loop-holds Inv-loop μ-loop
 loop-holds c = (omega arith, leading-none _)
@@ -35,7 +35,7 @@ loop-again : tie.Need-loop-again Inv-loop μ-loop
 loop-again c =
     let a = c .before .before .before .args in (
       omega arith,
-      leading-more (fault earlier (a .tasks) (linkHeld (a .control .now))) _ refl
+      leading-more (fault earlier (a .tasks) (linkHeld (a .control .now) (a .values .now))) _ refl
           (c .before .before .loop .inv .1) (c .fault-or .ensures),
     )
 

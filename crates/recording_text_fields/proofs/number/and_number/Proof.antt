@@ -17,13 +17,20 @@ pick-requires-2 c κs = search needs
 pick-requires-3 : tie.Need-pick-requires-3
 pick-requires-3 c κs = search needs
 
+pick-requires-4 : tie.Need-pick-requires-4
+pick-requires-4 c κs = search needs
+
 bit-requires : tie.Need-bit-requires
 bit-requires c κs = search needs
 
 returns : tie.Need-returns
 returns c = λ ns g.
-    gathered-next ns (c .before .before .before .before .before .before .before .before .before .args .n) g (c .before .before .before .before .before .before .pick .ensures) (c .before .before .before .before .pick2 .ensures) (c .before .before .pick3 .ensures) (c .before .bit .ensures)
+    let fourth = c .before .before in
+    let third = fourth .before .before in
+    let second = third .before .before in
+    let first = second .before .before in
+    gathered-next ns (first .before .before .before .args .n) g (first .pick .ensures) (second .pick2 .ensures) (third .pick3 .ensures) (fourth .pick4 .ensures) (c .before .bit .ensures)
 
 pub and-number-spec : {M : Type 1} → statement M
 and-number-spec =
-    tie.close (tie.spec add-t3 pick-requires pick-requires-2 pick-requires-3 bit-requires returns)
+    tie.close (tie.spec add-t3 pick-requires pick-requires-2 pick-requires-3 pick-requires-4 bit-requires returns)

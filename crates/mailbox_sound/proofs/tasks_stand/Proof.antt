@@ -1,0 +1,56 @@
+-- `mailbox_sound::tasks_stand` meets its contract: after t turns `ok` says whether each of the first t tasks is as it may be.
+-- Assumes nothing.
+use mathlib.Core.Path.{_≡_}
+use mathlib.Core.List.{List}
+use Prim.Native.Nat.{ℕ, _≤_, _-_}
+use native.Mathlib.Omega.{arith}
+use borrow.Author.Needs.{needs}
+use Rattle.lists.specs.Lists.{every}
+use Rattle.lists.proofs.Lists.{every-none, every-more, every-end}
+use Rattle.protocol_state.specs.Sound.{taskStands}
+use Rattle.protocol_state.specs.Records.{earlier}
+use Rattle.mailbox_layout.specs.Layout.{stateOf}
+use Rattle.mailbox_sound.proofs.tasks_stand.Statement.{statement}
+use Rattle.mailbox_sound.proofs.tasks_stand.Tie as tie
+
+abbrev Inv-loop : tie.InvT-loop
+Inv-loop tasks links control ok₀ t₀ ok t =
+    (t ≤ tasks) × ((T : ℕ) (v : List ℕ) → ok ≡ every (taskStands earlier (stateOf T links control v)) t)
+
+abbrev μ-loop : tie.MeasureT-loop
+μ-loop tasks links control ok₀ t₀ ok t = tasks - t
+
+loop-holds : tie.Need-loop-holds Inv-loop μ-loop
+loop-holds c = (omega arith, λ T v. every-none _)
+
+task-stands-requires : tie.Need-task-stands-requires Inv-loop μ-loop
+task-stands-requires c κs = search needs
+
+add-t : tie.Need-add-t Inv-loop μ-loop
+add-t c = omega arith
+
+loop-less : tie.Need-loop-less Inv-loop μ-loop
+loop-less c = omega arith
+
+loop-again : tie.Need-loop-again Inv-loop μ-loop
+loop-again c =
+    let a = c .before .before .before .args in (
+      omega arith,
+      λ T v. every-more (taskStands earlier (stateOf T (a .links) (a .control .now) v)) _ (c .task-stands .ensures T v) (c .before .before .loop .inv .1 T v),
+    )
+
+returns : tie.Need-returns Inv-loop μ-loop
+returns c T v = every-end _ _ _ (c .before .loop .inv .1 T v) (c .before .loop .inv .0) (c .loop-test .left)
+
+pub tasks-stand-spec : {M : Type 1} → statement M
+tasks-stand-spec =
+    tie.close
+    (tie.spec
+    Inv-loop
+    μ-loop
+    loop-holds
+    task-stands-requires
+    add-t
+    loop-less
+    loop-again
+    returns)
