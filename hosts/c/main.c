@@ -1,7 +1,8 @@
 /* A host in C. It replays a recording and prints what was read and counted, then gives the same events one by one to a saved state
  * of its own and sees that both end in the same state; then gives some events that are refused; then tries each call at edge sizes;
  * then writes the recording itself, replays what it wrote, and has some writing refused; then reads the start value of a delayed link up
- * to its writer's second arrival; then sees that each named field of a state stands where the library has it.
+ * to its writer's second arrival, and has a state refused after each change that makes it unsound; then sees that each named field of a
+ * state stands where the library has it.
  *
  *     host FILE       the long example of docs/FORMAT.md (recordings/figure-17.rec)
  */
@@ -328,33 +329,30 @@ static struct parnusild_state task_1_waits(void)
     return state;
 }
 
+/* the start of task 1 with one byte of the state changed, which is then put back */
+static void refuse_with(const char *what, struct parnusild_state *state, uint8_t *field, uint8_t byte)
+{
+    const uint8_t kept = *field;
+    *field = byte;
+    refuse(what, state, PARNUSILD_START, 1);
+    *field = kept;
+}
+
 /* what soundness asks of arrivals, marks and start values, each broken by a change of that state; then a change that breaks nothing */
 static void unsound_by_one_change(void)
 {
-    const struct parnusild_state sound = task_1_waits();
-    struct parnusild_state state = sound;
-    state.control.seen[0] = 3;
-    refuse("seen 3", &state, PARNUSILD_START, 1);
-    state = sound;
-    state.control.seen[1] = 0;
-    refuse("waiting without arrivals", &state, PARNUSILD_START, 1);
-    state = sound;
-    state.control.mark[0] = 2;
-    refuse("mark 2", &state, PARNUSILD_START, 1);
-    state = sound;
-    state.control.pointer[0] = 0;
-    refuse("mark at an absent pointer", &state, PARNUSILD_START, 1);
-    state = sound;
-    state.control.mark[1] = 0;
-    refuse("no mark, writer with one arrival", &state, PARNUSILD_START, 1);
-    state = sound;
-    state.control.kind[1] = 0;
-    state.values.start_value[1] = 0;
-    refuse("mark at a direct link", &state, PARNUSILD_START, 1);
-    state.control.mark[1] = 0;
-    state.values.start_value[1] = 80;
-    refuse("start value at a direct link", &state, PARNUSILD_START, 1);
-    state = sound;
+    struct parnusild_state state = task_1_waits(), direct = state;
+    refuse_with("seen 3", &state, &state.control.seen[0], 3);
+    refuse_with("waiting without arrivals", &state, &state.control.seen[1], 0);
+    refuse_with("mark 2", &state, &state.control.mark[0], 2);
+    refuse_with("mark at an absent pointer", &state, &state.control.pointer[0], 0);
+    refuse_with("no mark, writer with one arrival", &state, &state.control.mark[1], 0);
+    direct.control.kind[1] = 0;
+    direct.values.start_value[1] = 0;
+    refuse("mark at a direct link", &direct, PARNUSILD_START, 1);
+    direct.control.mark[1] = 0;
+    direct.values.start_value[1] = 80;
+    refuse("start value at a direct link", &direct, PARNUSILD_START, 1);
     state.control.mark[0] = 0;
     printf("no mark, writer with two arrivals: start %u\n", parnusild_state_start(&state, 1));
 }
@@ -533,7 +531,7 @@ static void delayed_fields_taken(void)
     arrival_with("delayed, reader seen 1", state);
 }
 
-/* what the library takes from each named field; no event looks at a default */
+/* what the library takes from each other named field; no event looks at a default */
 static void fields_taken(void)
 {
     struct parnusild_state state = reader_runs();

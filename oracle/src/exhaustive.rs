@@ -127,8 +127,7 @@ impl Pair {
 
     fn note_task(&self, task: usize, names: &mut Names, key: &mut Vec<u8>) {
         let state = &self.pointers.state;
-        key.extend_from_slice(&[state.phase[task], state.newest[task], state.previous[task]]);
-        key.extend_from_slice(&[state.seen[task], self.zero.arrivals_up_to_two(task)]);
+        key.extend_from_slice(&[state.phase[task], state.newest[task], state.previous[task], state.seen[task]]);
         for position in 1..=state.positions(task) as u8 {
             key.push(names.name(state.cells[state.cell(task, position)]));
         }

@@ -9,7 +9,8 @@
 //! more as properties, `wrong` holds the errors that look right, `corpus`,
 //! `handovers`, `tables`, `saved` and `exhaustive` make the inputs (out of
 //! `random_table`, `schedule`, `nasty` and `example`), `run` compares all the
-//! answers, `reach` says how deep it went, and `command` reads its options.
+//! answers, `reach` says how deep it went, `printouts` has what the programs
+//! print, and `command` reads the options.
 
 #![forbid(unsafe_code)]
 
@@ -23,6 +24,7 @@ pub mod handovers;
 mod laws;
 mod nasty;
 pub mod pointers;
+pub mod printouts;
 pub mod prng;
 mod random_table;
 pub mod reach;

@@ -1,13 +1,13 @@
 //! What the inputs reached, to show that they go deep, and what the default
 //! run has to reach.
 
-mod starts;
+mod start_values;
 
 use crate::engine::RUNNING;
 use crate::format::{MOST_BYTES, MOST_TASKS};
 use crate::state::{State, MOST_POSITIONS};
 use crate::subject::Answer;
-use starts::Starts;
+use start_values::StartValues;
 
 /// So many states a published check went through, of the two-task low-to-high
 /// scheme (paper 000, figure 14). That is another protocol: the number says
@@ -18,7 +18,7 @@ const PUBLISHED_STATES: usize = 99_529;
 pub type Refusals = [usize; 21];
 
 /// Which of them can be given where. Extra bytes (17) can't be handed over.
-const IN_RECORDINGS: [usize; 20] = [0, 1, 2, 3, 4, 5, 6, 7, 8, 9, 10, 11, 12, 13, 14, 15, 16, 17, 18, 20];
+const OF_RECORDINGS: [usize; 20] = [0, 1, 2, 3, 4, 5, 6, 7, 8, 9, 10, 11, 12, 13, 14, 15, 16, 17, 18, 20];
 const OF_ONE_EVENT: [usize; 7] = [0, 12, 13, 14, 15, 16, 19];
 const OF_TABLES: [usize; 10] = [0, 2, 3, 4, 5, 6, 7, 8, 9, 20];
 const OF_WRITING: [usize; 19] = [0, 1, 2, 3, 4, 5, 6, 7, 8, 9, 10, 11, 12, 13, 14, 15, 16, 18, 20];
@@ -26,7 +26,7 @@ const OF_WRITING: [usize; 19] = [0, 1, 2, 3, 4, 5, 6, 7, 8, 9, 10, 11, 12, 13, 1
 #[derive(Default)]
 pub struct Reach {
     pub refusals: Refusals,
-    pub starts: Starts,
+    pub start_values: StartValues,
     most_active: usize,
     most_running: usize,
     highest_position: u8,
@@ -74,7 +74,7 @@ pub struct Reached {
 
 impl Reached {
     pub fn print(&self) {
-        print_refusals("refusals in recordings:", &self.recordings.refusals, &IN_RECORDINGS);
+        print_refusals("refusals in recordings:", &self.recordings.refusals, &OF_RECORDINGS);
         println!("{}, longest {} bytes", self.recordings.depth(), self.recordings.longest);
         print_refusals("refusals of one event: ", &self.events.refusals, &OF_ONE_EVENT);
         println!("{}", self.events.depth());
@@ -82,24 +82,24 @@ impl Reached {
         print_refusals("refusals of writing:   ", &self.writing, &OF_WRITING);
         println!("  recordings written again {}, refused alike {}", self.written_again, self.refused_alike);
         println!("in possible recordings, and of one event:");
-        let both = self.recordings.starts.counts().into_iter().zip(self.events.starts.counts());
+        let both = self.recordings.start_values.counts().into_iter().zip(self.events.start_values.counts());
         both.for_each(|((what, recordings), (_, events))| println!("  {:<60} {:>8} {:>8}", what, recordings, events));
     }
 
     /// What the default run must reach and this one did not.
     pub fn missing(&self) -> Vec<String> {
         let mut missing = Vec::new();
-        never_given(&mut missing, "in recordings", &self.recordings.refusals, IN_RECORDINGS.to_vec());
-        never_given(&mut missing, "of one event", &self.events.refusals, OF_ONE_EVENT.to_vec());
-        never_given(&mut missing, "of tables", &self.tables, OF_TABLES.to_vec());
-        never_given(&mut missing, "of writing", &self.writing, OF_WRITING.to_vec());
+        never_given(&mut missing, "in recordings", &self.recordings.refusals, &OF_RECORDINGS);
+        never_given(&mut missing, "of one event", &self.events.refusals, &OF_ONE_EVENT);
+        never_given(&mut missing, "of tables", &self.tables, &OF_TABLES);
+        never_given(&mut missing, "of writing", &self.writing, &OF_WRITING);
         at_least(&mut missing, "recordings written again", self.written_again, 100_000);
         at_least(&mut missing, "recordings refused alike in writing", self.refused_alike, 100_000);
         for (reach, place) in [(&self.recordings, "recordings"), (&self.events, "saved states")] {
             at_least(&mut missing, &format!("tasks running at once in {}", place), reach.most_running, MOST_TASKS);
             let highest = usize::from(reach.highest_position);
             at_least(&mut missing, &format!("positions of a task in {}", place), highest, MOST_POSITIONS);
-            for (what, count) in reach.starts.counts() {
+            for (what, count) in reach.start_values.counts() {
                 at_least(&mut missing, &format!("{} in {}", what, place), count, 100);
             }
         }
@@ -114,8 +114,8 @@ fn print_refusals(title: &str, refusals: &Refusals, given: &[usize]) {
     println!("{} {}", title, told.join(" "));
 }
 
-pub fn never_given(missing: &mut Vec<String>, place: &str, refusals: &[usize], wanted: Vec<usize>) {
-    let never = wanted.into_iter().filter(|number| refusals[*number] == 0);
+pub fn never_given(missing: &mut Vec<String>, place: &str, refusals: &[usize], wanted: &[usize]) {
+    let never = wanted.iter().filter(|number| refusals[**number] == 0);
     missing.extend(never.map(|number| format!("refusal {} {}", number, place)));
 }
 

@@ -4,6 +4,7 @@ use oracle::engine::{Engine, FreshEngine};
 use oracle::example::long_example;
 use oracle::format::{encode, printout, Counts, Event, Link, Recording, Table, MOST_BYTES};
 use oracle::pointers::Pointers;
+use oracle::printouts::inspected;
 use oracle::state::{sound, State};
 use oracle::subject::{disagreement, zero_time_reading, Answer, Made, Oracle, Subject};
 use oracle::tables::LentTable;
@@ -57,6 +58,32 @@ fn the_long_example_prints_its_nine_lines() {
     assert_eq!(answer.list[..8], [90, 101, 101, 102, 102, 101, 102, 103]);
     assert_eq!(answer.list[8], 7_000_008);
     assert_eq!(printout(&bytes, answer.refusal, answer.place, answer.counts, &answer.list), NINE_LINES);
+    assert_eq!(inspected(&answer), INSPECTED);
+}
+
+/// By hand, from the rules.
+const INSPECTED: &str = "refusal 0
+place 161
+counts 11 11 8 11
+task 0 idle newest 1 previous 2 cells 0 0 had 2
+task 1 idle newest 3 previous 1 cells 102 101 103 100 had 2
+task 2 idle newest 1 previous 2 cells 0 0 had 2
+task 3 idle newest 1 previous 2 cells 0 0 had 2
+link 0 pointer 1
+link 1 pointer absent
+link 2 pointer absent
+rest 0
+";
+
+/// Cut inside the first read, which is of the start value.
+#[test]
+fn a_mark_is_inspected() {
+    let bytes = &encode(&long_example())[..48];
+    let lines = inspected(&read(bytes, 10_000));
+    assert!(
+        lines.starts_with("refusal 1\nplace 47\ncounts 4 1 0 0\ntask 0 running newest 2 previous 1 cells 0 0 had 1\n")
+    );
+    assert!(lines.ends_with("link 0 pointer 1 mark\nlink 1 pointer 2\nlink 2 pointer 2\nrest 1\n"));
 }
 
 #[test]

@@ -8,7 +8,7 @@ use oracle::prng::Prng;
 use oracle::saved::{event_for, from_history, spoiled};
 use oracle::state::State;
 use oracle::subject::{Oracle, Subject};
-use oracle::tables::{self, LentTable};
+use oracle::tables::LentTable;
 use oracle::wrong::{in_recordings, in_saved_states, in_tables, Flaw, Wrong};
 
 /// The flaws that no input exposes.
@@ -17,7 +17,7 @@ fn hidden<T>(flaws: Vec<Flaw>, inputs: &[T], exposes: impl Fn(&Wrong, &T) -> boo
     flaws.into_iter().filter(|flaw| !shown(*flaw)).collect()
 }
 
-/// All but the corpora of which one batch is a whole family.
+/// Corpora that are enough to expose each, without long recordings and whole families.
 fn recordings() -> Vec<Case> {
     let corpora = [
         Corpus::ValidShort,
@@ -46,27 +46,44 @@ fn saved_states() -> Vec<(State, Event)> {
     })
 }
 
+fn tables() -> Vec<LentTable> {
+    let mut prng = Prng::new(1);
+    drawn(4_000, |number| oracle::tables::batch(number, &mut prng))
+}
+
+fn replays_apart(wrong: &Wrong, case: &Case) -> bool {
+    let lent = vec![0xA5; case.room];
+    wrong.replay(&case.bytes, &lent) != Oracle.replay(&case.bytes, &lent)
+}
+
+fn makes_apart(wrong: &Wrong, table: &LentTable) -> bool {
+    wrong.fresh(table) != Oracle.fresh(table)
+}
+
+fn answers_apart(wrong: &Wrong, (state, event): &(State, Event)) -> bool {
+    wrong.one_event(state, *event) != Oracle.one_event(state, *event)
+}
+
 #[test]
 fn the_recordings_expose_each_of_them() {
-    let exposes = |wrong: &Wrong, case: &Case| {
-        let lent = vec![0xA5; case.room];
-        wrong.replay(&case.bytes, &lent) != Oracle.replay(&case.bytes, &lent)
-    };
-    assert_eq!(hidden(in_recordings(), &recordings(), exposes), []);
+    assert_eq!(hidden(in_recordings(), &recordings(), replays_apart), []);
 }
 
 #[test]
 fn the_tables_expose_each_of_them() {
-    let mut prng = Prng::new(1);
-    let tables = drawn(4_000, |number| tables::batch(number, &mut prng));
-    let exposes = |wrong: &Wrong, table: &LentTable| wrong.fresh(table) != Oracle.fresh(table);
-    assert_eq!(hidden(in_tables(), &tables, exposes), []);
+    assert_eq!(hidden(in_tables(), &tables(), makes_apart), []);
 }
 
 #[test]
 fn the_saved_states_expose_each_of_them() {
-    let exposes = |wrong: &Wrong, (state, event): &(State, Event)| {
-        wrong.one_event(state, *event) != Oracle.one_event(state, *event)
-    };
-    assert_eq!(hidden(in_saved_states(), &saved_states(), exposes), []);
+    assert_eq!(hidden(in_saved_states(), &saved_states(), answers_apart), []);
+}
+
+/// A flaw that is a writer's alone leaves all else right.
+#[test]
+fn without_a_flaw_nothing_is_exposed() {
+    let none = vec![Flaw::BytePastEnd];
+    assert_eq!(hidden(none.clone(), &recordings(), replays_apart), none);
+    assert_eq!(hidden(none.clone(), &tables(), makes_apart), none);
+    assert_eq!(hidden(none.clone(), &saved_states(), answers_apart), none);
 }

@@ -125,14 +125,14 @@ module _ {s out list : List ℕ} {a : Answer} (said : Replays s out a list) wher
           (sym (event-refused baseRecording base base-room out t f i ∙ ap (λ (T : Table ℕ). refusedBy T out (past [] es) x) same)) (record-earned (station ds ls) (past [] es) out x)) n
 
   table-fine : {ds : List ℕ} {ls : List Link} {m : ℕ} → TableTo baseRecording s ds ls m → judgedLists base ds ls ≡ 0
-  table-fine {ds} {ls} t = allowed-judged (aheadOf ds) (length ds) baseRecording base base-room ls (t .tasked .kept .few) (t .linked .kept .few) (t .linked .kept .allowed)
+  table-fine {ds} {ls} t = allowed-judged (aheadOf ds) (length ds) baseRecording base base-room ls (t .tasked .whole .kept .few) (t .linked .kept .few) (t .linked .kept .allowed)
 
   -- the table and the first events stand there
   events-begun : {ds : List ℕ} {ls : List Link} {m : ℕ} → TableTo baseRecording s ds ls m → (es : List (Event ℕ)) (E p : ℕ) → E ≤ baseRecording .events → FitEach (events baseRecording) es
       → Stands s m (encodeBegun (events baseRecording) E es) p → EventsBegun s ds ls E es p
   events-begun t es E p few fits b =
       let k = table-begun s t in
-      record { few = few; keeps = k .keeps; fits = (k .fits .0, (k .fits .1, fits)); bytes = stands-join (t .tasked .first) (stands-join (t .tasked .bytes) (stands-join (t .linked .bytes) b)) }
+      record { few = few; keeps = k .keeps; fits = (k .fits .0, (k .fits .1, fits)); bytes = stands-join (t .tasked .first) (stands-join (t .tasked .whole .bytes) (stands-join (t .linked .bytes) b)) }
 
   pub every-answer : Explained s out a list
   every-answer = go (answered said)

@@ -8,7 +8,7 @@ use native.Mathlib.Omega.{arith}
 use lib.ListN.{length}
 use Rattle.protocol.specs.Event.{Event}
 use Rattle.protocol.specs.Table.{Table}
-use Rattle.protocol.specs.History.{reads, past}
+use Rattle.protocol.specs.History.{past}
 use Rattle.protocol_state.specs.Saved.{base}
 use Rattle.byte_format.specs.Number.{bytesOf}
 use Rattle.byte_format.specs.Stands.{Stands}
@@ -43,20 +43,16 @@ use Rattle.demands.proofs.Explained.{kind-known, known-kind}
 
 -- ---- the table and the events es stand at the beginning of the bytes s, and the events could happen
 module _ {s out ds : List ℕ} {ls : List Link} {es : List (Event ℕ)} {E p : ℕ} (b : EventsBegun s ds ls E es p) (alone : Genuine (encodeRecording baseRecording ds ls es) out ds ls es) where
-  -- the place of E
-  abbrev tableEnds : ℕ
-  tableEnds = tableEnd baseRecording ds ls
-
   from-tasks : Stands s taskPlace (encodeSection (tasks baseRecording) ds ++ (encodeSection (links baseRecording) ls ++ (bytesOf (baseRecording .eventCountWidth) E ++ encodes (events baseRecording) es))) p
   from-tasks = stands-left (encodeFirst baseRecording) _ (b .bytes)
 
   from-links : Stands s (tasksEnd baseRecording ds) (encodeSection (links baseRecording) ls ++ (bytesOf (baseRecording .eventCountWidth) E ++ encodes (events baseRecording) es)) p
   from-links = stands-left (encodeSection (tasks baseRecording) ds) _ from-tasks
 
-  from-events : Stands s tableEnds (bytesOf (baseRecording .eventCountWidth) E ++ encodes (events baseRecording) es) p
+  from-events : Stands s (tableEnd baseRecording ds ls) (bytesOf (baseRecording .eventCountWidth) E ++ encodes (events baseRecording) es) p
   from-events = stands-left (encodeSection (links baseRecording) ls) _ from-links
 
-  table-there : TableTo baseRecording s ds ls tableEnds
+  table-there : TableTo baseRecording s ds ls (tableEnd baseRecording ds ls)
   table-there = begun-table s (record {
     few = b .keeps .links;
     keeps = b .keeps;
@@ -73,14 +69,14 @@ module _ {s out ds : List ℕ} {ls : List Link} {es : List (Event ℕ)} {E p : �
 
   -- what the reader finds at the place
   faulty : (r : ℕ) → length es < E → r ≡ refusalOf (eventAt baseRecording s p) (judgedIn (stateAfter (coreOf base out) ds ls es))
-      → Faulty (events baseRecording) (eventLimit baseRecording) judgedIn steppedIn s (coreOf base out .start ds ls) tableEnds es r p
+      → Faulty (events baseRecording) (eventLimit baseRecording) judgedIn steppedIn s (coreOf base out .start ds ls) (tableEnd baseRecording ds ls) es r p
   faulty r more e =
       let few = within-events baseRecording (E) (b .few) in
       record {
         total = E;
         counted = events-fit baseRecording (E) base-counts few;
         few = few;
-        first = tableEnds + length (bytesOf (baseRecording .eventCountWidth) (E));
+        first = (tableEnd baseRecording ds ls) + length (bytesOf (baseRecording .eventCountWidth) (E));
         count = stands-first (bytesOf (baseRecording .eventCountWidth) (E)) _ from-events;
         played = record { fits = b .fits .1 .1; allowed = allowed-there; bytes = stands-left (bytesOf (baseRecording .eventCountWidth) (E)) _ from-events };
         more = more;
@@ -91,18 +87,18 @@ module _ {s out ds : List ℕ} {ls : List Link} {es : List (Event ℕ)} {E p : �
   stops : (r : ℕ) → length es < E → r ≢ 0 → eventAt baseRecording s p ≡ stop r
       → RecordingOutcome baseRecording (coreOf base out) s (verdict r p (stateAfter (coreOf base out) ds ls es))
   stops r more n i =
-      eventRecord ds ls tableEnds es r p n table-there
+      eventRecord ds ls (tableEnd baseRecording ds ls) es r p n table-there
       (faulty r more (sym (ap (λ (y : Got (Event ℕ)). refusalOf y (judgedIn (stateAfter (coreOf base out) ds ls es))) i))) refl
 
   pub found : {r : ℕ} → Ending (station ds ls) s out (E) es p r
       → RecordingOutcome baseRecording (coreOf base out) s (verdict r p (stateAfter (coreOf base out) ds ls es))
   found (recordings.whole e i) =
-      accepted ds ls tableEnds es table-there
-      (record { kept = genuine-kept alone .played; bytes = rw (← i) (subst (λ (n : ℕ). Stands s tableEnds (bytesOf (baseRecording .eventCountWidth) n ++ encodes (events baseRecording) es) p) (sym e) from-events) })
+      accepted ds ls (tableEnd baseRecording ds ls) es table-there
+      (record { kept = genuine-kept alone .played; bytes = rw (← i) (subst (λ (n : ℕ). Stands s (tableEnd baseRecording ds ls) (bytesOf (baseRecording .eventCountWidth) n ++ encodes (events baseRecording) es) p) (sym e) from-events) })
       refl (ap (λ (k : ℕ). verdict 0 k (stateAfter (coreOf base out) ds ls es)) i)
   found (recordings.extra e h) =
-      extraBytes ds ls tableEnds es p table-there
-      (record { kept = genuine-kept alone .played; bytes = subst (λ (n : ℕ). Stands s tableEnds (bytesOf (baseRecording .eventCountWidth) n ++ encodes (events baseRecording) es) p) (sym e) from-events }) h refl
+      extraBytes ds ls (tableEnd baseRecording ds ls) es p table-there
+      (record { kept = genuine-kept alone .played; bytes = subst (λ (n : ℕ). Stands s (tableEnd baseRecording ds ls) (bytesOf (baseRecording .eventCountWidth) n ++ encodes (events baseRecording) es) p) (sym e) from-events }) h refl
   found (noKind more i) = stops 1 more (λ z. omega arith) (kinded.kind-missing (eventKinds baseRecording) byteOf (events-told baseRecording) s p (omega arith))
   found (unknownKind more h u) =
       stops 11 more (λ z. omega arith)
@@ -114,7 +110,7 @@ module _ {s out ds : List ℕ} {ls : List Link} {es : List (Event ℕ)} {E p : �
       let i : eventAt baseRecording s p ≡ got e q = events-lawful baseRecording .reads s p e q f x in
       let j : judgedIn (stateAfter (coreOf base out) ds ls es) e ≡ refusedBy (station ds ls) out (past [] es) e =
       refused-by (went-there .right) e ∙ ap (λ (T : Table ℕ). refusedBy T out (past [] es) e) (went-there .same) in
-      eventRecord ds ls tableEnds es r p n table-there
+      eventRecord ds ls (tableEnd baseRecording ds ls) es r p n table-there
       (faulty r more
       (earns-one g (record-earned (station ds ls) (past [] es) out e) ∙ sym j
       ∙ sym (ap (λ (y : Got (Event ℕ)). refusalOf y (judgedIn (stateAfter (coreOf base out) ds ls es))) i))) refl

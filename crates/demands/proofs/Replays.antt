@@ -6,7 +6,7 @@ use Prim.Native.Nat.{ℕ, _≤_}
 use native.Mathlib.Omega.{arith}
 use borrow.Author.Tests.{eq-eqb}
 use lib.ListN.{length, drop}
-use Rattle.protocol.specs.Event.{Event, start}
+use Rattle.protocol.specs.Event.{Event}
 use Rattle.protocol.specs.Table.{Table}
 use Rattle.protocol.specs.ZeroTime.{ideals}
 use Rattle.protocol_state.specs.Records.{Task, Link, linkOf, writers, readers, kinds, startValues, firstTasks, firstLinks, aheadOf}
@@ -27,7 +27,6 @@ use Rattle.recording_core.specs.Right.{Right}
 use Rattle.recording_core.proofs.Right.{both-zero, right-fresh, right-finally}
 use Rattle.mailbox.proofs.Packed.{packed, stepTo, given-packed, madeTo, made-to}
 use Rattle.mailbox.specs.declared.State.{State}
-use Rattle.mailbox.specs.declared.Made.{Made}
 use Rattle.demands.specs.Station.{station, Keeps}
 use Rattle.demands.specs.Calls.{numbersOf, Calls, fresh, accepted}
 use Rattle.demands.specs.Order.{turned}

@@ -16,7 +16,7 @@ use Rattle.byte_format.specs.Format.{Got, got, stop, encodes, encodeSection}
 use Rattle.byte_format.specs.Play.{verdict, refusalOf, finally}
 use Rattle.byte_format.specs.Section.{countAt, Faulty}
 use Rattle.byte_format.proofs.Numbers.{number-one}
-use Rattle.byte_format.proofs.Counts.{count-missing, count-limited}
+use Rattle.byte_format.proofs.Counts.{count-missing, count-limited, count-above}
 use Rattle.byte_format.proofs.Sized.{sized-reads, sized-ends}
 use Rattle.byte_format.proofs.Standing.{stands-join, stands-first, stands-left}
 use Rattle.recording_format.specs.Task.{tasks, anyTask, andTask}
@@ -30,8 +30,6 @@ use Rattle.recording_format.proofs.LinkRules.{no-fault-allowed, allowed-judged}
 use Rattle.recording_format.proofs.Onward.{any-allowed, in-order}
 use Rattle.recording_core.specs.Playing.{coreOf}
 use Rattle.protocol_state.proofs.Rules.{no-fault}
-use Rattle.protocol_state.specs.Saved.{at}
-use Rattle.protocol_state.specs.Rules.{fault}
 use Rattle.protocol_state.specs.Records.{aheadOf, linkOf}
 use Rattle.byte_format.specs.Play.{Allowed}
 use Rattle.demands.specs.Station.{Keeps}
@@ -53,7 +51,7 @@ module _ (w : ℕ) (limit : ℕ → ℕ) (s : List ℕ) (p : ℕ) where
 
   count-stops : {r : ℕ} → p ≤ length s → CountFault w limit s p r → countAt w limit s p ≡ stop r
   count-stops h (cut l) = count-missing w limit s p refl (omega arith)
-  count-stops h (above l n) = count-limited w limit s p refl (omega arith) ∙ rw (ne-eqb (limit (numberAt w s p)) 0 n)
+  count-stops h (above l n) = count-above w limit s p l refl n
 
   stops-count : {r : ℕ} → p ≤ length s → countAt w limit s p ≡ stop r → CountFault w limit s p r
   stops-count {r} h e = go (leb (p + w) (length s)) refl
@@ -115,15 +113,17 @@ keeps-allowed ds ls k = no-fault-allowed (aheadOf ds) (length ds) ls (λ l h. no
 module _ (s : List ℕ) where
   -- ---- what stands at the beginning
   tasks-begun : {ds : List ℕ} {p : ℕ} → TasksTo baseRecording s ds p → TasksBegun s (length ds) ds p
-  tasks-begun {ds} t = record { few = tasks-within baseRecording (length ds) (t .kept .few); fits = t .kept .fits; bytes = stands-join (t .first) (t .bytes) }
+  tasks-begun {ds} t = record { few = tasks-within baseRecording (length ds) (t .whole .kept .few); fits = t .whole .kept .fits; bytes = stands-join (t .first) (t .whole .bytes) }
 
   begun-tasks : {ds : List ℕ} {p : ℕ} → TasksBegun s (length ds) ds p → TasksTo baseRecording s ds p
   begun-tasks {ds} b =
       let few = within-tasks baseRecording (length ds) (b .few .0) (b .few .1) in
       record {
         first = stands-first (encodeFirst baseRecording) _ (b .bytes);
-        kept = record { counted = tasks-fit baseRecording (length ds) base-counts few; few = few; fits = b .fits; allowed = any-allowed [] ds };
-        bytes = stands-left (encodeFirst baseRecording) _ (b .bytes);
+        whole = record {
+          kept = record { counted = tasks-fit baseRecording (length ds) base-counts few; few = few; fits = b .fits; allowed = any-allowed [] ds };
+          bytes = stands-left (encodeFirst baseRecording) _ (b .bytes);
+        };
       }
 
   -- all tasks of the links that are begun
@@ -143,9 +143,9 @@ module _ (s : List ℕ) where
   pub table-begun : {ds : List ℕ} {ls : List Link} {p : ℕ} → TableTo baseRecording s ds ls p → LinksBegun s ds (length ls) ls p
   table-begun {ds} {ls} t = record {
     few = links-within baseRecording (length ls) (t .linked .kept .few);
-    keeps = allowed-keeps ds ls (t .tasked .kept .few) (links-within baseRecording (length ls) (t .linked .kept .few)) (t .linked .kept .allowed);
-    fits = (t .tasked .kept .fits, t .linked .kept .fits);
-    bytes = stands-join (t .tasked .first) (stands-join (t .tasked .bytes) (t .linked .bytes));
+    keeps = allowed-keeps ds ls (t .tasked .whole .kept .few) (links-within baseRecording (length ls) (t .linked .kept .few)) (t .linked .kept .allowed);
+    fits = (t .tasked .whole .kept .fits, t .linked .kept .fits);
+    bytes = stands-join (t .tasked .first) (stands-join (t .tasked .whole .bytes) (t .linked .bytes));
   }
 
   pub begun-table : {ds : List ℕ} {ls : List Link} {p : ℕ} → LinksBegun s ds (length ls) ls p → TableTo baseRecording s ds ls p
@@ -191,10 +191,10 @@ module _ (s : List ℕ) where
           (omega (arith, leb-false 4 (length s - p) i, f .played .bytes .within)))
 
   pub link-count-fault : {ds : List ℕ} {r p : ℕ} → TasksTo baseRecording s ds p → linkCountAt baseRecording s p ≡ stop r → TableFault s r p
-  link-count-fault {ds} {r} {p} t e = go (stops-count 1 (linkLimit baseRecording) s p (t .bytes .within) e)
+  link-count-fault {ds} {r} {p} t e = go (stops-count 1 (linkLimit baseRecording) s p (t .whole .bytes .within) e)
     where
       go : {r : ℕ} → CountFault 1 (linkLimit baseRecording) s p r → TableFault s r p
-      go (cut h) = cutLinkCount (tasks-begun t) (omega (arith, t .bytes .within))
+      go (cut h) = cutLinkCount (tasks-begun t) (omega (arith, t .whole .bytes .within))
       go (above h n) = let o = over-one (baseRecording .links) 3 (numberAt (baseRecording .linkCountWidth) s p) n in given (sym (o .0)) (badLinkCount (tasks-begun t) (omega arith) (o .1))
 
   -- a link record is cut, or breaks a rule
@@ -208,9 +208,9 @@ module _ (s : List ℕ) where
       begun : LinksBegun s ds (f .total) ls p
       begun = record {
         few = few;
-        keeps = allowed-keeps ds ls (t .kept .few) (omega (arith, few, f .more)) (f .played .allowed);
-        fits = (t .kept .fits, f .played .fits);
-        bytes = stands-join (t .first) (stands-join (t .bytes) (stands-join (f .count) (f .played .bytes)));
+        keeps = allowed-keeps ds ls (t .whole .kept .few) (omega (arith, few, f .more)) (f .played .allowed);
+        fits = (t .whole .kept .fits, f .played .fits);
+        bytes = stands-join (t .first) (stands-join (t .whole .bytes) (stands-join (f .count) (f .played .bytes)));
       }
 
       go : (b : Bool) → leb 7 (length s - p) ≡ b → r ≡ refusalOf (cond b (got (linkAt s p) (p + 7)) (stop 1)) (linkFault (aheadOf ds) (length ds) ls) → TableFault s r p
@@ -249,21 +249,12 @@ module _ (s : List ℕ) where
 
     pub fault-found : {r p : ℕ} → TableFault s r p → Found r p
     fault-found (noFirst z) = firstByte 1 (λ y. omega arith) (count-stops 1 (firstLimit baseRecording) s 0 (omega arith) (cut (omega arith))) refl
-    fault-found (otherFirst h o) = firstByte 2 (λ y. omega arith) (there ∙ ap (λ (k : ℕ). stop k) two) refl
-      where
-        two : firstLimit baseRecording (numberAt 1 s 0) ≡ 2
-        two = rw (ne-eqb (numberAt 1 s 0) (baseRecording .first) (λ z. o (sym (number-one s 0) ∙ z)))
-
-        there : firstAt baseRecording s ≡ stop (firstLimit baseRecording (numberAt 1 s 0))
-        there = count-stops 1 (firstLimit baseRecording) s 0 (omega arith) (above (omega arith) (λ z. omega (arith, two)))
+    fault-found (otherFirst h o) =
+        let two : firstLimit baseRecording (numberAt 1 s 0) ≡ 2 = rw (ne-eqb (numberAt 1 s 0) (baseRecording .first) (λ z. o (sym (number-one s 0) ∙ z))) in
+        firstByte 2 (λ y. omega arith) (count-above 1 (firstLimit baseRecording) s 0 (omega arith) two (λ y. omega arith)) refl
     fault-found (cutTaskCount x z) = taskCount 1 (λ y. omega arith) x (count-stops 1 (taskLimit baseRecording) s taskPlace (x .within) (cut (omega arith))) refl
-    fault-found (badTaskCount x h o) = taskCount 2 (λ y. omega arith) x (there ∙ ap (λ (k : ℕ). stop k) two) refl
-      where
-        two : taskLimit baseRecording (numberAt (baseRecording .taskCountWidth) s taskPlace) ≡ 2
-        two = over-tasks (numberAt (baseRecording .taskCountWidth) s taskPlace) o
-
-        there : taskCountAt baseRecording s taskPlace ≡ stop (taskLimit baseRecording (numberAt (baseRecording .taskCountWidth) s taskPlace))
-        there = count-stops 1 (taskLimit baseRecording) s taskPlace (x .within) (above (omega arith) (λ z. omega (arith, two)))
+    fault-found (badTaskCount x h o) =
+        taskCount 2 (λ y. omega arith) x (count-above 1 (taskLimit baseRecording) s taskPlace (omega arith) (over-tasks (numberAt (baseRecording .taskCountWidth) s taskPlace) o) (λ y. omega arith)) refl
     fault-found (cutTask {T} {p} {ds} b more h) = taskRecord ds 1 p (λ y. omega arith) (stands-first (encodeFirst baseRecording) _ (b .bytes)) (faulty b more h) refl
       where
         faulty : TasksBegun s T ds p → length ds < T → length s < p + baseRecording .valueWidth → Faulty (tasks baseRecording) (taskLimit baseRecording) anyTask andTask s [] taskPlace ds 1 p
@@ -282,13 +273,9 @@ module _ (s : List ℕ) where
             }
     fault-found (cutLinkCount {p} {ds} b z) =
         linkCount ds 1 p (λ y. omega arith) (begun-tasks b) (count-stops 1 (linkLimit baseRecording) s p (b .bytes .within) (cut (omega arith))) refl
-    fault-found (badLinkCount {p} {ds} b h o) = linkCount ds 3 p (λ y. omega arith) (begun-tasks b) (there ∙ ap (λ (k : ℕ). stop k) three) refl
-      where
-        three : linkLimit baseRecording (numberAt (baseRecording .linkCountWidth) s p) ≡ 3
-        three = rw (lt-ltb (baseRecording .links) (numberAt (baseRecording .linkCountWidth) s p) o)
-
-        there : linkCountAt baseRecording s p ≡ stop (linkLimit baseRecording (numberAt (baseRecording .linkCountWidth) s p))
-        there = count-stops 1 (linkLimit baseRecording) s p (b .bytes .within) (above (omega arith) (λ z. omega (arith, three)))
+    fault-found (badLinkCount {p} {ds} b h o) =
+        let three : linkLimit baseRecording (numberAt (baseRecording .linkCountWidth) s p) ≡ 3 = rw (lt-ltb (baseRecording .links) (numberAt (baseRecording .linkCountWidth) s p) o) in
+        linkCount ds 3 p (λ y. omega arith) (begun-tasks b) (count-above 1 (linkLimit baseRecording) s p (omega arith) three (λ y. omega arith)) refl
     fault-found (cutLink {L} {p} {ds} {ls} b more h) =
         linkRecord ds (tasksEnd baseRecording ds) ls 1 p (λ y. omega arith) (links-tasks b)
         (link-faulty b more 1 (sym (ap (λ (y : Got Link). refusalOf y (linkFault (aheadOf ds) (length ds) ls)) (sized-ends 7 (linkAt s p) s p (b .bytes .within) h)))) refl
@@ -298,10 +285,6 @@ module _ (s : List ℕ) where
         (earns-one g (link-earned ds ls (linkAt s p)) ∙ sym (ap (λ (y : Got Link). refusalOf y (linkFault (aheadOf ds) (length ds) ls)) (sized-reads 7 (linkAt s p) s p h)))) refl
     fault-found (cutEventCount {p} {ds} {ls} b h) =
         eventCount ds ls 1 p (λ y. omega arith) (begun-table b) (count-stops 2 (eventLimit baseRecording) s p (b .bytes .within) (cut h)) refl
-    fault-found (badEventCount {p} {ds} {ls} b h o) = eventCount ds ls 10 p (λ y. omega arith) (begun-table b) (there ∙ ap (λ (k : ℕ). stop k) ten) refl
-      where
-        ten : eventLimit baseRecording (numberAt (baseRecording .eventCountWidth) s p) ≡ 10
-        ten = rw (lt-ltb (baseRecording .events) (numberAt (baseRecording .eventCountWidth) s p) o)
-
-        there : eventCountAt baseRecording s p ≡ stop (eventLimit baseRecording (numberAt (baseRecording .eventCountWidth) s p))
-        there = count-stops 2 (eventLimit baseRecording) s p (b .bytes .within) (above h (λ z. omega (arith, ten)))
+    fault-found (badEventCount {p} {ds} {ls} b h o) =
+        let ten : eventLimit baseRecording (numberAt (baseRecording .eventCountWidth) s p) ≡ 10 = rw (lt-ltb (baseRecording .events) (numberAt (baseRecording .eventCountWidth) s p) o) in
+        eventCount ds ls 10 p (λ y. omega arith) (begun-table b) (count-above 2 (eventLimit baseRecording) s p h ten (λ y. omega arith)) refl

@@ -8,7 +8,6 @@ use native.Mathlib.Nat.{min-eq-left}
 use native.Mathlib.Omega.{arith}
 use borrow.Author.Tests.{eq-eqb, ne-eqb}
 use lib.Dec.{eqb}
-use lib.ListN.{length}
 use Rattle.protocol.specs.Event.{Event}
 use Rattle.protocol_state.specs.Records.{firstTasks, firstLinks, linkOf, earlier}
 use Rattle.protocol_state.specs.Saved.{base}
@@ -20,10 +19,10 @@ use Rattle.protocol_state.proofs.Rules.{room}
 use Rattle.protocol_state.proofs.Records.{first-tasks-length, first-links-length}
 use Rattle.protocol_state.proofs.Freshes.{judged-agrees, made-sound}
 use Rattle.protocol_state.proofs.Give.{give-sound}
-use Rattle.mailbox_layout.specs.Layout.{cut, cutValues, linkHeld, stateOf, fieldsOf}
+use Rattle.mailbox_layout.specs.Layout.{cut, cutValues, linkHeld, stateOf}
 use Rattle.mailbox_layout.specs.Fresh.{freshControl, freshValues}
 use Rattle.mailbox_layout.proofs.Whole.{filled-shape}
-use Rattle.mailbox_layout.proofs.Tables.{link-held}
+use Rattle.mailbox_layout.proofs.Tables.{fresh-state, link-held}
 use Rattle.mailbox.specs.States.{saved, madeOf, Gives, passing, StaysSound}
 use Rattle.mailbox.specs.declared.State.{State}
 use Rattle.mailbox.specs.declared.Step.{Step}
@@ -55,15 +54,12 @@ module _ (T L : ℕ) (D W R K B c v : List ℕ) (held : cut c ≡ freshControl (
       rw (z, i, table-judged)
 
   fresh-here : k ≡ 0 → stateOf T L c v ≡ freshOf base (firstTasks T D) (firstLinks L W R K B)
-  unfolding freshOf
   fresh-here e =
       let fits = room _ _ _ base _ (sym table-judged ∙ e) in
       let t : T ≤ base .tasks = rw (first-tasks-length T D) at (fits .0) in
       let l : L ≤ base .links = rw (first-links-length L W R K B) at (fits .1) in
-      ap (λ (b : List (List ℕ)). fieldsOf T L b (cutValues v)) (held-all l)
-      ∙ ap (λ (b : List (List ℕ)). fieldsOf T L (freshControl (firstLinks L W R K B)) b) (valued-all l ∙ ap (λ (n : ℕ). freshValues (firstTasks n D) (firstLinks L W R K B)) (min-eq-left t))
-      ∙ ap (λ (n : ℕ). fieldsOf n L (freshControl (firstLinks L W R K B)) (freshValues (firstTasks T D) (firstLinks L W R K B))) (sym (first-tasks-length T D))
-      ∙ ap (λ (n : ℕ). fieldsOf (length (firstTasks T D)) n (freshControl (firstLinks L W R K B)) (freshValues (firstTasks T D) (firstLinks L W R K B))) (sym (first-links-length L W R K B))
+      fresh-state (firstTasks T D) (firstLinks L W R K B) c v (sym (first-tasks-length T D)) (sym (first-links-length L W R K B)) (held-all l)
+      (valued-all l ∙ ap (λ (n : ℕ). freshValues (firstTasks n D) (firstLinks L W R K B)) (min-eq-left t))
 
   pub made-fresh : (q : State) → q ≡ record { tasks = T; links = L; control = c; values = v } → k ≡ 0 → madeOf (record { refusal = 0; state = q }) ≡ made base (firstTasks T D) (firstLinks L W R K B)
   unfolding made

@@ -7,13 +7,14 @@ use lib.ListN.{length, length-map, length-append, set, replicate, List·getD-app
 use lib.Seq.{getD-append-seam}
 use Rattle.lists.specs.Lists.{upto}
 use Rattle.lists.proofs.Lists.{upto-more}
-use Rattle.protocol_state.specs.Records.{Task, defaultOf, Link, linkOf, linkFrom}
-use Rattle.protocol_state.specs.Saved.{base, at, positions}
-use Rattle.protocol_state.specs.Fresh.{copied}
-use Rattle.protocol_state.proofs.Records.{copied-same, column-whole}
+use Rattle.protocol_state.specs.Records.{Task, defaultOf, Link, linkOf}
+use Rattle.protocol_state.specs.Saved.{Saved, base, at, positions, linkIn}
+use Rattle.protocol_state.specs.Fresh.{copied, column, freshOf}
+use Rattle.protocol_state.proofs.Records.{copied-same}
+use Rattle.protocol_state.proofs.Freshes.{fresh-link}
 use Rattle.regions.specs.Regions.{regions, region}
-use Rattle.mailbox_layout.specs.Layout.{writerRegion, readerRegion, kindRegion, defaultRegion, startValueRegion, cellRegion, valueSize, cut, cutValues, defaultsIn, startValueIn, cellsIn, linkHeld}
-use Rattle.mailbox_layout.specs.Fresh.{column, freshControl, linkPut, startPut, emptyValues, freshValues, withNumber, eachDefault}
+use Rattle.mailbox_layout.specs.Layout.{defaultRegion, cellRegion, valueSize, cut, cutValues, defaultsIn, cellsIn, linkHeld, fieldsOf, stateOf}
+use Rattle.mailbox_layout.specs.Fresh.{freshControl, linkPut, startPut, emptyValues, freshValues, withNumber, eachDefault}
 
 -- a list copied to its room, and one number more behind it
 copied-more : (size : ℕ) (xs : List ℕ) (v : ℕ) → set (copied size (length xs) xs) (length xs) v ≡ copied size (length xs + 1) (xs ++ (v ∷ []))
@@ -66,15 +67,13 @@ start-put ts ls k {l} e n p =
     p ∙ ap (λ (b : List (List ℕ)). startPut b l k) e ∙ ap (λ (i : ℕ). startPut (freshValues ts ls) i k) n
     ∙ rw (field-more (base .links) (λ (k : Link). k .startValue) ls k)
 
--- and link l is the one that was put
+-- so many tasks and links with these arrays are the fresh state
+pub fresh-state : (ts : List Task) (ls : List Link) (c v : List ℕ) {T L : ℕ} → T ≡ length ts → L ≡ length ls → cut c ≡ freshControl ls → cutValues v ≡ freshValues ts ls →
+    stateOf T L c v ≡ freshOf base ts ls
+unfolding freshOf
+fresh-state ts ls c v t l e f = λ i. fieldsOf (t i) (l i) (e i) (f i)
+
+-- whose link l is the one that was put
 pub link-held : (ts : List Task) (ls : List Link) (c v : List ℕ) → cut c ≡ freshControl ls → cutValues v ≡ freshValues ts ls → length ls ≤ base .links → (l : ℕ)
     → linkHeld c v l ≡ linkOf ls l
-link-held ts ls c v e f h l =
-    ap (λ (b : List (List ℕ)). linkFrom (region b writerRegion) (region b readerRegion) (region b kindRegion) (startValueIn v) l) e
-    ∙ ap (λ (b : List (List ℕ)). linkFrom (column (base .links) (λ (k : Link). k .writer) ls) (column (base .links) (λ (k : Link). k .reader) ls) (column (base .links) (λ (k : Link). k .kind) ls) (region b startValueRegion) l) f
-    ∙ (λ i. record {
-      writer = column-whole (base .links) (λ (k : Link). k .writer) refl ls h l i;
-      reader = column-whole (base .links) (λ (k : Link). k .reader) refl ls h l i;
-      kind = column-whole (base .links) (λ (k : Link). k .kind) refl ls h l i;
-      startValue = column-whole (base .links) (λ (k : Link). k .startValue) refl ls h l i;
-    })
+link-held ts ls c v e f h l = ap (λ (q : Saved). linkIn q l) (fresh-state ts ls c v refl refl e f) ∙ fresh-link base ts ls h l

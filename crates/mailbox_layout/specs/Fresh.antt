@@ -1,18 +1,14 @@
 -- The regions of a fresh state, as they are put.
 -- Assumes nothing.
-use mathlib.Core.List.{List, [], _∷_, map}
+use mathlib.Core.List.{List, [], _∷_}
 use Prim.Native.Nat.{ℕ, _*_, _/_}
-use lib.ListN.{length, set, replicate}
+use lib.ListN.{set, replicate}
 use Rattle.lists.specs.Lists.{upto}
 use Rattle.protocol_state.specs.Records.{Task, defaultOf, Link}
 use Rattle.protocol_state.specs.Saved.{base, at, positions}
-use Rattle.protocol_state.specs.Fresh.{copied, filled}
+use Rattle.protocol_state.specs.Fresh.{column, filled}
 use Rattle.regions.specs.Regions.{region}
 use Rattle.mailbox_layout.specs.Layout.{writerRegion, readerRegion, kindRegion, startValueRegion}
-
--- one field of the records xs in a region of this size: 0 past them
-abbrev pub column : {A : Type 0} → ℕ → (A → ℕ) → List A → List ℕ
-column size f xs = copied size (length xs) (map f xs)
 
 -- the control of a fresh state with the links ls, region by region: every task idle, newest and previous at 1, no arrivals; every pointer absent, no marks
 abbrev pub freshControl : List Link → List (List ℕ)

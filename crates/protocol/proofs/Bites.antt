@@ -64,7 +64,7 @@ module _ {Val : Type 0} where
   unfoldable again : Val → Val → List (Event Val)
   again x y = start 1 ∷ finish 0 x ∷ start 0 ∷ arrival 3 ∷ finish 1 y ∷ read 0 ∷ alone
 
-  -- both arrive twice, the first gives x, then y, and the second is ready to read for the second time
+  -- both arrive twice, the first gives x, then y, and the second is ready to read, in its second run
   unfoldable twice : Val → Val → List (Event Val)
   twice x y = start 1 ∷ finish 0 y ∷ start 0 ∷ arrival 3 ∷ finish 1 y ∷ start 1 ∷ finish 0 x ∷ start 0 ∷ arrival 3 ∷ []
 

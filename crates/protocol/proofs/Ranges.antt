@@ -43,7 +43,7 @@ module _ {Val : Type 0} (T : Table Val) where
   links-of : {h : List (Event Val)} {s : Boxes Val} → Ranged T h s → (l : ℕ) → l < T .links → Pointed l (active h (T .reader l)) (s .pointer l)
   links-of R l k = (R .pointer l k, R .present l k, R .absent l k)
 
-  -- and nothing else of links
+  -- and what it says of a link besides is its mark
   ranged-of : {h : List (Event Val)} {s : Boxes Val} → ((t : ℕ) → Position T t (s .newest t)) → ((t : ℕ) → Position T t (s .previous t))
       → ((l : ℕ) → l < T .links → Pointed l (active h (T .reader l)) (s .pointer l)) → ((t : ℕ) → s .seen t ≡ min 2 (arrivals h t))
       → ((l : ℕ) → l < T .links → s .mark l ≡ (leb 1 (s .pointer l) && marks T l (had T h l))) → Ranged T h s

@@ -25,13 +25,18 @@ long =
     ∷ start 3 ∷ finish 2 0 ∷ read 1 ∷ start 2 ∷ finish 1 101 ∷ start 1 ∷ finish 0 0 ∷ read 0 ∷ start 0 ∷ arrival 15 ∷ []
 
 -- the eight numbers, the last one first: the first read gives the start value, the others are as without it
-abbrev eight : List ℕ
+abbrev pub eight : List ℕ
 eight = 103 ∷ 102 ∷ 101 ∷ 102 ∷ 102 ∷ 101 ∷ 101 ∷ 90 ∷ []
 
--- every event is accepted, and the protocol reads the eight numbers
+-- the protocol reads the eight numbers
 pub long-numbers : numbersRead (lowestAnswers urgent 0) four long ≡ eight
 unfolding four long numbersRead lowestAnswers boxesOf judged some count first arrivals starts finishes has
 long-numbers = refl
+
+-- and every event could happen
+pub long-possible : AllPossible four (urgent four) long
+unfolding allJudged four long judged some arrivals starts finishes has
+long-possible = all-judged four long refl
 
 -- ---- marks: task 0 writes; tasks 1 and 2, less urgent, read it, directly and delayed
 unfoldable pub fan : Table ℕ
@@ -62,15 +67,16 @@ pub fan-marks :
 unfolding fan boxesOf count first some has
 fan-marks = (refl, refl, refl, refl)
 
--- the mark stays while its reader is active, whatever arrives and starts, and goes with the pointer
+-- the mark of the reader that waited stays through both runs of the writer and its own start, and goes with the pointer
 pub fan-dropped : (markedAt held ≡ false ∷ true ∷ []) × (markedAt (finish 2 0 ∷ held) ≡ false ∷ false ∷ [])
 unfolding fan boxesOf count first some has
 fan-dropped = (refl, refl)
 
 -- all of it could happen
 pub fan-possible :
-    AllPossible fan (urgent fan) (arrival 7 ∷ turn [])
+    AllPossible fan (urgent fan) (arrival 7 ∷ [])
+    × AllPossible fan (urgent fan) (arrival 7 ∷ turn [])
     × AllPossible fan (urgent fan) (arrival 6 ∷ turn (turn []))
     × AllPossible fan (urgent fan) (finish 2 0 ∷ held)
 unfolding allJudged fan judged some arrivals starts finishes has
-fan-possible = (all-judged fan _ refl, all-judged fan _ refl, all-judged fan _ refl)
+fan-possible = (all-judged fan _ refl, all-judged fan _ refl, all-judged fan _ refl, all-judged fan _ refl)

@@ -43,13 +43,13 @@ module _ {Val : Type 0} where
   onward e (more f g) = more f (onward e g)
 
   -- a history's arrivals are those of its sets
-  arrivals-seen : (h : List (Event Val)) (t : ℕ) → arrivals h t ≡ arrivalsIn (sets h) t
+  arrivals-in-sets : (h : List (Event Val)) (t : ℕ) → arrivals h t ≡ arrivalsIn (sets h) t
   unfolding arrivals sets arrivalsIn
-  arrivals-seen [] t = refl
-  arrivals-seen (arrival m ∷ h) t = ap (tick (has m t)) (arrivals-seen h t)
-  arrivals-seen (start u ∷ h) t = arrivals-seen h t
-  arrivals-seen (read l ∷ h) t = arrivals-seen h t
-  arrivals-seen (finish u v ∷ h) t = arrivals-seen h t
+  arrivals-in-sets [] t = refl
+  arrivals-in-sets (arrival m ∷ h) t = ap (tick (has m t)) (arrivals-in-sets h t)
+  arrivals-in-sets (start u ∷ h) t = arrivals-in-sets h t
+  arrivals-in-sets (read l ∷ h) t = arrivals-in-sets h t
+  arrivals-in-sets (finish u v ∷ h) t = arrivals-in-sets h t
 
   -- no event lowers a task's arrivals
   arrivals-one : (t : ℕ) (e : Event Val) (h : List (Event Val)) → arrivals h t ≤ arrivals (e ∷ h) t
@@ -104,7 +104,7 @@ module _ {Val : Type 0} (T : Table Val) where
     find-one : (e : Event Val) (h : List (Event Val)) (l j : ℕ) → j ≤ arrivals h (T .reader l)
         → find l j (closed T out order (sets (e ∷ h))) ≡ find l j (closed T out order (sets h))
     unfolding sets
-    find-one (arrival m) h l j q = find-old T out order m (sets h) l j (omega (arith, arrivals-seen h (T .reader l)))
+    find-one (arrival m) h l j q = find-old T out order m (sets h) l j (omega (arith, arrivals-in-sets h (T .reader l)))
     find-one (start u) h l j q = refl
     find-one (read k) h l j q = refl
     find-one (finish u v) h l j q = refl
@@ -127,11 +127,11 @@ module _ {Val : Type 0} (T : Table Val) where
       where
         go : (b : Bool) → has m (T .reader l) ≡ b → (0 < arrivals h (T .reader l) → Last h l) → Last (arrival m ∷ h) l
         go true e i =
-            rw (upTo-in h m (T .reader l) e, arrivals-seen (arrival m ∷ h) (T .reader l), arrivals-seen (arrival m ∷ h) (T .writer l))
+            rw (upTo-in h m (T .reader l) e, arrivals-in-sets (arrival m ∷ h) (T .reader l), arrivals-in-sets (arrival m ∷ h) (T .writer l))
             (find-new T out order m (sets h) l q e (O .all (T .reader l) (K .0 (T .reader l) e)))
         go false e i =
             rw (upTo-out h m (T .reader l) e, arrivals-out h m (T .reader l) e)
-            (find-old T out order m (sets h) l (arrivals h (T .reader l)) (omega (arith, arrivals-seen h (T .reader l))) ∙ i (omega (arith, arrivals-out h m (T .reader l) e)))
+            (find-old T out order m (sets h) l (arrivals h (T .reader l)) (omega (arith, arrivals-in-sets h (T .reader l))) ∙ i (omega (arith, arrivals-out h m (T .reader l) e)))
     last-read O (start u ∷ h) l K q a = last-read O h l K q a
     last-read O (read k ∷ h) l K q a = last-read O h l K q a
     last-read O (finish u v ∷ h) l K q a = last-read O h l K q a

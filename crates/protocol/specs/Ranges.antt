@@ -1,4 +1,4 @@
--- Positions, pointers, counts and marks, by the history: what demand 2 says of mailboxes.
+-- Positions, pointers, arrivals seen and marks, by the history: what demand 2 says of mailboxes.
 -- Assumes nothing.
 use mathlib.Core.Path.{_≡_}
 use mathlib.Core.Bool.{true, false, _&&_}

@@ -9,6 +9,7 @@ use Rattle.protocol.specs.Event.{Event, arrival, start, read, finish, has}
 use Rattle.protocol.specs.History.{arrivals, starts, finishes, reads, upTo, output, counts}
 use Rattle.protocol.specs.ZeroTime.{dues, ideals}
 use Rattle.protocol.specs.Instant.{ask, readLinks, runWhole, work, come, carried, upward, sets, zeroRun, find, looked, theres}
+use Rattle.protocol.proofs.StartExample.{eight}
 use Rattle.protocol_state.specs.Records.{Link, earlier}
 use Rattle.protocol_state.specs.Saved.{Saved, base, at, table}
 use Rattle.protocol_state.specs.Rules.{fault, judgedTable}
@@ -53,10 +54,6 @@ all = replay earlier base three last-part
 
 abbrev newest-of-1 : Progress → ℕ
 newest-of-1 o = at (o .state .newest) 1
-
--- the eight numbers, the last one first: the first read gives the start value
-abbrev eight : List ℕ
-eight = 103 ∷ 102 ∷ 101 ∷ 102 ∷ 102 ∷ 101 ∷ 101 ∷ 90 ∷ []
 
 -- newest of task 1 goes 2, 1, 3; the machine reads the eight numbers, the closed form says them, the run carried out has them; counts 11, 11, 8, 11
 pub long-example :

@@ -2,7 +2,7 @@
 -- Assumes nothing.
 use mathlib.Core.Path.{_≡_, refl, sym, ap, _∙_}
 use mathlib.Core.Bool.{Bool, true, false, cond}
-use mathlib.Core.List.{List, [], _∷_, map}
+use mathlib.Core.List.{List, [], _∷_}
 use Prim.Native.Nat.{ℕ, _*_, _/_, _≤_, _<_}
 use native.Mathlib.Omega.{arith}
 use native.Mathlib.Decide.{decLe}
@@ -12,14 +12,14 @@ use lib.ListN.{length, replicate, length-replicate, List·getD-eq-default}
 use Rattle.lists.proofs.Lists.{upto-at, length-upto}
 use Rattle.protocol.specs.History.{arrivals, starts, finishes}
 use Rattle.protocol.specs.Published.{Fresh}
-use Rattle.protocol_state.specs.Records.{Task, defaultOf, Link, linkOf, writers, readers, kinds, startValues, aheadOf}
+use Rattle.protocol_state.specs.Records.{Task, defaultOf, Link, linkOf, aheadOf}
 use Rattle.protocol_state.specs.Saved.{Size, Shape, at, cellOf, positions, oneTo, linkIn, aheadIn, table, boxes}
 use Rattle.protocol_state.specs.Rules.{fault, judgedTable}
 use Rattle.protocol_state.specs.Sound.{isSound, Sound}
-use Rattle.protocol_state.specs.Fresh.{copied, filled, freshOf, single, Made, judgedLists, made}
+use Rattle.protocol_state.specs.Fresh.{column, filled, freshOf, single, Made, judgedLists, made}
 use Rattle.protocol_state.specs.Reached.{idle, Agrees}
 use Rattle.protocol_state.proofs.Places.{replicated, repeated, zeros, between, leading-same}
-use Rattle.protocol_state.proofs.Records.{copied-length, column-whole}
+use Rattle.protocol_state.proofs.Records.{column-length, column-whole}
 use Rattle.protocol_state.proofs.Rules as rules
 use Rattle.protocol_state.proofs.Sound.{says-sound}
 
@@ -59,22 +59,22 @@ filled-at size D e t p h = go (decLe size t) where
 
 module _ (size : Size) (ts : List Task) (ls : List Link) where
   abbrev ds : List ℕ
-  ds = copied (size .tasks) (length ts) (map defaultOf ts)
+  ds = column (size .tasks) defaultOf ts
 
   -- the fresh state has its shape
   pub fresh-shape : Shape size (freshOf size ts ls)
   unfolding freshOf
   fresh-shape = record {
-    defaults = copied-length (size .tasks) (length ts) (map defaultOf ts);
+    defaults = column-length (size .tasks) defaultOf ts;
     phase = length-replicate {A = ℕ} (size .tasks) 0;
     newest = length-replicate {A = ℕ} (size .tasks) _;
     previous = length-replicate {A = ℕ} (size .tasks) _;
     seen = length-replicate {A = ℕ} (size .tasks) 0;
     cells = filled-length (size .tasks) ds;
-    writer = copied-length (size .links) (length ls) (writers ls);
-    reader = copied-length (size .links) (length ls) (readers ls);
-    kind = copied-length (size .links) (length ls) (kinds ls);
-    startValue = copied-length (size .links) (length ls) (startValues ls);
+    writer = column-length (size .links) (λ (x : Link). x .writer) ls;
+    reader = column-length (size .links) (λ (x : Link). x .reader) ls;
+    kind = column-length (size .links) (λ (x : Link). x .kind) ls;
+    startValue = column-length (size .links) (λ (x : Link). x .startValue) ls;
     pointer = length-replicate {A = ℕ} (size .links) 0;
     mark = length-replicate {A = ℕ} (size .links) 0;
   }
@@ -97,7 +97,7 @@ module _ (size : Size) (ts : List Task) (ls : List Link) where
   }
     where
       cell : (t p : ℕ) (b : Bool) → oneTo positions p ≡ b → cond b (at (filled (size .tasks) ds) (cellOf t p)) (at ds t) ≡ at ds t
-      cell t p true e = filled-at (size .tasks) ds (copied-length (size .tasks) (length ts) (map defaultOf ts)) t p (between 10 p e)
+      cell t p true e = filled-at (size .tasks) ds (column-length (size .tasks) defaultOf ts) t p (between 10 p e)
       cell t p false e = refl
 
   -- its links are those of the table
@@ -124,7 +124,7 @@ module _ (size : Size) (ts : List Task) (ls : List Link) where
       newest = λ t l. omega (arith, replicated (size .tasks) 1 t (omega (arith, fits .0)));
       previous = λ t l. omega (arith, replicated (size .tasks) 1 t (omega (arith, fits .0)));
       pointer = λ l h. omega (arith, zeros (size .links) l);
-      present = λ l h n. absurd (n (zeros (size .tasks) (at (copied (size .links) (length ls) (readers ls)) l)));
+      present = λ l h n. absurd (n (zeros (size .tasks) (at (column (size .links) (λ (x : Link). x .reader) ls) l)));
       absent = λ l h a z. zeros (size .links) l;
       seen = λ t l. omega (arith, zeros (size .tasks) t);
       unseen = λ t l z. zeros (size .tasks) t;

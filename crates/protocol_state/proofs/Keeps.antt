@@ -103,7 +103,7 @@ module _ {ahead : ℕ → ℕ → Bool} {size : Size} (q : Saved) (G : Sound ahe
       stays : (l : ℕ) → l < q .links → has s (at (q .reader) l) ≡ false → at (pointerAfter ahead s q) l ≡ at (q .pointer) l
       stays l h e = pointer-at ahead q S s (room .1) l ∙ rw (lt-ltb l (q .links) h, e)
 
-      -- no, one or more arrivals are seen; who has had none did not arrive; and where fewer than two are seen, fewer were
+      -- no, one or more arrivals are seen; who has had none is idle; and where fewer than two are seen, fewer were
       seen-good : (t : ℕ) → t < q .tasks → (at (seenAfter s q) t < 3) × (at (seenAfter s q) t ≡ 0 → at (phaseAfter s q) t ≡ 0) × (at (seenAfter s q) t < 2 → at (q .seen) t < 2)
       seen-good t l = go (has s t) refl where
         go : (b : Bool) → has s t ≡ b → (at (seenAfter s q) t < 3) × (at (seenAfter s q) t ≡ 0 → at (phaseAfter s q) t ≡ 0) × (at (seenAfter s q) t < 2 → at (q .seen) t < 2)

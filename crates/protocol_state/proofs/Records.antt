@@ -12,7 +12,7 @@ use Rattle.lists.proofs.Lists.{upto-at, upto-past, length-upto}
 use Rattle.protocol.specs.Instant.{upward}
 use Rattle.protocol_state.specs.Records.{Task, defaultOf, Link, noLink, linkOf, firstTasks, linkFrom, firstLinks}
 use Rattle.protocol_state.specs.Saved.{at}
-use Rattle.protocol_state.specs.Fresh.{copied}
+use Rattle.protocol_state.specs.Fresh.{copied, column}
 use Rattle.protocol_state.proofs.Places.{zeros}
 
 -- the numbers of a list that was made from the numbers k, k + 1, ..
@@ -85,9 +85,9 @@ copied-same size n xs ys e = upto-same (λ i x. at xs i) (λ i x. at ys i) n (re
 pub copied-at : (size n : ℕ) (xs : List ℕ) → n ≤ size → (i : ℕ) → i < n → at (copied size n xs) i ≡ at xs i
 copied-at size n xs l i h = upto-at (λ i x. at xs i) n (replicate size 0) i 0 h (omega (arith, length-replicate {A = ℕ} size 0))
 
--- and its own length
-pub copied-length : (size n : ℕ) (xs : List ℕ) → length (copied size n xs) ≡ size
-copied-length size n xs = length-upto (λ i x. at xs i) n (replicate size 0) ∙ length-replicate {A = ℕ} size 0
+-- one field of records has the length of its room
+pub column-length : {A : Type 0} (size : ℕ) (f : A → ℕ) (xs : List A) → length (column size f xs) ≡ size
+column-length size f xs = length-upto (λ i x. at (map f xs) i) (length xs) (replicate size 0) ∙ length-replicate {A = ℕ} size 0
 
 -- a whole list that was copied is itself, and 0 past its end
 pub copied-whole : (size : ℕ) (xs : List ℕ) → length xs ≤ size → (i : ℕ) → at (copied size (length xs) xs) i ≡ at xs i
@@ -98,7 +98,7 @@ copied-whole size xs l i = go (decLe (length xs) i)
     go (no h) = copied-at size (length xs) xs l i (omega arith)
 
 -- one field of all links, copied to its room; f noLink computes to 0
-pub column-whole : (size : ℕ) (f : Link → ℕ) → f noLink ≡ 0 → (ls : List Link) → length ls ≤ size → (l : ℕ) → at (copied size (length ls) (map f ls)) l ≡ f (linkOf ls l)
+pub column-whole : (size : ℕ) (f : Link → ℕ) → f noLink ≡ 0 → (ls : List Link) → length ls ≤ size → (l : ℕ) → at (column size f ls) l ≡ f (linkOf ls l)
 column-whole size f z ls h l =
     ap (λ (n : ℕ). at (copied size n (map f ls)) l) (sym (length-map ls f))
     ∙ copied-whole size (map f ls) (omega (arith, length-map ls f)) l

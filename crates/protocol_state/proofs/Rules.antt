@@ -2,11 +2,11 @@
 -- Assumes nothing.
 use mathlib.Core.Path.{_≡_, refl, sym, ap}
 use mathlib.Core.Logic.{_≢_}
-use mathlib.Core.Bool.{Bool, true, false, cond, not, _&&_, _||_, true≢false}
+use mathlib.Core.Bool.{Bool, true, false, cond, not, _&&_, _||_}
 use mathlib.Core.List.{List}
 use Prim.Native.Nat.{ℕ, zero, suc, _+_, _≤_, _<_}
 use native.Mathlib.Omega.{arith}
-use borrow.Author.Tests.{lt-leb, leb-false, lt-ltb, le-ltb, ltb-true, ltb-false, eqb-true, eqb-false, eq-eqb, ne-eqb}
+use borrow.Author.Tests.{lt-leb, leb-false, lt-ltb, le-ltb, ltb-true, ltb-false, eqb-true, eqb-false, eq-eqb, ne-eqb, not-false}
 use lib.Dec.{eqb, ltb, leb}
 use Rattle.lists.specs.Lists.{some, count, leading}
 use Rattle.lists.proofs.Bools.{and-left, and-right, and-not, and-if, or-left, or-right, cond-zero}
@@ -16,11 +16,6 @@ use Rattle.protocol_state.specs.Records.{Task, Link, aheadOf}
 use Rattle.protocol_state.specs.Saved.{Size, Saved, at, linkIn, table}
 use Rattle.protocol_state.specs.Rules.{Ranks, samePair, linksBehind, faultAfter, fault, Obeys, judgedTable, KeepsRules}
 use Rattle.protocol_state.proofs.Places.{some-same, count-same, leading-none-other}
-
--- what is not false
-not-false : (b : Bool) → not b ≡ false → b ≡ true
-not-false true e = refl
-not-false false e = absurd (true≢false e)
 
 -- the order of any table's tasks is an order: nobody is ahead of himself, and of two tasks the earlier is ahead
 pub ranked : (ts : List Task) → Ranks (aheadOf ts)
@@ -59,7 +54,7 @@ module _ (ahead : ℕ → ℕ → Bool) (T : ℕ) (link : ℕ → Link) where
         direct = λ z. and-not (eqb (link l .kind) 0) _ (seven .0) (eq-eqb (link l .kind) 0 z);
         single = λ j h a b. eqb-false (link j .reader) (link l .reader) (and-not (eqb (link j .writer) (link l .writer)) _ (some-not (λ j. samePair (link l) (link j)) l j (eight .0) h) (eq-eqb (link j .writer) (link l .writer) a)) b;
         few = λ a. leb-false 8 (linksBehind ahead link (link l .writer) l) (and-not (ahead (link l .writer) (link l .reader)) _ (nine .0) a);
-        plain = λ z. eqb-true (link l .startValue) 0 (not-false _ (and-not (eqb (link l .kind) 0) _ (twenty .0) (eq-eqb (link l .kind) 0 z)));
+        unstarted = λ z. eqb-true (link l .startValue) 0 (not-false _ (and-not (eqb (link l .kind) 0) _ (twenty .0) (eq-eqb (link l .kind) 0 z)));
       }
 
   -- and one that obeys them earns none
@@ -71,7 +66,7 @@ module _ (ahead : ℕ → ℕ → Bool) (T : ℕ) (link : ℕ → Link) where
       some-of-none (λ j. samePair (link l) (link j)) l (λ j h. and-if (eqb (link j .writer) (link l .writer)) _ (λ a. ne-eqb (link j .reader) (link l .reader) (o .single j h (eqb-true _ _ a)))) in
       let ninth : (ahead (link l .writer) (link l .reader) && leb 8 (linksBehind ahead link (link l .writer) l)) ≡ false = and-if (ahead (link l .writer) (link l .reader)) _ (λ a. lt-leb 8 _ (o .few a)) in
       let twentieth : (eqb (link l .kind) 0 && not (eqb (link l .startValue) 0)) ≡ false =
-      and-if (eqb (link l .kind) 0) _ (λ e. ap not (eq-eqb (link l .startValue) 0 (o .plain (eqb-true (link l .kind) 0 e)))) in
+      and-if (eqb (link l .kind) 0) _ (λ e. ap not (eq-eqb (link l .startValue) 0 (o .unstarted (eqb-true (link l .kind) 0 e)))) in
       rw (lt-leb T (link l .writer) (o .writer), lt-leb T (link l .reader) (o .reader), ne-eqb (link l .writer) (link l .reader) (o .apart), le-ltb 1 (link l .kind) (o .kind), seventh, eighth, ninth, twentieth)
 
   module _ (size : Size) (L : ℕ) where

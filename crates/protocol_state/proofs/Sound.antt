@@ -13,7 +13,7 @@ use Rattle.lists.proofs.Lists.{every-at, every-of}
 use Rattle.protocol.specs.Table.{N}
 use Rattle.protocol_state.specs.Saved.{Size, Saved, at, delayedKind, linkIn, table}
 use Rattle.protocol_state.specs.Rules.{judgedTable}
-use Rattle.protocol_state.specs.Sound.{within, seenIs, taskOk, pointerOk, taskStands, linkStands, isSound, Sound}
+use Rattle.protocol_state.specs.Sound.{within, seenIs, markIs, taskOk, pointerOk, taskStands, linkStands, isSound, Sound}
 use Rattle.protocol_state.proofs.Rules.{judged-keeps, keeps-judged}
 use Rattle.protocol_state.proofs.Places.{between, is-between, or-not}
 use Rattle.protocol_state.proofs.Rules as rules
@@ -43,34 +43,34 @@ seen-is ph a l i = and-both (lt-ltb a 3 l) (go (eqb a 0) refl)
     go true e = eq-eqb ph 0 (i (eqb-true a 0 e))
     go false e = refl
 
--- the mark m of a link, by whether it is delayed, d, by its pointer y and by its writer's arrivals a
-mark-says : (d : Bool) (y a m : ℕ) → cond (d && leb 1 y) (cond (ltb a 2) (eqb m 1) (leb m 1)) (eqb m 0) ≡ true
-    → (m ≤ 1) × (m ≡ 1 → (d ≡ true) × (1 ≤ y)) × (d ≡ true → 1 ≤ y → a < 2 → m ≡ 1)
-mark-says d y a m e = go (d && leb 1 y) refl (ltb a 2) refl e
-  where
-    there : (d && leb 1 y) ≡ true → (d ≡ true) × (1 ≤ y)
-    there i = (and-left d _ i, leb-true 1 y (and-right d _ i))
+-- the mark m of a link of kind k, by its pointer y and by its writer's arrivals a
+abbrev Marked : ℕ → ℕ → ℕ → ℕ → Type 0
+Marked k y a m = (m ≤ 1) × (m ≡ 1 → (delayedKind k ≡ true) × (1 ≤ y)) × (delayedKind k ≡ true → 1 ≤ y → a < 2 → m ≡ 1)
 
-    go : (b : Bool) → (d && leb 1 y) ≡ b → (c : Bool) → ltb a 2 ≡ c → cond b (cond c (eqb m 1) (leb m 1)) (eqb m 0) ≡ true
-        → (m ≤ 1) × (m ≡ 1 → (d ≡ true) × (1 ≤ y)) × (d ≡ true → 1 ≤ y → a < 2 → m ≡ 1)
+mark-says : (k y a m : ℕ) → markIs k y a m ≡ true → Marked k y a m
+mark-says k y a m e = go (delayedKind k && leb 1 y) refl (ltb a 2) refl e
+  where
+    there : (delayedKind k && leb 1 y) ≡ true → (delayedKind k ≡ true) × (1 ≤ y)
+    there i = (and-left (delayedKind k) _ i, leb-true 1 y (and-right (delayedKind k) _ i))
+
+    go : (b : Bool) → (delayedKind k && leb 1 y) ≡ b → (c : Bool) → ltb a 2 ≡ c → cond b (cond c (eqb m 1) (leb m 1)) (eqb m 0) ≡ true → Marked k y a m
     go true i true j f = let z : m ≡ 1 = eqb-true m 1 f in (omega arith, λ x. there i, λ x p l. z)
     go true i false j f = (leb-true m 1 f, λ x. there i, λ x p l. absurd (true≢false (sym (lt-ltb a 2 l) ∙ j)))
     go false i c j f =
         let z : m ≡ 0 = eqb-true m 0 f in
         (omega arith, λ x. absurd (omega arith), λ x p l. absurd (true≢false (sym (and-both x (le-leb 1 y p)) ∙ i)))
 
-mark-is : (d : Bool) (y a m : ℕ) → m ≤ 1 → (m ≡ 1 → (d ≡ true) × (1 ≤ y)) → (d ≡ true → 1 ≤ y → a < 2 → m ≡ 1)
-    → cond (d && leb 1 y) (cond (ltb a 2) (eqb m 1) (leb m 1)) (eqb m 0) ≡ true
-mark-is d y a m l h n = go (d && leb 1 y) refl (ltb a 2) refl
+mark-is : (k y a m : ℕ) → Marked k y a m → markIs k y a m ≡ true
+mark-is k y a m M = go (delayedKind k && leb 1 y) refl (ltb a 2) refl
   where
-    go : (b : Bool) → (d && leb 1 y) ≡ b → (c : Bool) → ltb a 2 ≡ c → cond b (cond c (eqb m 1) (leb m 1)) (eqb m 0) ≡ true
-    go true i true j = eq-eqb m 1 (n (and-left d _ i) (leb-true 1 y (and-right d _ i)) (ltb-true a 2 j))
-    go true i false j = le-leb m 1 l
+    go : (b : Bool) → (delayedKind k && leb 1 y) ≡ b → (c : Bool) → ltb a 2 ≡ c → cond b (cond c (eqb m 1) (leb m 1)) (eqb m 0) ≡ true
+    go true i true j = eq-eqb m 1 (M .2 (and-left (delayedKind k) _ i) (leb-true 1 y (and-right (delayedKind k) _ i)) (ltb-true a 2 j))
+    go true i false j = le-leb m 1 (M .0)
     go false i c j = eq-eqb m 0 (none (ℕ-discrete m 1))
       where
         none : Dec (m ≡ 1) → m ≡ 0
-        none (yes z) = absurd (true≢false (sym (and-both (h z .0) (le-leb 1 y (h z .1))) ∙ i))
-        none (no z) = omega arith
+        none (yes z) = let h = M .1 z in absurd (true≢false (sym (and-both (h .0) (le-leb 1 y (h .1))) ∙ i))
+        none (no z) = omega (arith, M .0)
 
 module _ (ahead : ℕ → ℕ → Bool) (size : Size) (q : Saved) where
   abbrev aTask : ℕ → Bool
@@ -79,10 +79,9 @@ module _ (ahead : ℕ → ℕ → Bool) (size : Size) (q : Saved) where
   abbrev aLink : ℕ → Bool
   aLink = linkStands ahead q
 
-  -- what is said of link l's mark
-  abbrev Marked : ℕ → Type 0
-  Marked l = (at (q .mark) l ≤ 1) × (at (q .mark) l ≡ 1 → (delayedKind (at (q .kind) l) ≡ true) × (1 ≤ at (q .pointer) l))
-      × (delayedKind (at (q .kind) l) ≡ true → 1 ≤ at (q .pointer) l → at (q .seen) (at (q .writer) l) < 2 → at (q .mark) l ≡ 1)
+  -- so of link l
+  abbrev MarkedAt : ℕ → Type 0
+  MarkedAt l = Marked (at (q .kind) l) (at (q .pointer) l) (at (q .seen) (at (q .writer) l)) (at (q .mark) l)
 
   abbrev judgement : ℕ
   judgement = judgedTable ahead (q .tasks) (linkIn q) size (q .links)
@@ -102,7 +101,7 @@ module _ (ahead : ℕ → ℕ → Bool) (size : Size) (q : Saved) where
       let tasks : (t : ℕ) → t < q .tasks → taskOk ahead q t ≡ true = λ t l. and-left (taskOk ahead q t) _ (each t l) in
       let seens : (t : ℕ) → t < q .tasks → (at (q .seen) t < 3) × (at (q .seen) t ≡ 0 → at (q .phase) t ≡ 0) = λ t l. seen-says _ _ (and-right (taskOk ahead q t) _ (each t l)) in
       let pointers : (l : ℕ) → l < q .links → pointerOk ahead q l ≡ true = λ l h. and-left (pointerOk ahead q l) _ (both l h) in
-      let marks : (l : ℕ) → l < q .links → Marked l = λ l h. mark-says (delayedKind (at (q .kind) l)) (at (q .pointer) l) _ (at (q .mark) l) (and-right (pointerOk ahead q l) _ (both l h)) in
+      let marks : (l : ℕ) → l < q .links → MarkedAt l = λ l h. mark-says (at (q .kind) l) (at (q .pointer) l) _ (at (q .mark) l) (and-right (pointerOk ahead q l) _ (both l h)) in
       record {
         rules = judged-keeps ahead (q .tasks) (linkIn q) size (q .links) (eqb-true judgement 0 (and-left (eqb judgement 0) _ e));
         phase = λ t l. ltb-true (at (q .phase) t) 3 (and-left (ltb (at (q .phase) t) 3) _ (tasks t l));
@@ -133,4 +132,4 @@ module _ (ahead : ℕ → ℕ → Bool) (size : Size) (q : Saved) where
       (and-both (le-leb _ _ (G .pointer l h))
       (pointer-is (eqb (at (q .phase) (at (q .reader) l)) 0) (ahead (at (q .writer) l) (at (q .reader) l)) (at (q .pointer) l)
       (λ n. G .present l h (eqb-false _ 0 n)) (λ z a. G .absent l h a (eqb-true _ 0 z))))
-      (mark-is (delayedKind (at (q .kind) l)) (at (q .pointer) l) _ (at (q .mark) l) (G .mark l h) (G .held l h) (G .early l h)))))
+      (mark-is (at (q .kind) l) (at (q .pointer) l) _ (at (q .mark) l) (G .mark l h, G .held l h, G .early l h)))))

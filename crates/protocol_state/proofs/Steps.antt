@@ -26,16 +26,11 @@ use Rattle.protocol_state.proofs.Free.{boxes-inside, lowest-free}
 use Rattle.protocol_state.proofs.Arrivals.{newest-at, previous-at, seen-at, aim, pointer-at, mark-at}
 use Rattle.protocol_state.proofs.Keeps as keeps
 
--- a mark that is put, where b, or stays
-mark-put : (b c : Bool) (m : ℕ) → isMark (cond b (cond c 1 0) m) ≡ cond b c (isMark m)
-mark-put true true m = refl
-mark-put true false m = refl
-mark-put false c m = refl
-
--- a mark that goes, where b, or stays
-mark-gone : (b : Bool) (m : ℕ) → isMark (cond b 0 m) ≡ cond b false (isMark m)
-mark-gone true m = refl
-mark-gone false m = refl
+-- a mark that is put, or goes, where b, or stays
+marked-if : (b c : Bool) (m : ℕ) → isMark (cond b (cond c 1 0) m) ≡ cond b c (isMark m)
+marked-if true true m = refl
+marked-if true false m = refl
+marked-if false c m = refl
 
 -- positions of one task, or of two, do not share a cell
 cell-apart : (u p t y : ℕ) → (1 ≤ p) × (p ≤ 10) → (1 ≤ y) × (y ≤ 10) → cellOf u p ≡ cellOf t y → (u ≡ t) × (p ≡ y)
@@ -76,7 +71,7 @@ module _ {ahead : ℕ → ℕ → Bool} {size : Size} (q : Saved) (S : Shape siz
     kept = λ t e. newest-at q S s small (keeps.room q G .0) ahead t 1 ∙ rw e;
     seen = seen-at q S s small (keeps.room q G .0);
     pointer = λ l. pointer-at ahead q S s (keeps.room q G .1) l ∙ pointer l (comes (table ahead q) s l) refl;
-    mark = λ l. ap isMark (mark-at q S s (keeps.room q G .1) l) ∙ mark-put (comes (table ahead q) s l) (marks (table ahead q) l (at (seenAfter s q) (at (q .writer) l))) (at (q .mark) l);
+    mark = λ l. ap isMark (mark-at q S s (keeps.room q G .1) l) ∙ marked-if (comes (table ahead q) s l) (marks (table ahead q) l (at (seenAfter s q) (at (q .writer) l))) (at (q .mark) l);
     cell = λ t p. refl;
   }
     where
@@ -108,7 +103,7 @@ module _ {ahead : ℕ → ℕ → Bool} {size : Size} (q : Saved) (S : Shape siz
         previous = λ u. refl;
         seen = λ u. refl;
         pointer = keeps.freed-at q G S t v;
-        mark = λ l. ap isMark (keeps.unmarked-at q G S t v l) ∙ mark-gone (leaves (table ahead q) t l) (at (q .mark) l);
+        mark = λ l. ap isMark (keeps.unmarked-at q G S t v l) ∙ marked-if (leaves (table ahead q) t l) false (at (q .mark) l);
         cell = λ u p. rw (newest-inside t l) (stored (q .cells) t (at (q .newest) t) v (at (q .defaults) u) u p y (omega (arith, S .cells, has-room t l, y .0, y .1)));
       }
 

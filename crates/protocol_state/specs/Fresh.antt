@@ -6,13 +6,17 @@ use Prim.Native.Nat.{ℕ, _*_, _/_}
 use lib.Dec.{eqb}
 use lib.ListN.{length, replicate}
 use Rattle.lists.specs.Lists.{upto}
-use Rattle.protocol_state.specs.Records.{Task, defaultOf, Link, linkOf, writers, readers, kinds, startValues, aheadOf}
+use Rattle.protocol_state.specs.Records.{Task, defaultOf, Link, linkOf, aheadOf}
 use Rattle.protocol_state.specs.Saved.{Size, Saved, positions, at}
 use Rattle.protocol_state.specs.Rules.{judgedTable}
 
 -- the first n of xs, in a list of that size; the slots past them hold 0
 abbrev pub copied : ℕ → ℕ → List ℕ → List ℕ
 copied size n xs = upto (λ i x. at xs i) n (replicate size 0)
+
+-- one field of the records xs, in a list of that size
+abbrev pub column : {A : Type 0} → ℕ → (A → ℕ) → List A → List ℕ
+column size f xs = copied size (length xs) (map f xs)
 
 -- each position of a task holds its default
 abbrev pub filled : ℕ → List ℕ → List ℕ
@@ -23,16 +27,16 @@ unfoldable pub freshOf : Size → List Task → List Link → Saved
 freshOf size ts ls = record {
   tasks = length ts;
   links = length ls;
-  defaults = copied (size .tasks) (length ts) (map defaultOf ts);
+  defaults = column (size .tasks) defaultOf ts;
   phase = replicate (size .tasks) 0;
   newest = replicate (size .tasks) 1;
   previous = replicate (size .tasks) 1;
   seen = replicate (size .tasks) 0;
-  cells = filled (size .tasks) (copied (size .tasks) (length ts) (map defaultOf ts));
-  writer = copied (size .links) (length ls) (writers ls);
-  reader = copied (size .links) (length ls) (readers ls);
-  kind = copied (size .links) (length ls) (kinds ls);
-  startValue = copied (size .links) (length ls) (startValues ls);
+  cells = filled (size .tasks) (column (size .tasks) defaultOf ts);
+  writer = column (size .links) (λ (l : Link). l .writer) ls;
+  reader = column (size .links) (λ (l : Link). l .reader) ls;
+  kind = column (size .links) (λ (l : Link). l .kind) ls;
+  startValue = column (size .links) (λ (l : Link). l .startValue) ls;
   pointer = replicate (size .links) 0;
   mark = replicate (size .links) 0;
 }

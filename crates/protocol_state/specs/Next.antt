@@ -62,21 +62,13 @@ previousAt s newest t y = cond (has s t) (newest t) y
 abbrev pub seenAt : ℕ → ℕ → ℕ → ℕ
 seenAt s t a = cond (has s t) (seenOnce a) a
 
--- the readers' part: the pointer x of a link from w to r of kind k becomes the writer's newest if direct, previous if delayed
-abbrev pub aimed : ℕ → ℕ → ℕ → ℕ → (ℕ → ℕ) → (ℕ → ℕ) → ℕ → ℕ
-aimed s w r k newest previous x = cond (has s r) (cond (delayedKind k) (previous w) (newest w)) x
-
--- that of link l
+-- the readers' part: link l's pointer x becomes the writer's newest if direct, previous if delayed
 abbrev pub pointerAt : ℕ → (ℕ → ℕ) → (ℕ → ℕ) → (ℕ → ℕ) → (ℕ → ℕ) → (ℕ → ℕ) → ℕ → ℕ → ℕ
-pointerAt s W R K newest previous l x = aimed s (W l) (R l) (K l) newest previous x
+pointerAt s W R K newest previous l x = cond (has s (R l)) (cond (delayedKind (K l)) (previous (W l)) (newest (W l))) x
 
--- and the mark m of a link to r of kind k is set or cleared, by the arrivals a of its writer
-abbrev pub markedBy : ℕ → ℕ → ℕ → ℕ → ℕ → ℕ
-markedBy s r k a m = cond (has s r) (cond (marked (delayedKind k) a) 1 0) m
-
--- that of link l
+-- and its mark m is set or cleared, by the arrivals of its writer
 abbrev pub markAt : ℕ → (ℕ → ℕ) → (ℕ → ℕ) → (ℕ → ℕ) → (ℕ → ℕ) → ℕ → ℕ → ℕ
-markAt s W R K seen l m = markedBy s (R l) (K l) (seen (W l)) m
+markAt s W R K seen l m = cond (has s (R l)) (cond (marked (delayedKind (K l)) (seen (W l))) 1 0) m
 
 -- then all in the set are waiting
 abbrev pub phaseAt : ℕ → ℕ → ℕ → ℕ

@@ -54,7 +54,7 @@ module _ (ahead : ℕ → ℕ → Bool) where
       pub direct : link l .kind ≡ 0 → ahead (link l .reader) (link l .writer) ≡ false
       pub single : (j : ℕ) → j < l → link j .writer ≡ link l .writer → link j .reader ≢ link l .reader
       pub few : ahead (link l .writer) (link l .reader) ≡ true → linksBehind link (link l .writer) l < 8
-      pub plain : link l .kind ≡ 0 → link l .startValue ≡ 0
+      pub unstarted : link l .kind ≡ 0 → link l .startValue ≡ 0
 
     -- the refusal that a whole table earns: its counts (2, 3), then the first link at fault
     unfoldable pub judgedTable : Size → ℕ → ℕ

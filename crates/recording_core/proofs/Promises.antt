@@ -111,7 +111,7 @@ module _ (kind : RecordingKind) (size : Size) (held : InRoom kind size) (out : L
     cut-whole m c = cut-as-whole kind (coreOf size out) s ds ls es genuine-recorded m c
 
   table-ok : {s ds : List ℕ} {ls : List Link} {m : ℕ} → TableTo kind s ds ls m → Fine size ds ls
-  table-ok {ds = ds} {ls = ls} t = allowed-judged (aheadOf ds) (length ds) kind size held ls (t .tasked .kept .few) (t .linked .kept .few) (t .linked .kept .allowed)
+  table-ok {ds = ds} {ls = ls} t = allowed-judged (aheadOf ds) (length ds) kind size held ls (t .tasked .whole .kept .few) (t .linked .kept .few) (t .linked .kept .allowed)
 
   -- an event record that is refused, its bytes being there: by the table and the accepted events alone
   pub event-refused :

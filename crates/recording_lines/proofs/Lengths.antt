@@ -1,36 +1,14 @@
 -- Every line fits its room.
 -- Assumes nothing.
-use mathlib.Core.Bool.{Bool, true, false, cond}
 use mathlib.Core.List.{List, [], _∷_}
 use Prim.Native.Nat.{ℕ, _*_, _≤_}
 use native.Mathlib.Omega.{arith}
 use lib.Dec.{eqb}
 use lib.ListN.{length, take, length-take}
+use Rattle.lists.proofs.Bools.{cond-of}
 use Rattle.text_line.specs.Numeral.{number}
 use Rattle.text_line.proofs.Lengths.{long, number-long, end, piece, word, numeral, fits}
-use Rattle.recording_lines.specs.Words.{
-  text-absent,
-  text-at,
-  text-cells,
-  text-counts,
-  text-had-0,
-  text-had-1,
-  text-had-2,
-  text-had-unknown,
-  text-idle,
-  text-link,
-  text-mark,
-  text-mark-unknown,
-  text-newest,
-  text-pointer,
-  text-previous,
-  text-read,
-  text-refused,
-  text-running,
-  text-unknown,
-  text-task,
-  text-waiting,
-}
+use Rattle.recording_lines.specs.Words.{text-at, text-cells, text-counts, text-link, text-newest, text-pointer, text-previous, text-read, text-refused, text-task}
 use Rattle.recording_lines.specs.Lines.{numbers, phase, hadWord, pointer, mark, named, readLine, refusedLine, countsLine, taskLine, linkLine}
 
 -- each cell has at most 21 bytes
@@ -43,46 +21,29 @@ numbers-long (n ∷ ns) = omega (arith, long (number n) (numbers ns) (number-lon
 cells-long : (cells : List ℕ) → length (numbers (take 10 cells)) ≤ 210
 cells-long cells = omega (arith, numbers-long (take 10 cells), length-take 10 cells)
 
+-- no longer than n
+abbrev Short : ℕ → List ℕ → Type 0
+Short n w = length w ≤ n
+
 -- a pointer's word or number
 pointer-long : (p : ℕ) → length (pointer p) ≤ 21
 unfolding pointer
-pointer-long p = go (eqb p 0)
-  where
-    go : (b : Bool) → length (cond b text-absent (number p)) ≤ 21
-    go true = omega arith
-    go false = number-long p
+pointer-long p = cond-of (Short 21) (eqb p 0) (omega arith) (number-long p)
 
 -- a phase's word
 phase-long : (p : ℕ) → length (phase p) ≤ 8
 unfolding phase
-phase-long p = go (eqb p 1) (eqb p 2) (eqb p 0)
-  where
-    go : (a b c : Bool) → length (cond a text-waiting (cond b text-running (cond c text-idle text-unknown))) ≤ 8
-    go true b c = omega arith
-    go false true c = omega arith
-    go false false true = omega arith
-    go false false false = omega arith
+phase-long p = cond-of (Short 8) (eqb p 1) (omega arith) (cond-of (Short 8) (eqb p 2) (omega arith) (cond-of (Short 8) (eqb p 0) (omega arith) (omega arith)))
 
 -- the words for arrivals seen
 had-long : (a : ℕ) → length (hadWord a) ≤ 12
 unfolding hadWord
-had-long a = go (eqb a 0) (eqb a 1) (eqb a 2)
-  where
-    go : (x y z : Bool) → length (cond x text-had-0 (cond y text-had-1 (cond z text-had-2 text-had-unknown))) ≤ 12
-    go true y z = omega arith
-    go false true z = omega arith
-    go false false true = omega arith
-    go false false false = omega arith
+had-long a = cond-of (Short 12) (eqb a 0) (omega arith) (cond-of (Short 12) (eqb a 1) (omega arith) (cond-of (Short 12) (eqb a 2) (omega arith) (omega arith)))
 
 -- the word for a mark
 mark-long : (m : ℕ) → length (mark m) ≤ 13
 unfolding mark
-mark-long m = go (eqb m 0) (eqb m 1)
-  where
-    go : (x y : Bool) → length (cond x [] (cond y text-mark text-mark-unknown)) ≤ 13
-    go true y = omega arith
-    go false true = omega arith
-    go false false = omega arith
+mark-long m = cond-of (Short 13) (eqb m 0) (omega arith) (cond-of (Short 13) (eqb m 1) (omega arith) (omega arith))
 
 pub named-fits : (w : List ℕ) (n : ℕ) → length w ≤ 8 → length (named w n) ≤ 320
 named-fits w n h = fits 320 (piece w h (numeral n end)) (omega arith)

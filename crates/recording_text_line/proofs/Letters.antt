@@ -9,6 +9,7 @@ use borrow.Author.Tests.{le-ltb, eq-eqb, ne-eqb, ltb-false, eqb-false}
 use lib.Dec.{eqb, ltb}
 use lib.ListN.{length, drop, getD}
 use lib.Seq.{getD-take, getD-drop}
+use Rattle.lists.proofs.Bools.{cond-of, cond-small}
 use Rattle.recording_text_fields.specs.declared.number.Numbers.{Numbers}
 use Rattle.recording_text_fields.specs.Pieces.{separator, fields, between, Ends}
 use Rattle.recording_text_fields.specs.Numeral.{firstFault, fieldValues, gathered, numbersWith}
@@ -132,18 +133,8 @@ module _ (s : List ℕ) (a e : ℕ) (w : Ends (separator true) s a e) (h : a < e
 
 -- a record of any sort may have one number
 pub least : (k : ℕ) → 1 ≤ widest k
-least k = go (eqb k 1) (eqb k 2)
-  where
-    go : (t l : Bool) → 1 ≤ cond t 1 (cond l 4 3)
-    go true l = omega arith
-    go false true = omega arith
-    go false false = omega arith
+least k = cond-of (λ n. 1 ≤ n) (eqb k 1) (omega arith) (cond-of (λ n. 1 ≤ n) (eqb k 2) (omega arith) (omega arith))
 
 -- and at most four
 pub widest-small : (k : ℕ) → widest k ≤ 4
-widest-small k = go (eqb k 1) (eqb k 2)
-  where
-    go : (t l : Bool) → cond t 1 (cond l 4 3) ≤ 4
-    go true l = omega arith
-    go false true = omega arith
-    go false false = omega arith
+widest-small k = cond-small (eqb k 1) (omega arith) (cond-small (eqb k 2) (omega arith) (omega arith))

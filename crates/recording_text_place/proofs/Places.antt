@@ -1,7 +1,7 @@
 -- Lines found by their records, one by one.
 -- Assumes nothing.
 use mathlib.Core.Path.{_≡_, sym, ap, _∙_}
-use mathlib.Core.Bool.{Bool, true, false, cond, _&&_}
+use mathlib.Core.Bool.{Bool, true, false, _&&_}
 use mathlib.Core.List.{List, [], _∷_}
 use Prim.Native.Nat.{ℕ, suc, _+_, _-_, _≤_}
 use native.Mathlib.Numerals.{add-one}
@@ -9,6 +9,7 @@ use native.Mathlib.Omega.{arith}
 use borrow.Author.Tests.{ne-eqb}
 use lib.Dec.{eqb}
 use lib.ListN.{length, drop, drop-of-length-le}
+use Rattle.lists.proofs.Bools.{cond-small}
 use Rattle.recording_text_line.specs.declared.Said.{Said}
 use Rattle.recording_text_fields.specs.Pieces.{pieces, separator, lines, between, Ends}
 use Rattle.recording_text_line.specs.Line.{Says, isEvent, says, saidOf, sort}
@@ -62,13 +63,7 @@ line-end bytewise k much n s a h = ap (lineAfter bytewise k much n) (lines-past 
 -- no record has the sort 4
 sort-small : (b : ℕ) → sort b ≤ 3
 unfolding sort
-sort-small b = go (eqb b 84) (eqb b 76) (isEvent b)
-  where
-    go : (t l e : Bool) → cond t 1 (cond l 2 (cond e 3 0)) ≤ 3
-    go true l e = omega arith
-    go false true e = omega arith
-    go false false true = omega arith
-    go false false false = omega arith
+sort-small b = cond-small (eqb b 84) (omega arith) (cond-small (eqb b 76) (omega arith) (cond-small (isEvent b) (omega arith) (omega arith)))
 
 -- so the line after it is the one after the last
 pub none-such : (much n : ℕ) (ls : List (List ℕ)) → lineAfter false 4 much n ls ≡ n + length ls

@@ -180,34 +180,26 @@ fn early_refusals() {
     assert_eq!(early(&[253, 1, 9, 0, 0, 0, 33]), (3, 6));
     assert_eq!(early(&[253, 1, 9, 0, 0, 0, 0, 0x11, 0x27]), (10, 7));
     assert_eq!(early(&[253, 1, 9, 0, 0, 0, 0, 0x10]), (1, 7));
-    // two tasks with defaults 9 and 8, the link 0 to 1, and a second one
-    let second = |link: [u8; 7]| {
-        let mut b = vec![253, 2, 9, 0, 0, 0, 8, 0, 0, 0, 2, 0, 1, 0, 0, 0, 0, 0];
-        b.extend(link);
-        b.extend([0, 0]);
-        early(&b)
-    };
-    assert_eq!(second([0, 2, 0, 0, 0, 0, 0]), (4, 18));
-    assert_eq!(second([1, 1, 0, 0, 0, 0, 0]), (5, 18));
-    assert_eq!(second([1, 0, 2, 0, 0, 0, 0]), (6, 18));
-    assert_eq!(second([1, 0, 0, 0, 0, 0, 0]), (7, 18));
-    assert_eq!(second([0, 1, 1, 0, 0, 0, 0]), (8, 18));
+    let second = |w, r, k| early_links(&[(0, 1, 0, 0), (w, r, k, 0)]);
+    assert_eq!(second(0, 2, 0), (4, 18));
+    assert_eq!(second(1, 1, 0), (5, 18));
+    assert_eq!(second(1, 0, 2), (6, 18));
+    assert_eq!(second(1, 0, 0), (7, 18));
+    assert_eq!(second(0, 1, 1), (8, 18));
+}
+
+/// The same of a recording of two tasks with these links: writer, reader, kind, start value.
+fn early_links(links: &[(u8, u8, u8, u32)]) -> (u8, usize) {
+    early(&record(&table(&[9, 8], links), &[]))
 }
 
 /// A direct link with a start value, whichever of its four bytes isn't 0: 20, tried after all else of the link.
 #[test]
 fn direct_links_with_a_start_value() {
-    let first = |link: [u8; 7]| {
-        let mut b = vec![253, 2, 9, 0, 0, 0, 8, 0, 0, 0, 1];
-        b.extend(link);
-        b.extend([0, 0]);
-        early(&b)
-    };
-    assert_eq!(first([0, 1, 0, 1, 0, 0, 0]), (20, 11));
-    assert_eq!(first([0, 1, 0, 0, 1, 0, 0]), (20, 11));
-    assert_eq!(first([0, 1, 0, 0, 0, 1, 0]), (20, 11));
-    assert_eq!(first([0, 1, 0, 0, 0, 0, 1]), (20, 11));
-    assert_eq!(first([1, 0, 0, 1, 0, 0, 0]), (7, 11));
+    for start_value in [1, 1 << 8, 1 << 16, 1 << 24] {
+        assert_eq!(early_links(&[(0, 1, 0, start_value)]), (20, 11));
+    }
+    assert_eq!(early_links(&[(1, 0, 0, 1)]), (7, 11));
     let links: Vec<_> = (1..=9).map(|r| (0, r, 0, u32::from(r == 9))).collect();
     assert_eq!(early(&record(&table(&[0; 16], &links), &[])), (9, 67 + 8 * 7));
 }
@@ -552,12 +544,14 @@ fn numbers_that_no_field_holds() {
         for at in 0..links.len() {
             let mut links = links.clone();
             links[at] = wide;
-            let (refusal, place, _) = written(&defaults, &links, &events, 161);
-            if at == 3 {
-                assert_eq!((refusal, place), (0, 161));
+            let expected = if at == 3 {
+                let mut t = example_table();
+                t.start_value[0] = wide;
+                (0, 161, record(&t, &EVENTS))
             } else {
-                assert_eq!((refusal, place), ([4, 4, 6, 20][at % 4], 19 + at / 4 * 7));
-            }
+                ([4, 4, 6, 20][at % 4], 19 + at / 4 * 7, vec![])
+            };
+            assert_eq!(written(&defaults, &links, &events, 161), expected);
         }
         let mut at = 0;
         for (i, e) in EVENTS.iter().enumerate() {
@@ -567,14 +561,15 @@ fn numbers_that_no_field_holds() {
                 events[at + field] = wide;
                 assert_eq!(written(&defaults, &links, &events, 161), (refusal, place_of(i), vec![]));
             }
-            if size == 3 {
-                let mut events = events.clone();
-                events[at + 2] = wide;
-                assert_eq!(written(&defaults, &links, &events, 161).0, 0);
+            if let Finish(task, _) = *e {
+                let mut finished = EVENTS;
+                finished[i] = Finish(task, wide);
+                let events = numbers(&example_table(), &finished).2;
+                assert_eq!(written(&defaults, &links, &events, 161), (0, 161, record(&example_table(), &finished)));
             }
             at += size;
         }
-        assert_eq!(written(&[wide], &[], &[], 9).0, 0);
+        assert_eq!(written(&[wide], &[], &[], 9), (0, 9, record(&table(&[wide], &[]), &[])));
     }
 }
 

@@ -64,16 +64,16 @@ impl Run<'_> {
 
     fn compare_valid(&mut self, recording: &Recording, answer: &Answer) -> Option<String> {
         self.take_table(&LentTable::of(&recording.table));
-        self.note_starts(recording);
+        self.note_start_values(recording);
         laws::stepwise_law_broken(self.subject, recording, answer)
     }
 
-    fn note_starts(&mut self, recording: &Recording) {
+    fn note_start_values(&mut self, recording: &Recording) {
         let mut engine = Pointers::fresh(&recording.table);
         for &event in &recording.events {
             let before = engine.state;
             engine.apply(event);
-            self.reached.recordings.starts.note(&before, event, &engine.state);
+            self.reached.recordings.start_values.note(&before, event, &engine.state);
         }
     }
 

@@ -32,7 +32,7 @@ impl Run<'_> {
         }
         self.reached.events.refusals[usize::from(answer.refusal)] += 1;
         if answer.refusal == 0 {
-            self.reached.events.starts.note(state, event, &answer.state);
+            self.reached.events.start_values.note(state, event, &answer.state);
         }
         if answer.refusal != 19 {
             self.reached.events.note_state(state);

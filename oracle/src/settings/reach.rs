@@ -45,8 +45,8 @@ impl Reached {
     /// and no migration lets one through.
     pub fn missing(&self) -> Vec<String> {
         let mut missing = Vec::new();
-        never_given(&mut missing, "of settings lists", &self.lists, vec![0, 1, 2, 11, 17, 26]);
-        never_given(&mut missing, "of writing back", &self.writings, vec![0, 2, 18]);
+        never_given(&mut missing, "of settings lists", &self.lists, &[0, 1, 2, 11, 17, 26]);
+        never_given(&mut missing, "of writing back", &self.writings, &[0, 2, 18]);
         at_least(&mut missing, "settings in a list", self.most_settings, MOST_SETTINGS);
         at_least(&mut missing, "bytes of a settings list", self.longest, MOST_BYTES);
         for (form, name) in ["shown whole", "cut", "too large to show"].iter().enumerate() {

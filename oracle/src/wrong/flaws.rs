@@ -132,7 +132,7 @@ pub enum Flaw {
 
 /// The errors about arrivals, marks and start values, which both recordings
 /// and saved states must expose.
-const OF_STARTS: [Flaw; 15] = [
+const OF_START_VALUES: [Flaw; 15] = [
     Flaw::DefaultForStart,
     Flaw::StartBySeen,
     Flaw::StartAfterSecond,
@@ -152,7 +152,7 @@ const OF_STARTS: [Flaw; 15] = [
 
 /// The errors the corpus of whole recordings must expose.
 pub fn in_recordings() -> Vec<Flaw> {
-    IN_RECORDINGS.iter().chain(&OF_STARTS).copied().collect()
+    IN_RECORDINGS.iter().chain(&OF_START_VALUES).copied().collect()
 }
 
 const IN_RECORDINGS: [Flaw; 34] = [
@@ -213,7 +213,7 @@ pub fn in_tables() -> Vec<Flaw> {
 pub fn in_saved_states() -> Vec<Flaw> {
     let mut flaws: Vec<Flaw> = IN_RECORDINGS[..11].to_vec();
     flaws.extend([Flaw::AllFreedAtFinish, Flaw::AheadProtectedToo, Flaw::OnlyRunningBlock, Flaw::SixteenFirst]);
-    flaws.extend(OF_STARTS);
+    flaws.extend(OF_START_VALUES);
     flaws.extend([Flaw::TwelveBeforeNineteen, Flaw::TwentyByLowByte]);
     flaws.extend([Flaw::NoMarkAfterSecond, Flaw::MarkAtEachPresent, Flaw::SeenPastCounts, Flaw::MarkPastCounts]);
     flaws.extend(CLAUSES.iter().map(|clause| Flaw::Unsound(*clause)));

@@ -5,7 +5,7 @@ use crate::format::{Event, DELAYED};
 use crate::state::State;
 
 #[derive(Default)]
-pub struct Starts {
+pub struct StartValues {
     /// Reads by delayed links: of the start value, of it although the writer's
     /// second arrival came since, and of the writer's output.
     read: usize,
@@ -22,7 +22,7 @@ pub struct Starts {
     kept: usize,
 }
 
-impl Starts {
+impl StartValues {
     /// An accepted event, with the states before and after it.
     pub fn note(&mut self, before: &State, event: Event, after: &State) {
         match event {
@@ -47,11 +47,11 @@ impl Starts {
         let writer = usize::from(before.writer[link]);
         let second = before.seen[writer] == 1 && set >> writer & 1 == 1;
         match after.seen[writer] {
-            0 => self.set_without_arrival += 1,
-            1 => self.set_after_one += 1,
+            0 => self.set_without_arrival += usize::from(after.mark[link]),
+            1 => self.set_after_one += usize::from(after.mark[link]),
             _ => {
-                self.second_in_same_set += usize::from(second);
-                self.taken_away += usize::from(before.mark[link]);
+                self.second_in_same_set += usize::from(second && after.mark[link] == 0);
+                self.taken_away += usize::from(before.mark[link] > after.mark[link]);
             }
         }
     }

@@ -1,0 +1,112 @@
+//! What the programs `replay` and `inspect` print (docs/FORMAT.md, "The two
+//! printouts"), and `printouts FOLDER`, which writes recordings of all corpora
+//! with both printouts that each must have, for the judge to compare.
+
+use std::fs;
+use std::path::Path;
+
+use crate::corpus::{batch, Case, CORPORA};
+use crate::engine::{RUNNING, WAITING};
+use crate::format::{printout, MOST_BYTES, MOST_EVENTS};
+use crate::prng::Prng;
+use crate::reach::at_least;
+use crate::state::{State, ABSENT};
+use crate::subject::{Answer, Oracle, Subject};
+
+/// So many recordings of each corpus.
+const OF_EACH: usize = 12;
+
+/// So often each word must be printed, and each kind of read.
+const OFTEN: usize = 20;
+
+/// What `inspect` prints of an answer.
+pub fn inspected(answer: &Answer) -> String {
+    let (state, counts) = (&answer.state, &answer.counts);
+    let mut lines = vec![
+        format!("refusal {}", answer.refusal),
+        format!("place {}", answer.place),
+        format!("counts {} {} {} {}", counts.arrivals, counts.starts, counts.reads, counts.finishes),
+    ];
+    lines.extend((0..usize::from(state.tasks)).map(|task| task_line(state, task)));
+    lines.extend((0..usize::from(state.links)).map(|link| link_line(state, link)));
+    lines.push(format!("rest {}", answer.rest.len()));
+    lines.join("\n") + "\n"
+}
+
+fn task_line(state: &State, task: usize) -> String {
+    let phase = match state.phase[task] {
+        RUNNING => "running",
+        WAITING => "waiting",
+        _ => "idle",
+    };
+    let cell = |position: usize| format!(" {}", state.cells[state.cell(task, position as u8)]);
+    let cells: String = (1..=state.positions(task)).map(cell).collect();
+    format!(
+        "task {} {} newest {} previous {} cells{} had {}",
+        task, phase, state.newest[task], state.previous[task], cells, state.seen[task]
+    )
+}
+
+fn link_line(state: &State, link: usize) -> String {
+    let pointer = match state.pointer[link] {
+        ABSENT => "absent".to_string(),
+        position => position.to_string(),
+    };
+    format!("link {} pointer {}{}", link, pointer, if state.mark[link] == 1 { " mark" } else { "" })
+}
+
+/// The exit status: 0 the files stand there, 1 they do not show all that they
+/// must, 2 bad usage or a folder that cannot be used.
+pub fn command() -> i32 {
+    let arguments: Vec<String> = std::env::args().skip(1).collect();
+    let done = match &arguments[..] {
+        [folder] => write_all(Path::new(folder)).map_err(|fault| format!("{}: {}", folder, fault)),
+        _ => Err("usage: printouts FOLDER".to_string()),
+    };
+    match done {
+        Ok(missing) => {
+            missing.iter().for_each(|what| println!("not reached: {}", what));
+            i32::from(!missing.is_empty())
+        }
+        Err(fault) => {
+            eprintln!("printouts: {}", fault);
+            2
+        }
+    }
+}
+
+/// Writes N.rec, N.replay and N.inspect of each recording. Tells what they do
+/// not show.
+fn write_all(folder: &Path) -> std::io::Result<Vec<String>> {
+    let mut all = String::new();
+    let mut marked = 0;
+    for (number, mut bytes) in recordings().into_iter().enumerate() {
+        bytes.truncate(MOST_BYTES + 1);
+        let answer = Oracle.replay(&bytes, &[0; MOST_EVENTS]);
+        let read = printout(&bytes, answer.refusal, answer.place, answer.counts, &answer.list);
+        let inspected = inspected(&answer);
+        marked += usize::from(inspected.contains(" mark\n"));
+        let named = |program: &str| folder.join(format!("{:03}.{}", number, program));
+        fs::write(named("replay"), &read)?;
+        fs::write(named("inspect"), &inspected)?;
+        fs::write(named("rec"), &bytes)?;
+        all += &(read + &inspected);
+    }
+    let mut missing = Vec::new();
+    at_least(&mut missing, "recordings that end with a mark", marked, OFTEN);
+    for words in ["read ", "accepted ", "refused ", " had 0\n", " had 1\n", " had 2\n", " absent\n"] {
+        at_least(&mut missing, &format!("{:?} printed", words), all.matches(words).count(), OFTEN);
+    }
+    Ok(missing)
+}
+
+/// Some of each corpus, spread over families.
+fn recordings() -> Vec<Vec<u8>> {
+    let mut prng = Prng::new(1);
+    let mut some = |corpus| {
+        let cases: Vec<Case> = (0..OF_EACH).flat_map(|number| batch(corpus, number, &mut prng)).collect();
+        let step = cases.len() / OF_EACH;
+        cases.into_iter().step_by(step).take(OF_EACH).map(|case| case.bytes).collect::<Vec<_>>()
+    };
+    CORPORA.iter().flat_map(|corpus| some(*corpus)).collect()
+}
