@@ -28,4 +28,5 @@ pub mod Cuts
 -- the theorems, over the contracts in the source
 pub mod Contract
 pub mod Demands
+pub mod SelfLinks
 pub mod Example

@@ -14,7 +14,7 @@ use Rattle.lists.proofs.Bools.{and-left, and-right, and-both}
 use Rattle.protocol_state.specs.Records.{linkOf, aheadOf}
 use Rattle.protocol_state.specs.Rules.{samePair, linksBehind}
 use Rattle.recording_format.specs.Link.{Link, linkFault}
-use Rattle.demands.specs.Refusals.{Earns, LinkBreaks, noTask, itself, unknownKind, directAhead, twice, ninth, startsDirect}
+use Rattle.demands.specs.Refusals.{Earns, LinkBreaks, noTask, directToItself, unknownKind, directAhead, twice, ninth, startsDirect}
 use Rattle.demands.proofs.Earned.{earns-alike, Test, test, Fires, here, later, chain-earns}
 
 -- one of two tests holds
@@ -54,7 +54,7 @@ module _ (ds : List ℕ) (ls : List Link) (l : Link) where
   abbrev tests : List Test
   tests =
       test 4 (leb (length ds) (l .writer) || leb (length ds) (l .reader))
-      ∷ test 5 (eqb (l .writer) (l .reader))
+      ∷ test 5 (eqb (l .kind) 0 && eqb (l .writer) (l .reader))
       ∷ test 6 (ltb 1 (l .kind))
       ∷ test 7 (eqb (l .kind) 0 && aheadOf ds (l .reader) (l .writer))
       ∷ test 8 (some (λ j. samePair l (linkOf ls j)) (length ls))
@@ -65,7 +65,7 @@ module _ (ds : List ℕ) (ls : List Link) (l : Link) where
   broken-fires : {n : ℕ} → LinkBreaks ds ls l n → Fires tests n
   broken-fires (noTask (inl h)) = here (or-first _ (le-leb _ _ h))
   broken-fires (noTask (inr h)) = here (or-second (leb (length ds) (l .writer)) (le-leb _ _ h))
-  broken-fires (itself e) = later (here (eq-eqb _ _ e))
+  broken-fires (directToItself k e) = later (here (and-both (eq-eqb _ _ k) (eq-eqb _ _ e)))
   broken-fires (unknownKind a b) = later (later (here (lt-ltb 1 (l .kind) (omega arith))))
   broken-fires (directAhead e h) = later (later (later (here (and-both (eq-eqb _ _ e) h))))
   broken-fires (twice j h a b) = later (later (later (later (here (some-at _ (length ls) j h (and-both (eq-eqb _ _ a) (eq-eqb _ _ b)))))))
@@ -78,7 +78,7 @@ module _ (ds : List ℕ) (ls : List Link) (l : Link) where
       go : (leb (length ds) (l .writer) ≡ true) ⊎ (leb (length ds) (l .reader) ≡ true) → (length ds ≤ l .writer) ⊎ (length ds ≤ l .reader)
       go (inl i) = inl (leb-true _ _ i)
       go (inr i) = inr (leb-true _ _ i)
-  fires-broken (later (here e)) = itself (eqb-true _ _ e)
+  fires-broken (later (here e)) = directToItself (eqb-true _ _ (and-left (eqb (l .kind) 0) _ e)) (eqb-true _ _ (and-right (eqb (l .kind) 0) _ e))
   fires-broken (later (later (here e))) = let h = ltb-true 1 (l .kind) e in unknownKind (λ z. omega arith) (λ z. omega arith)
   fires-broken (later (later (later (here e)))) = directAhead (eqb-true _ _ (and-left (eqb (l .kind) 0) _ e)) (and-right (eqb (l .kind) 0) _ e)
   fires-broken (later (later (later (later (here e))))) =

@@ -1,11 +1,10 @@
 -- Demand 1: a byte that is no kind of event, and a link of an unknown kind, are refused at their place.
 -- Assumes nothing.
-use mathlib.Core.Path.{_≡_, sym, ap, subst}
-use mathlib.Core.Logic.{_≢_}
+use mathlib.Core.Path.{_≡_, refl, sym, ap, subst}
+use mathlib.Core.Logic.{_≢_, _⊎_, inl, inr}
 use mathlib.Core.List.{List}
 use Prim.Native.Nat.{ℕ, _+_, _≤_, _<_}
 use native.Mathlib.Omega.{arith}
-use native.Mathlib.Decide.{decLe}
 use lib.ListN.{length, getD}
 use Rattle.protocol.specs.Event.{Event}
 use Rattle.protocol_state.specs.Records.{aheadOf}
@@ -17,7 +16,7 @@ use Rattle.recording_core.specs.Playing.{Playing}
 use Rattle.recording.specs.declared.Answer.{Answer}
 use Rattle.recording_demands.specs.Ensured.{Replays}
 use Rattle.recording_demands.proofs.Demands.{only-answer}
-use Rattle.demands.specs.Refusals.{Earns, none, lowest, LinkBreaks, noTask, itself, unknownKind, directAhead, twice, ninth, startsDirect}
+use Rattle.demands.specs.Refusals.{Earns, none, lowest, LinkBreaks, noTask, directToItself, unknownKind, directAhead, twice, ninth, startsDirect}
 use Rattle.demands.specs.Recordings.{Genuine, LinksBegun, EventsBegun, KindOf, badLink}
 use Rattle.demands.specs.Recordings as recordings
 use Rattle.demands.proofs.Links.{link-earned}
@@ -31,32 +30,30 @@ unknown-event said g b more h u =
     let e = sym (only-answer said (found b g (recordings.unknownKind more h u))) in
     (ap (λ (x : Verdict Playing). x .refusal) e, ap (λ (x : Verdict Playing). x .place) e)
 
--- the rules of links have the numbers from 4 on
-from-four : {ds : List ℕ} {ls : List Link} {l : Link} {n : ℕ} → LinkBreaks ds ls l n → 4 ≤ n
-from-four (noTask h) = omega arith
-from-four (itself e) = omega arith
-from-four (unknownKind a b) = omega arith
-from-four (directAhead e h) = omega arith
-from-four (twice j h a b) = omega arith
-from-four (ninth h b) = omega arith
-from-four (startsDirect e n) = omega arith
-
--- what a link of an unknown kind earns
-unknown-earns : {ds : List ℕ} {ls : List Link} {l : Link} {r : ℕ} → 1 < l .kind → Earns (LinkBreaks ds ls l) r → (4 ≤ r) × (r ≤ 6)
-unknown-earns k (none f) = absurd (f 6 (unknownKind (λ z. omega arith) (λ z. omega arith)))
-unknown-earns {r = r} k (lowest b f) = (from-four b, go (decLe r 6))
+-- what a link of an unknown kind earns: rule 6 fits, and of those with a lower number only 4 is no rule of direct links
+unknown-earns : {ds : List ℕ} {ls : List Link} {l : Link} {r : ℕ} → 1 < l .kind → Earns (LinkBreaks ds ls l) r → (r ≡ 4) ⊎ (r ≡ 6)
+unknown-earns {ds} {ls} {l} k (none f) = absurd (f 6 (unknownKind (λ z. omega arith) (λ z. omega arith)))
+unknown-earns {ds} {ls} {l} k (lowest b f) = go b f
   where
-    go : Dec (r ≤ 6) → r ≤ 6
-    go (yes h) = h
-    go (no h) = absurd (f 6 (omega arith) (unknownKind (λ z. omega arith) (λ z. omega arith)))
+    go : {n : ℕ} → LinkBreaks ds ls l n → ((m : ℕ) → m < n → LinkBreaks ds ls l m → ⊥) → (n ≡ 4) ⊎ (n ≡ 6)
+    go (noTask h) f = inl refl
+    go (directToItself z e) f = absurd (omega arith)
+    go (unknownKind a b) f = inr refl
+    go (directAhead z h) f = absurd (omega arith)
+    go (twice j h a b) f = absurd (f 6 (omega arith) (unknownKind (λ z. omega arith) (λ z. omega arith)))
+    go (ninth h b) f = absurd (f 6 (omega arith) (unknownKind (λ z. omega arith) (λ z. omega arith)))
+    go (startsDirect z n) f = absurd (omega arith)
+
+four-or-six : {r : ℕ} → (r ≡ 4) ⊎ (r ≡ 6) → r ≢ 0
+four-or-six (inl e) z = omega arith
+four-or-six (inr e) z = omega arith
 
 pub unknown-link : {s out list ds : List ℕ} {a : Answer} {ls : List Link} {L p : ℕ} → Replays s out a list →
     LinksBegun s ds L ls p → length ls < L → p + linkSize baseRecording ≤ length s → 1 < linkAt s p .kind →
-    Earns (LinkBreaks ds ls (linkAt s p)) (a .refusal) × ((4 ≤ a .refusal) × (a .refusal ≤ 6)) × (a .place ≡ p)
+    Earns (LinkBreaks ds ls (linkAt s p)) (a .refusal) × ((a .refusal ≡ 4) ⊎ (a .refusal ≡ 6)) × (a .place ≡ p)
 unknown-link {s} {out} {list} {ds} {a} {ls} {L} {p} said b more h k =
     let g = link-earned ds ls (linkAt s p) in
-    let w = unknown-earns k g in
-    let n : linkFault (aheadOf ds) (length ds) ls (linkAt s p) ≢ 0 = λ z. omega (arith, w .0) in
+    let n : linkFault (aheadOf ds) (length ds) ls (linkAt s p) ≢ 0 = four-or-six (unknown-earns k g) in
     let e = sym (only-answer said (fault-found s out (badLink b more h g n))) in
     let r = ap (λ (x : Verdict Playing). x .refusal) e in
     let same = subst (λ (x : ℕ). Earns (LinkBreaks ds ls (linkAt s p)) x) (sym r) g in

@@ -54,10 +54,10 @@ pub record Demand1 : Type 0 where
   pub unknown-event : {s out list ds : List ℕ} {a : Answer} {ls : List Link} {es : List (Event ℕ)} {E p : ℕ} → Replays s out a list →
       Genuine (recordingBytes ds ls es) out ds ls es → EventsBegun s ds ls E es p → length es < E → p < length s → ((n : ℕ) → KindOf (getD s p 0) n → ⊥) →
       (a .refusal ≡ 11) × (a .place ≡ p)
-  -- a link of an unknown kind is refused at its place, with 6 unless it breaks rule 4 or 5 as well (in a table that is handed over whole: `table-number`)
+  -- a link of an unknown kind is refused at its place, with 6 unless it names no task of the table, which is 4 (in a table that is handed over whole: `table-number`)
   pub unknown-link : {s out list ds : List ℕ} {a : Answer} {ls : List Link} {L p : ℕ} → Replays s out a list →
       LinksBegun s ds L ls p → length ls < L → p + linkSize baseRecording ≤ length s → 1 < linkAt s p .kind →
-      Earns (LinkBreaks ds ls (linkAt s p)) (a .refusal) × ((4 ≤ a .refusal) × (a .refusal ≤ 6)) × (a .place ≡ p)
+      Earns (LinkBreaks ds ls (linkAt s p)) (a .refusal) × ((a .refusal ≡ 4) ⊎ (a .refusal ≡ 6)) × (a .place ≡ p)
   -- "Each refusal has its number": of a table; of an event given to a sound state, by its phases; and after any calls by the accepted events alone
   pub table-number : (T L : ℕ) (D W R K B : List ℕ) (m : Made) → Makes T L D W R K B m → (n : ℕ) → (m .refusal ≡ n) ↔ TableEarns (firstTasks T D) (firstLinks L W R K B) n
   pub event-number : (q : State) (e : Event ℕ) (r : Step) → Gives q e r → IsSound q →

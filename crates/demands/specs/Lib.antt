@@ -16,3 +16,5 @@ pub mod Outputs
 pub mod Contracts
 -- the demands
 pub mod Demands
+-- request 2026-04
+pub mod SelfLinks

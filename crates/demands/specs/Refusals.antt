@@ -26,8 +26,8 @@ pub data Earns (Fits : ℕ → Type 0) : ℕ → Type 0 where
 pub data LinkBreaks (ds : List Task) (ls : List Link) (l : Link) : ℕ → Type 0 where
   -- 4: "a link names no task of the table"
   noTask : (length ds ≤ l .writer) ⊎ (length ds ≤ l .reader) → LinkBreaks ds ls l 4
-  -- 5: "its writer is its reader"
-  itself : l .writer ≡ l .reader → LinkBreaks ds ls l 5
+  -- 5: "its writer is its reader", and it is direct (request 2026-04)
+  directToItself : l .kind ≡ 0 → l .writer ≡ l .reader → LinkBreaks ds ls l 5
   -- 6: "its kind is neither 0 nor 1"
   unknownKind : l .kind ≢ 0 → l .kind ≢ 1 → LinkBreaks ds ls l 6
   -- 7: "a direct link to a reader ahead"

@@ -33,7 +33,7 @@ fn fault_of(tasks: usize, w: u8, r: u8, k: u8, v: u32, twice: bool, n: usize) ->
     let eight = pick(twice, 8, nine);
     let seven = pick((k == 0) & (r < w), 7, eight);
     let six = pick(1 < k, 6, seven);
-    let five = pick(w == r, 5, six);
+    let five = pick((k == 0) & (w == r), 5, six);
     pick((tasks <= w as usize) | (tasks <= r as usize), 4, five)
 }
 

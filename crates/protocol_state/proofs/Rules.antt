@@ -40,7 +40,7 @@ module _ (ahead : ℕ → ℕ → Bool) (T : ℕ) (link : ℕ → Link) where
   unfolding fault
   obeys l e =
       let four = cond-zero (leb T (link l .writer) || leb T (link l .reader)) 4 _ (λ z. omega arith) e in
-      let five = cond-zero (eqb (link l .writer) (link l .reader)) 5 _ (λ z. omega arith) (four .1) in
+      let five = cond-zero (eqb (link l .kind) 0 && eqb (link l .writer) (link l .reader)) 5 _ (λ z. omega arith) (four .1) in
       let six = cond-zero (ltb 1 (link l .kind)) 6 _ (λ z. omega arith) (five .1) in
       let seven = cond-zero (eqb (link l .kind) 0 && ahead (link l .reader) (link l .writer)) 7 _ (λ z. omega arith) (six .1) in
       let eight = cond-zero (some (λ j. samePair (link l) (link j)) l) 8 _ (λ z. omega arith) (seven .1) in
@@ -49,7 +49,7 @@ module _ (ahead : ℕ → ℕ → Bool) (T : ℕ) (link : ℕ → Link) where
       record {
         writer = leb-false T (link l .writer) (or-left (leb T (link l .writer)) _ (four .0));
         reader = leb-false T (link l .reader) (or-right (leb T (link l .writer)) _ (four .0));
-        apart = eqb-false (link l .writer) (link l .reader) (five .0);
+        apart = λ z. eqb-false (link l .writer) (link l .reader) (and-not (eqb (link l .kind) 0) _ (five .0) (eq-eqb (link l .kind) 0 z));
         kind = ltb-false 1 (link l .kind) (six .0);
         direct = λ z. and-not (eqb (link l .kind) 0) _ (seven .0) (eq-eqb (link l .kind) 0 z);
         single = λ j h a b. eqb-false (link j .reader) (link l .reader) (and-not (eqb (link j .writer) (link l .writer)) _ (some-not (λ j. samePair (link l) (link j)) l j (eight .0) h) (eq-eqb (link j .writer) (link l .writer) a)) b;
@@ -61,13 +61,15 @@ module _ (ahead : ℕ → ℕ → Bool) (T : ℕ) (link : ℕ → Link) where
   pub no-fault : (l : ℕ) → Obeys ahead T link l → fault ahead T link l ≡ 0
   unfolding fault
   no-fault l o =
+      let fifth : (eqb (link l .kind) 0 && eqb (link l .writer) (link l .reader)) ≡ false =
+      and-if (eqb (link l .kind) 0) _ (λ e. ne-eqb (link l .writer) (link l .reader) (o .apart (eqb-true (link l .kind) 0 e))) in
       let seventh : (eqb (link l .kind) 0 && ahead (link l .reader) (link l .writer)) ≡ false = and-if (eqb (link l .kind) 0) _ (λ e. o .direct (eqb-true (link l .kind) 0 e)) in
       let eighth : some (λ j. samePair (link l) (link j)) l ≡ false =
       some-of-none (λ j. samePair (link l) (link j)) l (λ j h. and-if (eqb (link j .writer) (link l .writer)) _ (λ a. ne-eqb (link j .reader) (link l .reader) (o .single j h (eqb-true _ _ a)))) in
       let ninth : (ahead (link l .writer) (link l .reader) && leb 8 (linksBehind ahead link (link l .writer) l)) ≡ false = and-if (ahead (link l .writer) (link l .reader)) _ (λ a. lt-leb 8 _ (o .few a)) in
       let twentieth : (eqb (link l .kind) 0 && not (eqb (link l .startValue) 0)) ≡ false =
       and-if (eqb (link l .kind) 0) _ (λ e. ap not (eq-eqb (link l .startValue) 0 (o .unstarted (eqb-true (link l .kind) 0 e)))) in
-      rw (lt-leb T (link l .writer) (o .writer), lt-leb T (link l .reader) (o .reader), ne-eqb (link l .writer) (link l .reader) (o .apart), le-ltb 1 (link l .kind) (o .kind), seventh, eighth, ninth, twentieth)
+      rw (lt-leb T (link l .writer) (o .writer), lt-leb T (link l .reader) (o .reader), fifth, le-ltb 1 (link l .kind) (o .kind), seventh, eighth, ninth, twentieth)
 
   module _ (size : Size) (L : ℕ) where
     -- a table whose counts fit and whose links all obey the rules earns no refusal
@@ -134,7 +136,8 @@ lawful {ahead} ranks size q ok = record {
   direct = λ l h d.
       let n : at (q .kind) l ≢ 1 = eqb-false (at (q .kind) l) 1 d in
       let k : at (q .kind) l ≤ 1 = rule l h .kind in
-      ranks .either (at (q .reader) l) (at (q .writer) l) (λ e. rule l h .apart (sym e)) (rule l h .direct (omega arith));
+      let zero : at (q .kind) l ≡ 0 = omega arith in
+      ranks .either (at (q .reader) l) (at (q .writer) l) (λ e. rule l h .apart zero (sym e)) (rule l h .direct zero);
   other = λ l h b d. ranks .either (at (q .writer) l) (at (q .reader) l) (λ e. d (sym e)) b;
 }
   where

@@ -25,7 +25,7 @@ module _ (ahead : ℕ → ℕ → Bool) where
   abbrev pub faultOf : ℕ → Link → Bool → ℕ → ℕ
   faultOf T x twice n =
       cond (leb T (x .writer) || leb T (x .reader)) 4
-      (cond (eqb (x .writer) (x .reader)) 5
+      (cond (eqb (x .kind) 0 && eqb (x .writer) (x .reader)) 5
       (cond (ltb 1 (x .kind)) 6
       (cond (eqb (x .kind) 0 && ahead (x .reader) (x .writer)) 7
       (cond twice 8
@@ -45,11 +45,11 @@ module _ (ahead : ℕ → ℕ → Bool) where
     unfoldable pub fault : ℕ → ℕ
     fault l = faultAfter T link l (link l)
 
-    -- link l obeys the rules 4 to 9, and 20: "a direct link must carry 0 there"
+    -- link l obeys the rules 4 to 9 (5 and 7 of a direct link: a task may read its own last output by a delayed one), and 20: "a direct link must carry 0 there"
     pub record Obeys (l : ℕ) : Type 0 where
       pub writer : link l .writer < T
       pub reader : link l .reader < T
-      pub apart : link l .writer ≢ link l .reader
+      pub apart : link l .kind ≡ 0 → link l .writer ≢ link l .reader
       pub kind : link l .kind ≤ 1
       pub direct : link l .kind ≡ 0 → ahead (link l .reader) (link l .writer) ≡ false
       pub single : (j : ℕ) → j < l → link j .writer ≡ link l .writer → link j .reader ≢ link l .reader

@@ -1,5 +1,5 @@
--- The cases that document 01 marks to be shown of the definitions, and document 02's two (another first byte, a direct link with a start value), as one table
--- under one claim: bytes, and the whole answer, which is refusal, place, state, counts and list.
+-- The cases that document 01 marks to be shown of the definitions, and document 02's (another first byte, a direct link with a start value, a task that reads its
+-- own last output), as one table under one claim: bytes, and the whole answer, which is refusal, place, state, counts and list.
 -- Assumes nothing.
 use mathlib.Core.Path.{_≡_, refl}
 use mathlib.Core.List.{List, [], _∷_, _++_, map}
@@ -125,6 +125,31 @@ rest =
     start 0 ∷ read 0 ∷ finish 0 0 ∷ start 1 ∷ finish 1 102 ∷ arrival 4 ∷ start 2 ∷ read 1 ∷ finish 2 0 ∷ arrival 3 ∷ start 0 ∷ read 0 ∷ finish 0 0 ∷ start 1
     ∷ finish 1 103 ∷ read 2 ∷ finish 3 0 ∷ arrival 9 ∷ start 0 ∷ read 0 ∷ finish 0 0 ∷ start 3 ∷ read 2 ∷ finish 3 0 ∷ []
 
+-- a filter: one task, which reads its own last output, first the start value 40, and adds 1; two runs
+abbrev filter : List ℕ
+filter =
+    encodeRecording baseRecording (0 ∷ []) (linked 0 0 1 40 ∷ [])
+    (arrival 1 ∷ start 0 ∷ read 0 ∷ finish 0 41 ∷ arrival 1 ∷ start 0 ∷ read 0 ∷ finish 0 42 ∷ [])
+
+-- its state then: two positions, and the pointer stays at what the second run read
+abbrev filtered : Saved
+filtered = record {
+  tasks = 1;
+  links = 1;
+  defaults = replicate (base .tasks) 0;
+  phase = replicate (base .tasks) 0;
+  newest = replicate (base .tasks) 1;
+  previous = filledUp (base .tasks) 1 (2 ∷ []);
+  seen = filledUp (base .tasks) 0 (2 ∷ []);
+  cells = filledUp (base .tasks * positions) 0 (42 ∷ 41 ∷ []);
+  writer = replicate (base .links) 0;
+  reader = replicate (base .links) 0;
+  kind = filledUp (base .links) 0 (1 ∷ []);
+  startValue = filledUp (base .links) 0 (40 ∷ []);
+  pointer = filledUp (base .links) 0 (2 ∷ []);
+  mark = replicate (base .links) 0;
+}
+
 -- one task, no links, no events
 abbrev least : List ℕ
 least = 253 ∷ 1 ∷ 0 ∷ 0 ∷ 0 ∷ 0 ∷ 0 ∷ 0 ∷ 0 ∷ []
@@ -149,10 +174,13 @@ cases =
     -- link 0 to 0, direct and delayed
     ∷ joined (link 0 0 0)
     ∷ joined (link 0 0 1)
-    -- kind 2
+    -- kind 2, and from a task to itself
     ∷ joined (link 0 1 2)
+    ∷ joined (link 0 0 2)
     -- a direct link with the start value 1
     ∷ joined (linked 0 1 0 1)
+    -- the filter
+    ∷ filter
     -- R2 right after the second arrival
     ∷ example (begun ++ (read 2 ∷ []))
     -- A{3} there
@@ -175,9 +203,11 @@ pub marked-cases : map answer cases ≡
     ∷ untouched 7 11 alone
     ∷ untouched 0 20 (fresh 2 1 (1 ∷ []) (0 ∷ []) (1 ∷ []))
     ∷ untouched 5 11 alone
-    ∷ untouched 5 11 alone
+    ∷ untouched 0 20 (fresh 2 1 (0 ∷ []) (0 ∷ []) (1 ∷ []))
+    ∷ untouched 6 11 alone
     ∷ untouched 6 11 alone
     ∷ untouched 20 11 alone
+    ∷ replied 0 42 filtered 2 2 2 2 (40 ∷ 41 ∷ [])
     ∷ replied 16 78 midway 6 4 2 3 (90 ∷ 101 ∷ [])
     ∷ replied 13 78 midway 6 4 2 3 (90 ∷ 101 ∷ [])
     ∷ replied 0 161 done 11 11 8 11 (90 ∷ 101 ∷ 101 ∷ 102 ∷ 102 ∷ 101 ∷ 102 ∷ 103 ∷ [])

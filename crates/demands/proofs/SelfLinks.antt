@@ -1,0 +1,218 @@
+-- Request 2026-04: what holds of a link from a task to itself.
+-- Assumes nothing.
+use mathlib.Core.Path.{_≡_, refl, sym, ap, subst, _∙_}
+use mathlib.Core.Logic.{_≢_, _↔_, inl, inr}
+use mathlib.Core.Bool.{Bool, true, false, cond, _&&_, true≢false}
+use mathlib.Core.List.{List, [], _∷_, _++_}
+use Prim.Native.Nat.{ℕ, zero, suc, pred, _+_, _≤_, _<_}
+use native.Mathlib.Omega.{arith}
+use borrow.Author.Tests.{eq-eqb, eqb-true, ltb-true, lt-ltb}
+use lib.Dec.{eqb}
+use lib.ListN.{length}
+use Rattle.lists.specs.Lists.{count}
+use Rattle.lists.proofs.Bools.{and-if}
+use Rattle.protocol.specs.Event.{Event, arrival, start, read, finish, has}
+use Rattle.protocol.specs.Table.{Table, marked, N}
+use Rattle.protocol.specs.History.{Goes, arrivals, finishes, past}
+use Rattle.protocol.specs.Schedule.{policyOf, Possible, AllPossible}
+use Rattle.protocol.specs.ZeroTime.{runOf, had}
+use Rattle.protocol.specs.Published.{Lowest, Step}
+use Rattle.protocol.proofs.Schedule.{counted}
+use Rattle.protocol.proofs.Effects.{pointer-delayed, pointer-out, mark-in, mark-out}
+use Rattle.protocol.proofs.SelfLinks.{self-had, self-delayed, self-stays, self-unprotected}
+use Rattle.protocol_state.specs.Records.{Task, linkOf, aheadOf}
+use Rattle.protocol_state.specs.Saved.{at, tasksIn}
+use Rattle.protocol_state.proofs.Rules.{ranked}
+use Rattle.recording_format.specs.Link.{Link}
+use Rattle.mailbox.specs.States.{saved}
+use Rattle.mailbox.specs.declared.State.{State}
+use Rattle.mailbox.specs.declared.Step as code
+use Rattle.demands.specs.Station.{station}
+use Rattle.demands.specs.Refusals.{Earns, none, lowest, LinkBreaks, noTask, directToItself, unknownKind, directAhead, twice, ninth, startsDirect}
+use Rattle.demands.specs.States.{IsSound, IsWhole, tableIn, boxesIn}
+use Rattle.demands.specs.Order.{EachRead}
+use Rattle.demands.specs.Calls.{Gives, Calls, fresh, accepted, refused}
+use Rattle.demands.specs.Outputs.{Gave}
+use Rattle.demands.specs.SelfLinks.{ToItself, SelfLink, HasPair, SelfLinks}
+use Rattle.demands.proofs.Orders.{part-possible, each-so}
+use Rattle.demands.proofs.AnyState.{any-state}
+use Rattle.demands.proofs.Runs.{calls-possible, calls-lawful, calls-delayed, calls-start-value, calls-finished}
+
+-- ---- the refusal of such a link
+module _ (ds : List Task) (ls : List Link) (x : Link) (S : ToItself ds x) where
+  -- the rules that it can break
+  data CanBreak : ℕ → Type 0 where
+    five : x .kind ≡ 0 → CanBreak 5
+    six : 1 < x .kind → CanBreak 6
+    eight : HasPair ls x → CanBreak 8
+    twenty : x .kind ≡ 0 → CanBreak 20
+
+  can-break : {n : ℕ} → LinkBreaks ds ls x n → CanBreak n
+  can-break (noTask (inl h)) = absurd (omega (arith, S .task))
+  can-break (noTask (inr h)) = absurd (omega (arith, S .task, S .same))
+  can-break (directToItself k e) = five k
+  can-break (unknownKind a b) = six (omega (arith, a, b))
+  can-break (directAhead k h) = absurd (true≢false (sym h ∙ rw (S .same) (ranked ds .itself (x .reader))))
+  can-break (twice j h a b) = eight (j, h, a, b)
+  can-break (ninth h b) = absurd (true≢false (sym h ∙ rw (S .same) (ranked ds .itself (x .reader))))
+  can-break (startsDirect k n) = twenty k
+
+  allowed : x .kind ≡ 1 → (HasPair ls x → ⊥) → Earns (LinkBreaks ds ls x) 0
+  allowed k alone = none (λ n b. go (can-break b))
+    where
+      go : {n : ℕ} → CanBreak n → ⊥
+      go (five z) = omega arith
+      go (six z) = omega arith
+      go (eight p) = alone p
+      go (twenty z) = omega arith
+
+  second : x .kind ≡ 1 → HasPair ls x → Earns (LinkBreaks ds ls x) 8
+  second k p = lowest (twice (p .0) (p .1) (p .2) (p .3)) (λ n h b. go h (can-break b))
+    where
+      go : {n : ℕ} → n < 8 → CanBreak n → ⊥
+      go h (five z) = omega arith
+      go h (six z) = omega arith
+      go h (eight p) = omega arith
+      go h (twenty z) = omega arith
+
+  direct : x .kind ≡ 0 → Earns (LinkBreaks ds ls x) 5
+  direct k = lowest (directToItself k (S .same)) (λ n h b. go h (can-break b))
+    where
+      go : {n : ℕ} → n < 5 → CanBreak n → ⊥
+      go h (five z) = omega arith
+      go h (six z) = omega arith
+      go h (eight p) = omega arith
+      go h (twenty z) = omega arith
+
+  neither : 1 < x .kind → Earns (LinkBreaks ds ls x) 6
+  neither k = lowest (unknownKind (λ z. omega arith) (λ z. omega arith)) (λ n h b. go h (can-break b))
+    where
+      go : {n : ℕ} → n < 6 → CanBreak n → ⊥
+      go h (five z) = omega arith
+      go h (six z) = omega arith
+      go h (eight p) = omega arith
+      go h (twenty z) = omega arith
+
+-- ---- N
+-- counted from the first number on
+count-first : (f : ℕ → Bool) (n : ℕ) → count f (suc n) ≡ cond (f 0) (count (λ i. f (suc i)) n + 1) (count (λ i. f (suc i)) n)
+unfolding count
+count-first f zero = refl
+count-first f (suc n) = rw (count-first f n) (go (f 0) (f (suc n)) (count (λ i. f (suc i)) n))
+  where
+    go : (a b : Bool) (c : ℕ) → cond b (cond a (c + 1) c + 1) (cond a (c + 1) c) ≡ cond a (cond b (c + 1) c + 1) (cond b (c + 1) c)
+    go true true c = refl
+    go true false c = refl
+    go false true c = refl
+    go false false c = refl
+
+-- how many links pass a test
+abbrev passing : (Link → Bool) → List Link → ℕ
+passing test ls = count (λ l. test (linkOf ls l)) (length ls)
+
+-- one that does not pass changes nothing, wherever it stands
+passing-without : (test : Link → Bool) (before : List Link) (x : Link) (after : List Link) → test x ≡ false → passing test (before ++ (x ∷ after)) ≡ passing test (before ++ after)
+passing-without test [] x after e = count-first (λ l. test (linkOf (x ∷ after) l)) (length after) ∙ rw e
+passing-without test (y ∷ ys) x after e =
+    count-first (λ l. test (linkOf (y ∷ (ys ++ (x ∷ after))) l)) (length (ys ++ (x ∷ after)))
+    ∙ ap (λ (c : ℕ). cond (test y) (c + 1) c) (passing-without test ys x after e)
+    ∙ sym (count-first (λ l. test (linkOf (y ∷ (ys ++ after)) l)) (length (ys ++ after)))
+
+uncounted : (ds : List Task) (before : List Link) (x : Link) (after : List Link) → ToItself ds x → (t : ℕ) → N (station ds (before ++ (x ∷ after))) t ≡ N (station ds (before ++ after)) t
+uncounted ds before x after S t =
+    passing-without (λ (y : Link). eqb (y .writer) t && aheadOf ds t (y .reader)) before x after
+    (and-if (eqb (x .writer) t) (aheadOf ds t (x .reader)) (λ e. rw (← S .same, eqb-true (x .writer) t e) (ranked ds .itself t)))
+
+-- ---- in any sound state
+module _ (q : State) (G : IsSound q) (l : ℕ) (S : SelfLink (tableIn q) l) where
+  sound-delayed : tableIn q .delayed l ≡ true
+  sound-delayed =
+      let o = G .rules .each l (S .link) in
+      let k : at (saved q .kind) l ≢ 0 = λ z. o .apart z (S .same) in
+      eq-eqb (at (saved q .kind) l) 1 (omega (arith, k, o .kind))
+
+  -- nobody is ahead of himself
+  level : (t : ℕ) → tableIn q .ahead t t ≡ false
+  level t = ranked (tasksIn (saved q)) .itself t
+
+  set : (m : ℕ) (r : code.Step) → Gives q (arrival m) r → IsWhole q → r .answer .refusal ≡ 0 → has m (tableIn q .reader l) ≡ true
+      → (boxesIn (r .state) .pointer l ≡ boxesIn (r .state) .previous (tableIn q .reader l)) × ((boxesIn (r .state) .mark l ≡ true) ↔ (boxesIn (r .state) .seen (tableIn q .reader l) < 2))
+  unfolding Step
+  set m r call W z h =
+      let A = any-state q (arrival m) r call W G z .0 in
+      let p = pointer-delayed (tableIn q) A l (S .link) h sound-delayed in
+      let k : boxesIn (r .state) .mark l ≡ marked true (boxesIn (r .state) .seen (tableIn q .writer l)) = mark-in (tableIn q) A l (S .link) h ∙ ap (λ (d : Bool). marked d (boxesIn (r .state) .seen (tableIn q .writer l))) sound-delayed in (
+        subst (λ (w : ℕ). boxesIn (r .state) .pointer l ≡ boxesIn (r .state) .previous w) (S .same) p,
+        subst (λ (w : ℕ). (boxesIn (r .state) .mark l ≡ true) ↔ (boxesIn (r .state) .seen w < 2)) (S .same) (λ e. ltb-true _ 2 (sym k ∙ e), λ i. k ∙ lt-ltb _ 2 i),
+      )
+
+  stays : (e : Event ℕ) (r : code.Step) → Gives q e r → IsWhole q → r .answer .refusal ≡ 0 → ((m : ℕ) → e ≡ arrival m → has m (tableIn q .reader l) ≡ false)
+      → (boxesIn (r .state) .pointer l ≡ boxesIn q .pointer l) × (boxesIn (r .state) .mark l ≡ boxesIn q .mark l)
+  unfolding Step
+  stays e r call W z = go e (any-state q e r call W G z .0)
+    where
+      go : (e : Event ℕ) → Step (tableIn q) (Lowest (tableIn q)) e (boxesIn q) (boxesIn (r .state)) → ((m : ℕ) → e ≡ arrival m → has m (tableIn q .reader l) ≡ false)
+          → (boxesIn (r .state) .pointer l ≡ boxesIn q .pointer l) × (boxesIn (r .state) .mark l ≡ boxesIn q .mark l)
+      go (arrival m) A out = (pointer-out (tableIn q) A l (out m refl), mark-out (tableIn q) A l (out m refl))
+      go (start t) same out = (ap (λ s. s .pointer l) same, ap (λ s. s .mark l) same)
+      go (read k) same out = (ap (λ s. s .pointer l) same, ap (λ s. s .mark l) same)
+      go (finish t v) F out = (F .pointer l ∙ rw (self-stays (tableIn q) l (S .same) level t), F .mark l ∙ rw (self-stays (tableIn q) l (S .same) level t))
+
+-- ---- after any calls
+-- nobody is ahead of himself
+calls-level : {T : Table ℕ} {es : List (Event ℕ)} {ns : List ℕ} {q : State} → Calls T es ns q → (t : ℕ) → T .ahead t t ≡ false
+calls-level (fresh n l D W R K B m said ok) t = ranked [] .itself t
+calls-level (accepted c e r call z) t = calls-level c t
+calls-level (refused c e r call z) t = calls-level c t
+
+module _ {T : Table ℕ} {es : List (Event ℕ)} {ns : List ℕ} {q : State} (c : Calls T es ns q) where
+  calls-self-delayed : (l : ℕ) → SelfLink T l → T .delayed l ≡ true
+  calls-self-delayed l S = self-delayed T l (S .same) (calls-level c) (calls-lawful c) (S .link)
+
+  -- at a read the link is one of the table, and its reader's run is the next after those that have finished
+  at-read : (h : List (Event ℕ)) (l : ℕ) → Goes (read l ∷ h) (past [] es) → (l < T .links) × (arrivals h (T .reader l) ≡ suc (finishes h (T .reader l)))
+  unfolding AllPossible Possible
+  at-read h l g =
+      let P : AllPossible T (policyOf T) (read l ∷ h) = part-possible T g (calls-possible c) in
+      let F = counted T (policyOf T) h (P .1) (T .reader l) in
+      (P .0 .0, omega (arith, ltb-true (finishes h (T .reader l)) _ (P .0 .1), F))
+
+  run-before : EachRead (λ h l n. arrivals h (T .reader l) ≡ suc (finishes h (T .reader l))) [] es ns
+  run-before = each-so (λ h l n. runOf (T .delayed l) (had T h l) ≤ finishes h (T .writer l)) _ [] es ns (λ h l n g f. at-read h l g .1) (calls-finished c)
+
+  last-output : EachRead (λ h l n. T .writer l ≡ T .reader l → 1 ≤ finishes h (T .reader l) → Gave (T .reader l) h (finishes h (T .reader l)) n) [] es ns
+  last-output = each-so (λ h l n. T .delayed l ≡ true → 2 ≤ had T h l → Gave (T .writer l) h (pred (had T h l)) n) _ [] es ns (λ h l n g d s f. go h l n (at-read h l g) d s f) (calls-delayed c)
+    where
+      go : (h : List (Event ℕ)) (l n : ℕ) → (l < T .links) × (arrivals h (T .reader l) ≡ suc (finishes h (T .reader l)))
+          → (T .delayed l ≡ true → 2 ≤ had T h l → Gave (T .writer l) h (pred (had T h l)) n) → T .writer l ≡ T .reader l → 1 ≤ finishes h (T .reader l)
+          → Gave (T .reader l) h (finishes h (T .reader l)) n
+      go h l n a d s f =
+          let k : had T h l ≡ suc (finishes h (T .reader l)) = self-had T l s h ∙ a .1 in
+          let v = d (calls-self-delayed l (record { link = a .0; same = s })) (omega arith) in
+          subst (λ (w : ℕ). Gave w h (finishes h (T .reader l)) n) s (subst (λ (k : ℕ). Gave (T .writer l) h (pred k) n) k v)
+
+  first-run : EachRead (λ h l n. T .writer l ≡ T .reader l → finishes h (T .reader l) ≡ 0 → n ≡ T .startValue l) [] es ns
+  first-run = each-so (λ h l n. T .delayed l ≡ true → had T h l < 2 → n ≡ T .startValue l) _ [] es ns (λ h l n g d s f. go h l n (at-read h l g) d s f) (calls-start-value c)
+    where
+      go : (h : List (Event ℕ)) (l n : ℕ) → (l < T .links) × (arrivals h (T .reader l) ≡ suc (finishes h (T .reader l)))
+          → (T .delayed l ≡ true → had T h l < 2 → n ≡ T .startValue l) → T .writer l ≡ T .reader l → finishes h (T .reader l) ≡ 0 → n ≡ T .startValue l
+      go h l n a d s f =
+          let k : had T h l ≡ suc (finishes h (T .reader l)) = self-had T l s h ∙ a .1 in
+          d (calls-self-delayed l (record { link = a .0; same = s })) (omega arith)
+
+-- ---- the theorem
+pub self-links : SelfLinks
+self-links = record {
+  allowed = allowed;
+  second = second;
+  direct = direct;
+  neither = neither;
+  delayed = calls-self-delayed;
+  uncounted = uncounted;
+  unprotected = λ ds ls l S. self-unprotected (station ds ls) l (S .same) (ranked ds .itself);
+  set = λ q m r call W G z l S h. set q G l S m r call W z h;
+  stays = λ q e r call W G z l S out. stays q G l S e r call W z out;
+  last-output = last-output;
+  first-run = first-run;
+  run-before = run-before;
+}
