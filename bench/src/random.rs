@@ -33,8 +33,9 @@ fn some_links(random: &mut Random, tasks: usize) -> Vec<Link> {
         let (w, r) = (random.below(writers), random.below(tasks));
         let behind = links.iter().filter(|l| l.0 == w && l.1 > w).count();
         let known = links.iter().any(|l| l.0 == w && l.1 == r);
-        if w < tasks && w != r && !known && (r < w || behind < 8) {
-            let kind = if r < w { DELAYED } else { random.below(2) as u8 };
+        if w < tasks && !known && (r <= w || behind < 8) {
+            // a task's link to itself is direct, and so refused, now and then
+            let kind = if r < w || r == w && !random.one_in(100) { DELAYED } else { random.below(2) as u8 };
             let start_value = if random.one_in(300) { 1 << random.below(32) } else { link(w, r, kind).3 };
             links.push((w, r, kind, start_value));
         } else if random.one_in(60) {

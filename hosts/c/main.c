@@ -1,8 +1,8 @@
 /* A host in C. It replays a recording and prints what was read and counted, then gives the same events one by one to a saved state
  * of its own and sees that both end in the same state; then gives some events that are refused; then tries each call at edge sizes;
  * then writes the recording itself, replays what it wrote, and has some writing refused; then reads the start value of a delayed link up
- * to its writer's second arrival, and has a state refused after each change that makes it unsound; then sees that each named field of a
- * state stands where the library has it.
+ * to its writer's second arrival, and has a state refused after each change that makes it unsound; then has a task read its own last
+ * output; then sees that each named field of a state stands where the library has it.
  *
  *     host FILE       the long example of docs/FORMAT.md (recordings/figure-17.rec)
  */
@@ -151,6 +151,11 @@ static void refused_tables(void)
     other.kind[0] = 1;
     other.start_value[2] = 1;
     refuse_table("direct link with a start value", &other);
+    other.start_value[2] = 0;
+    other.writer[2] = 3;
+    refuse_table("direct link from a task to itself", &other);
+    other.kind[2] = 2;
+    refuse_table("link of kind 2 from a task to itself", &other);
 }
 
 /* the entry past the lent ones, which was 77 before; without a list there is none that a replay could reach */
@@ -355,6 +360,33 @@ static void unsound_by_one_change(void)
     refuse("start value at a direct link", &direct, PARNUSILD_START, 1);
     state.control.mark[0] = 0;
     printf("no mark, writer with two arrivals: start %u\n", parnusild_state_start(&state, 1));
+}
+
+/* a filter, which adds 1 to its own last output: it reads that by a delayed link to itself, in its first run the start value 40 */
+static void filter(void)
+{
+    static const struct parnusild_table own = {
+        .tasks = 1,
+        .links = 1,
+        .defaults = { 7 },
+        .writer = { 0 },
+        .reader = { 0 },
+        .kind = { 1 },
+        .start_value = { 40 },
+    };
+    struct parnusild_state state;
+    uint32_t number;
+    unsigned refusals = parnusild_state_fresh(&state, &own);
+    int i;
+    for (i = 0; i < 4; i++) {
+        refusals |= parnusild_state_arrival(&state, 1);
+        refusals |= parnusild_state_start(&state, 0);
+        refusals |= parnusild_state_read(&state, 0, &number);
+        refusals |= parnusild_state_finish(&state, 0, number + 1);
+        printf("the filter reads %u; after its finish pointer %u, mark %u\n", (unsigned)number, state.control.pointer[0],
+               state.control.mark[0]);
+    }
+    printf("its runs: %s\n", refusals ? "REFUSED" : "accepted");
 }
 
 /* where a named field begins in what is lent and how long it is, in bytes of the control or numbers of the values */
@@ -584,6 +616,7 @@ int main(int argc, char **argv)
     writing(size);
     start_values();
     unsound_by_one_change();
+    filter();
     layout(&state);
     fields_put();
     fields_taken();

@@ -183,6 +183,7 @@ fn early_refusals() {
     let second = |w, r, k| early_links(&[(0, 1, 0, 0), (w, r, k, 0)]);
     assert_eq!(second(0, 2, 0), (4, 18));
     assert_eq!(second(1, 1, 0), (5, 18));
+    assert_eq!(second(1, 1, 2), (6, 18));
     assert_eq!(second(1, 0, 2), (6, 18));
     assert_eq!(second(1, 0, 0), (7, 18));
     assert_eq!(second(0, 1, 1), (8, 18));
@@ -370,6 +371,82 @@ fn the_mark_goes_with_the_pointer() {
     assert_eq!((pointers(&both_again), marks(&both_again)), ([2, 2], [0, 0]));
 }
 
+/// A task with default 7 that reads its own last output by a delayed link to itself with start value 40.
+fn filter_table() -> Table {
+    table(&[7], &[(0, 0, 1, 40)])
+}
+
+/// Four runs of it, each of which adds 1 to what it read.
+fn filter_events() -> Vec<Event> {
+    (41..=44).flat_map(|value| [Arrival(1), Start(0), Read(0), Finish(0, value)]).collect()
+}
+
+/// The first run reads the start value, each later one what the run before it put out. Pointer and mark stay at the finish.
+#[test]
+fn a_task_reads_its_own_last_output() {
+    let mut s = State::fresh(&filter_table()).state;
+    let mut read = Vec::new();
+    let mut kept = Vec::new();
+    for _ in 0..4 {
+        s = after(&s, &[Arrival(1), Start(0)]);
+        let number = s.event(Read(0)).unwrap();
+        read.push(number);
+        s = after(&s, &[Finish(0, number + 1)]);
+        kept.push((s.control.pointer[0], s.control.mark[0]));
+    }
+    assert_eq!(read, [40, 41, 42, 43]);
+    assert_eq!(kept, [(1, 1), (2, 0), (1, 0), (2, 0)]);
+    let mut list = [77; 5];
+    let a = replay(&record(&filter_table(), &filter_events()), &mut list);
+    assert_eq!((a.refusal, list), (0, [40, 41, 42, 43, 77]));
+    assert_eq!(a.state, s);
+}
+
+/// Where the pointer of an idle task's link to itself is absent the state is sound too; of an active task it is not, and no direct link is.
+#[test]
+fn sound_with_a_link_to_itself() {
+    let idle = after(&State::fresh(&filter_table()).state, &[Arrival(1), Start(0), Finish(0, 41)]);
+    let active = after(&idle, &[Arrival(1), Start(0)]);
+    let answer = |state: &State, event: Event, change: fn(&mut State)| {
+        let mut s = state.clone();
+        change(&mut s);
+        s.event(event)
+    };
+    let no_pointer = |s: &mut State| {
+        s.control.pointer[0] = 0;
+        s.control.mark[0] = 0;
+    };
+    let direct = |s: &mut State| {
+        s.control.kind[0] = 0;
+        s.values.start_value[0] = 0;
+    };
+    assert_eq!(answer(&idle, Arrival(1), |_| ()), Ok(0));
+    assert_eq!(answer(&idle, Arrival(1), no_pointer), Ok(0));
+    assert_eq!(answer(&idle, Arrival(1), |s| s.control.mark[0] = 0), Err(19), "no mark after one arrival");
+    assert_eq!(answer(&idle, Arrival(1), |s| s.control.pointer[0] = 3), Err(19), "a third position of two");
+    assert_eq!(answer(&active, Read(0), |_| ()), Ok(41));
+    assert_eq!(answer(&active, Read(0), |s| s.control.mark[0] = 1), Ok(40));
+    assert_eq!(answer(&active, Read(0), no_pointer), Err(19));
+    assert_eq!(answer(&active, Read(0), direct), Err(19));
+}
+
+/// Sixteen tasks with a link to themselves each, and sixteen links more, from each task to the next: three rounds in which all arrive at once.
+#[test]
+fn every_task_reads_its_own_last_output() {
+    let own = (0..16).map(|t| (t, t, 1, 40 + u32::from(t)));
+    let next = (0..16).map(|t| (t, (t + 1) % 16, u8::from(t == 15), 0));
+    let mut s = State::fresh(&table(&[7; 16], &own.chain(next).collect::<Vec<_>>())).state;
+    assert_eq!((s.tasks, s.links), (TASKS, LINKS));
+    for round in 0..3 {
+        s = after(&s, &[Arrival(0xffff)]);
+        for t in 0..16 {
+            s = after(&s, &[Start(t)]);
+            assert_eq!(s.event(Read(t)), Ok(40 + t + 100 * round));
+            s = after(&s, &[Finish(t, 40 + t + 100 * (round + 1))]);
+        }
+    }
+}
+
 /// 19 before anything else: for every kind, also an unknown one, and for numbers in no table.
 #[test]
 fn unsound_states() {
@@ -462,15 +539,21 @@ fn tables() {
     // each with a start value, which a direct link may not have: 20 is tried last
     assert_eq!(refusal(&table(&[0; 2], &[(0, 2, 0, 1)])), 4);
     assert_eq!(refusal(&table(&[0; 2], &[(0, 0, 0, 1)])), 5);
+    assert_eq!(refusal(&table(&[0; 2], &[(0, 0, 2, 1)])), 6);
     assert_eq!(refusal(&table(&[0; 2], &[(0, 1, 2, 1)])), 6);
     assert_eq!(refusal(&table(&[0; 2], &[(1, 0, 0, 1)])), 7);
     assert_eq!(refusal(&table(&[0; 2], &[(0, 1, 1, 1), (0, 1, 0, 1)])), 8);
+    assert_eq!(refusal(&table(&[0; 2], &[(1, 1, 1, 1), (1, 1, 1, 1)])), 8);
     let to = |readers: u8, last: u32| -> Vec<_> {
         (1..=readers).map(|r| (0, r, 0, if r == readers { last } else { 0 })).collect()
     };
     assert_eq!(refusal(&table(&[0; 16], &to(8, 0))), 0);
     assert_eq!(refusal(&table(&[0; 16], &to(9, 0))), 9);
     assert_eq!(refusal(&table(&[0; 16], &to(9, 1))), 9);
+    // a task's link to itself is not counted
+    let and_itself = |readers| [&[(0, 0, 1, 5)], &to(readers, 0)[..]].concat();
+    assert_eq!(refusal(&table(&[0; 16], &and_itself(8))), 0);
+    assert_eq!(refusal(&table(&[0; 16], &and_itself(9))), 9);
     for start_value in [1, 256, 1 << 16, 1 << 24, u32::MAX] {
         assert_eq!(refusal(&table(&[0; 16], &to(8, start_value))), 20);
         assert_eq!(refusal(&table(&[0; 2], &[(0, 1, 1, start_value), (1, 0, 1, start_value)])), 0);
@@ -533,6 +616,16 @@ fn the_long_example_is_written_and_replayed() {
     let a = replay(&bytes, &mut list);
     assert_eq!((a.refusal, a.place, list), (0, place, NUMBERS));
     assert_eq!(a.state, replay(&example(), &mut [0; 8]).state);
+}
+
+/// So is a task that reads its own last output.
+#[test]
+fn a_link_to_itself_is_written_and_replayed() {
+    let bytes = record(&filter_table(), &filter_events());
+    let (defaults, links, events) = numbers(&filter_table(), &filter_events());
+    assert_eq!(written(&defaults, &links, &events, bytes.len()), (0, bytes.len(), bytes));
+    assert_eq!(written(&defaults, &[0, 0, 0, 0], &events, 100), (5, 7, vec![]));
+    assert_eq!(written(&defaults, &[0, 0, 2, 0], &events, 100), (6, 7, vec![]));
 }
 
 /// Every number of the example in turn, replaced by those that a field can't hold: never cut, and refused unless it is a value, as the start
