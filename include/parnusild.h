@@ -51,7 +51,7 @@ struct parnusild_table {
     uint32_t defaults[PARNUSILD_TASKS];
     uint8_t writer[PARNUSILD_LINKS];
     uint8_t reader[PARNUSILD_LINKS];
-    uint8_t kind[PARNUSILD_LINKS];         /* 0 direct, 1 delayed */
+    uint8_t kind[PARNUSILD_LINKS];         /* 0 direct, 1 delayed; from a task to itself always 1 */
     uint32_t start_value[PARNUSILD_LINKS]; /* what a delayed link reads at first; 0 for a direct one */
 };
 
@@ -115,9 +115,9 @@ uint8_t parnusild_event(uint8_t kind, uint32_t which, uint32_t value, uint32_t *
 /* The fresh state of a table, put into the parts lent from `tasks` on: both `newest` and `previous` at 1, every position holding the
  * task's default, every pointer absent, no mark, every task idle and without arrivals. Answers 0, or the refusal that the table earns: 2 the
  * count of tasks is 0 or above 16; 3 the count of links is above 32; else of the first link at fault, in rising order, 4 it names no task of
- * the table; 5 its writer is its reader; 6 its kind is neither 0 nor 1; 7 a direct link to a reader ahead; 8 its writer has an earlier link
- * to its reader; 9 it is the writer's ninth link to a reader behind; 20 a direct link whose start value isn't 0. On a refusal the state is
- * the fresh one of a single task with default 0 and no links. */
+ * the table; 5 a direct link from a task to itself; 6 its kind is neither 0 nor 1; 7 a direct link to a reader ahead; 8 its writer has an
+ * earlier link to its reader; 9 it is the writer's ninth link to a reader behind; 20 a direct link whose start value isn't 0. On a refusal
+ * the state is the fresh one of a single task with default 0 and no links. */
 uint8_t parnusild_fresh(size_t table_tasks, size_t table_links, const uint32_t *table_defaults, const uint8_t *table_writer,
                         const uint8_t *table_reader, const uint8_t *table_kind, const uint32_t *table_start_value,
                         size_t *tasks, size_t *links, uint8_t *control, uint32_t *values);
@@ -193,7 +193,8 @@ static inline uint8_t parnusild_state_read(struct parnusild_state *PARNUSILD_RES
 }
 
 /* Finish: the value goes to the task's `newest` position; pointers of links by which this task reads from writers ahead of it become
- * absent, and their marks go; the task is idle. Refusals: 19; 12 not in the table; 15 it isn't running; 16 a more urgent task is active. */
+ * absent, and their marks go, those from writers behind it and from itself stay; the task is idle. Refusals: 19; 12 not in the table;
+ * 15 it isn't running; 16 a more urgent task is active. */
 static inline uint8_t parnusild_state_finish(struct parnusild_state *state, uint32_t task, uint32_t value)
 {
     uint32_t number;

@@ -45,7 +45,7 @@ module _ (ahead : ℕ → ℕ → Bool) where
     unfoldable pub fault : ℕ → ℕ
     fault l = faultAfter T link l (link l)
 
-    -- link l obeys the rules 4 to 9 (5 and 7 of a direct link: a task may read its own last output by a delayed one), and 20: "a direct link must carry 0 there"
+    -- link l obeys the rules 4 to 9, of which 5 and 7 are those of direct links, and 20: "a direct link must carry 0 there"
     pub record Obeys (l : ℕ) : Type 0 where
       pub writer : link l .writer < T
       pub reader : link l .reader < T

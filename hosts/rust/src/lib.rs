@@ -30,7 +30,7 @@ pub struct Table {
     pub defaults: [u32; TASKS],
     pub writer: [u8; LINKS],
     pub reader: [u8; LINKS],
-    /// 0 direct, 1 delayed
+    /// 0 direct, 1 delayed; from a task to itself always 1
     pub kind: [u8; LINKS],
     /// what a delayed link reads at first; 0 for a direct one
     pub start_value: [u32; LINKS],
