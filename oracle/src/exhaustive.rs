@@ -7,15 +7,18 @@
 //! same futures. States are therefore kept with values renamed in the order
 //! they first appear, and a state already known is not entered again.
 
+mod tables;
+
 use std::collections::HashSet;
 
 use crate::engine::{Engine, FreshEngine, IDLE};
-use crate::format::{encode, Event, Link, Recording, Table, DELAYED, DIRECT};
+use crate::format::{encode, Event, Recording, Table};
 use crate::laws::sound_by_sentence;
 use crate::pointers::Pointers;
 use crate::subject::{remembered_alike, OneAnswer, Subject};
 use crate::writing::{Handover, Written};
 use crate::zero_time::ZeroTime;
+pub use tables::{explored_tables, self_links};
 
 #[derive(Clone, Copy, Default, Debug)]
 pub struct Visited {
@@ -254,38 +257,4 @@ pub fn explore(subject: &dyn Subject, table: &Table, most: usize) -> Result<Visi
     }
     let Search { nodes, transitions, written, .. } = search;
     Ok(Visited { states: nodes.len(), transitions, written, depth, closed: level.is_empty() })
-}
-
-/// Every table of three tasks with the given number of links, apart from the
-/// order of the links.
-pub fn three_task_tables(links: usize) -> Vec<Table> {
-    let choices = (0..27 * 8).map(chosen_links).filter(|chosen| chosen.len() == links);
-    choices.map(|links| Table { defaults: defaults(3), links }).collect()
-}
-
-/// The links that a code below 27 * 8 chooses: each pair behind is without,
-/// direct or delayed, each pair ahead is without or delayed.
-fn chosen_links(code: usize) -> Vec<Link> {
-    let behind = [(1, 0, 1), (3, 0, 2), (9, 1, 2)].map(|(digit, writer, reader)| match code / 8 / digit % 3 {
-        0 => None,
-        1 => Some(Link { writer, reader, kind: DIRECT, start_value: 0 }),
-        _ => Some(delayed(writer, reader)),
-    });
-    let ahead = [(0, 1, 0), (1, 2, 0), (2, 2, 1)].map(|(bit, writer, reader)| match code >> bit & 1 {
-        0 => None,
-        _ => Some(delayed(writer, reader)),
-    });
-    behind.into_iter().chain(ahead).flatten().collect()
-}
-
-/// With a start value that is no default, that no finish writes, and that
-/// differs from link to link.
-fn delayed(writer: u8, reader: u8) -> Link {
-    let start_value = u32::from_be_bytes([0xE0, 0, writer, reader]);
-    Link { writer, reader, kind: DELAYED, start_value }
-}
-
-/// Defaults that no finish writes and that differ from task to task.
-fn defaults(tasks: u32) -> Vec<u32> {
-    (0..tasks).map(|task| 0xD000_0000 + task).collect()
 }

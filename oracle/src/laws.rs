@@ -27,7 +27,7 @@ fn table_keeps_rules(state: &State, tasks: usize, links: usize) -> bool {
         let (writer, reader) = pair(l);
         let may_be_direct = reader > writer && state.start_value[l] == 0;
         let kind = state.kind[l];
-        writer < tasks && reader < tasks && writer != reader && (kind == 1 || kind == 0 && may_be_direct)
+        writer < tasks && reader < tasks && (kind == 1 || kind == 0 && may_be_direct)
     });
     let once = (0..links).all(|l| (0..links).all(|m| l == m || pair(l) != pair(m)));
     let eight = (0..tasks).all(|task| (0..links).filter(|l| pair(*l).0 == task && pair(*l).1 > task).count() <= 8);
@@ -44,7 +44,9 @@ fn pointers_lie(state: &State, tasks: usize, links: usize) -> bool {
             let (writer, reader) = (usize::from(state.writer[l]), usize::from(state.reader[l]));
             let absent = state.pointer[l] == 0;
             let idle = state.phase[reader] == IDLE;
-            (absent || lies(state.pointer[l], writer)) && (idle || !absent) && (!idle || writer > reader || absent)
+            // From a writer behind the reader, and from the reader itself.
+            let may_stay = writer >= reader;
+            (absent || lies(state.pointer[l], writer)) && (idle || !absent) && (!idle || may_stay || absent)
         })
 }
 
@@ -114,7 +116,7 @@ fn least_rule_broken(tasks: usize, earlier: &[u8], link: &[u8]) -> Option<u8> {
         (8, same_writer().any(|other| other[1] == reader)),
         (7, kind == 0 && reader < writer),
         (6, kind > 1),
-        (5, writer == reader),
+        (5, kind == 0 && reader == writer),
         (4, usize::from(writer.max(reader)) >= tasks),
     ];
     rules.iter().filter(|(_, broken)| *broken).map(|(rule, _)| *rule).min()

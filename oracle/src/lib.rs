@@ -1,7 +1,8 @@
 //! A second judge of the mailbox core and the recording reader, written from
-//! document 01 (the scope) and request 2026-02 (start values) alone; in
-//! `writing` one of the recording writer, and in `settings` one of the settings
-//! migrator, both from document 02 (the change requests).
+//! document 01 (the scope) and requests 2026-02 (start values) and 2026-04 (a
+//! task that reads its own last output) alone; in `writing` one of the recording
+//! writer, and in `settings` one of the settings migrator, both from document 02
+//! (the change requests).
 //!
 //! `format` reads recordings, `writing` writes them from numbers that are
 //! handed over, `pointers` and `zero_time` are two engines that know nothing of

@@ -3,7 +3,7 @@
 use crate::engine::IDLE;
 use crate::format::{Event, Link, Table, MOST_BEHIND, MOST_LINKS, MOST_TASKS};
 use crate::prng::Prng;
-use crate::random_table::{link_of_any_kind, random_table, value, Size};
+use crate::random_table::{link_of_any_kind, random_table, self_link, value, Size};
 use crate::schedule::Schedule;
 
 /// An event that may break a rule; out-of-range numbers come up in each kind.
@@ -55,14 +55,22 @@ pub fn competing_table(prng: &mut Prng) -> Table {
     table
 }
 
-/// Gives task 0 eight readers behind, where the table has that many.
+/// Gives task 0 a crowd of readers, where the table has that many tasks.
 fn crowd(prng: &mut Prng, table: &mut Table) {
     table.links.retain(|link| link.writer != 0);
-    let tasks = table.defaults.len();
-    for reader in 1..tasks.min(MOST_BEHIND + 1) {
-        table.links.push(link_of_any_kind(prng, 0, reader as u8));
-    }
+    let behind = (table.defaults.len() - 1).min(MOST_BEHIND);
+    table.links.extend(crowd_of_links(prng, behind));
     table.links.truncate(MOST_LINKS);
+}
+
+/// Links of task 0 to so many readers behind, and half the time one to itself
+/// anywhere among them, which does not count as one of those.
+pub fn crowd_of_links(prng: &mut Prng, behind: usize) -> Vec<Link> {
+    let mut links: Vec<Link> = (1..=behind as u8).map(|reader| link_of_any_kind(prng, 0, reader)).collect();
+    if prng.chance(50) {
+        links.insert(prng.below(links.len() + 1), self_link(prng, 0));
+    }
+    links
 }
 
 fn nasty_link(prng: &mut Prng, tasks: usize, earlier: &[Link]) -> Link {
@@ -74,6 +82,9 @@ fn nasty_link(prng: &mut Prng, tasks: usize, earlier: &[Link]) -> Link {
     if prng.chance(40) {
         link.writer = 0;
         link.reader = prng.below(tasks + 1) as u8;
+    }
+    if prng.chance(15) {
+        link.reader = link.writer;
     }
     if !earlier.is_empty() && prng.chance(30) {
         let old = prng.pick(earlier);

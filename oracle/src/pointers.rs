@@ -123,6 +123,8 @@ pub fn one_more(seen: u8) -> u8 {
 
 /// The lowest position that is neither `previous` nor the pointer of one of
 /// the task's links to readers behind. N + 1 of N + 2 can be taken at most.
+/// The pointer of a task's link to itself protects nothing: the task was idle,
+/// and this arrival sets that pointer anew.
 fn lowest_free(state: &State, task: usize) -> u8 {
     let positions = state.positions(task) as u8;
     let taken = |position: u8| position == state.previous[task] || pointed_at(state, task, position, |_| true);
@@ -170,7 +172,8 @@ fn finish(state: &mut State, task: usize, value: u32) {
 }
 
 /// Pointers from writers ahead of the task become absent, and their marks go
-/// with them; the others stay.
+/// with them; those from writers behind it stay, and so does the one from the
+/// task itself.
 pub fn free_pointers(state: &mut State, task: usize) {
     for number in 0..usize::from(state.links) {
         let link = state.link(number);

@@ -79,13 +79,14 @@ pub fn command() -> i32 {
 /// not show.
 fn write_all(folder: &Path) -> std::io::Result<Vec<String>> {
     let mut all = String::new();
-    let mut marked = 0;
+    let (mut marked, mut of_self_links) = (0, 0);
     for (number, mut bytes) in recordings().into_iter().enumerate() {
         bytes.truncate(MOST_BYTES + 1);
         let answer = Oracle.replay(&bytes, &[0; MOST_EVENTS]);
         let read = printout(&bytes, answer.refusal, answer.place, answer.counts, &answer.list);
         let inspected = inspected(&answer);
         marked += usize::from(inspected.contains(" mark\n"));
+        of_self_links += answer.state.self_links_of(u16::MAX).filter(|l| answer.state.pointer[*l] != ABSENT).count();
         let named = |program: &str| folder.join(format!("{:03}.{}", number, program));
         fs::write(named("replay"), &read)?;
         fs::write(named("inspect"), &inspected)?;
@@ -94,6 +95,7 @@ fn write_all(folder: &Path) -> std::io::Result<Vec<String>> {
     }
     let mut missing = Vec::new();
     at_least(&mut missing, "recordings that end with a mark", marked, OFTEN);
+    at_least(&mut missing, "pointers of self links at the end of a recording", of_self_links, OFTEN);
     for words in ["read ", "accepted ", "refused ", " had 0\n", " had 1\n", " had 2\n", " absent\n"] {
         at_least(&mut missing, &format!("{:?} printed", words), all.matches(words).count(), OFTEN);
     }

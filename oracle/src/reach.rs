@@ -1,12 +1,14 @@
 //! What the inputs reached, to show that they go deep, and what the default
 //! run has to reach.
 
+mod self_links;
 mod start_values;
 
 use crate::engine::RUNNING;
-use crate::format::{MOST_BYTES, MOST_TASKS};
-use crate::state::{State, MOST_POSITIONS};
-use crate::subject::Answer;
+use crate::format::{Event, Link, MOST_BYTES, MOST_TASKS};
+use crate::state::{broken_clauses, Clause, State, MOST_POSITIONS};
+use crate::subject::{Answer, OneAnswer};
+use self_links::SelfLinks;
 use start_values::StartValues;
 
 /// So many states a published check went through, of the two-task low-to-high
@@ -26,7 +28,8 @@ const OF_WRITING: [usize; 19] = [0, 1, 2, 3, 4, 5, 6, 7, 8, 9, 10, 11, 12, 13, 1
 #[derive(Default)]
 pub struct Reach {
     pub refusals: Refusals,
-    pub start_values: StartValues,
+    start_values: StartValues,
+    self_links: SelfLinks,
     most_active: usize,
     most_running: usize,
     highest_position: u8,
@@ -34,13 +37,49 @@ pub struct Reach {
 }
 
 impl Reach {
+    /// A whole recording.
     pub fn note(&mut self, bytes: &[u8], answer: &Answer) {
         self.refusals[usize::from(answer.refusal)] += 1;
         self.longest = self.longest.max(bytes.len());
         self.note_state(&answer.state);
+        if answer.refusal == 5 {
+            self.self_links.note_recording_refused(bytes, answer.place);
+        }
     }
 
-    pub fn note_state(&mut self, state: &State) {
+    /// One event given to a saved state.
+    pub fn note_one(&mut self, state: &State, event: Event, answer: &OneAnswer) {
+        self.refusals[usize::from(answer.refusal)] += 1;
+        match answer.refusal {
+            19 if broken_clauses(state) == [Clause::DirectToItself] => self.self_links.note_state_refused(state),
+            19 => {}
+            refusal => {
+                self.note_state(state);
+                self.note_table(&state.link_list());
+                if refusal == 0 {
+                    self.note_event(state, event, &answer.state);
+                }
+            }
+        }
+    }
+
+    /// The links of a possible recording or of a sound state.
+    pub fn note_table(&mut self, links: &[Link]) {
+        self.self_links.note_table(links);
+    }
+
+    /// An accepted event, with the states before and after it.
+    pub fn note_event(&mut self, before: &State, event: Event, after: &State) {
+        self.start_values.note(before, event, after);
+        self.self_links.note(before, event, after);
+    }
+
+    /// What became of start values and of self links, each with its name.
+    fn counts(&self) -> impl Iterator<Item = (&'static str, usize)> {
+        self.start_values.counts().into_iter().chain(self.self_links.counts())
+    }
+
+    fn note_state(&mut self, state: &State) {
         let tasks = usize::from(state.tasks).min(MOST_TASKS);
         let active = (0..tasks).filter(|task| state.active(*task)).count();
         let running = state.phase[..tasks].iter().filter(|phase| **phase == RUNNING).count();
@@ -82,7 +121,7 @@ impl Reached {
         print_refusals("refusals of writing:   ", &self.writing, &OF_WRITING);
         println!("  recordings written again {}, refused alike {}", self.written_again, self.refused_alike);
         println!("in possible recordings, and of one event:");
-        let both = self.recordings.start_values.counts().into_iter().zip(self.events.start_values.counts());
+        let both = self.recordings.counts().zip(self.events.counts());
         both.for_each(|((what, recordings), (_, events))| println!("  {:<60} {:>8} {:>8}", what, recordings, events));
     }
 
@@ -99,7 +138,7 @@ impl Reached {
             at_least(&mut missing, &format!("tasks running at once in {}", place), reach.most_running, MOST_TASKS);
             let highest = usize::from(reach.highest_position);
             at_least(&mut missing, &format!("positions of a task in {}", place), highest, MOST_POSITIONS);
-            for (what, count) in reach.start_values.counts() {
+            for (what, count) in reach.counts() {
                 at_least(&mut missing, &format!("{} in {}", what, place), count, 100);
             }
         }

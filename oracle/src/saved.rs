@@ -1,14 +1,17 @@
 //! Saved states: sound ones from random histories, and spoiled ones.
 
+mod self_links;
+
 use crate::engine::{Engine, FreshEngine, IDLE, RUNNING};
-use crate::format::{Event, Link, Table, DELAYED};
-use crate::nasty::nasty_event;
+use crate::format::{Event, Link, Table, DELAYED, MOST_BEHIND};
+use crate::nasty::{crowd_of_links, nasty_event};
 use crate::pointers::Pointers;
 use crate::prng::Prng;
-use crate::random_table::{link_of_any_kind, random_table, Size};
+use crate::random_table::{random_table, Size};
 use crate::schedule::{random_events, Schedule};
 use crate::state::{State, ABSENT, MOST_CELLS, MOST_POSITIONS};
 use crate::zero_time::ZeroTime;
+use self_links::self_link_changed;
 
 /// A state with the history that led to it, as the zero-time run knows it.
 pub struct Saved {
@@ -66,10 +69,10 @@ pub fn event_for(prng: &mut Prng, state: &State, saved: &Saved) -> Event {
     let links = usize::from(state.links).min(32);
     let top_links: Vec<u8> =
         (0..links).filter(|l| Some(usize::from(state.reader[*l])) == top).map(|l| l as u8).collect();
-    match prng.below(4) {
+    match prng.below(5) {
         0 => Event::Arrival(idle & prng.word() as u16),
-        1 if !top_links.is_empty() => Event::Read(prng.pick(&top_links)),
-        2 => Event::Start(top.unwrap_or(0) as u8),
+        1 | 2 if !top_links.is_empty() => Event::Read(prng.pick(&top_links)),
+        3 => Event::Start(top.unwrap_or(0) as u8),
         _ => Event::Finish(top.unwrap_or(0) as u8, prng.word()),
     }
 }
@@ -168,10 +171,12 @@ fn with_field(state: &State, field: Field, value: u32) -> State {
 }
 
 /// Spoiled in many ways: now and then every field in turn, always arrivals and
-/// marks, some fields at once, and states that owe nothing to the sound one.
+/// marks, self links, some fields at once, and states that owe nothing to the
+/// sound one.
 pub fn spoiled(prng: &mut Prng, sound: &State) -> Vec<State> {
     let mut states = if prng.chance(2) { every_field_spoiled(prng, sound) } else { Vec::new() };
     states.extend((0..4).map(|_| arrivals_or_mark_changed(prng, sound)));
+    states.extend((0..4).map(|_| self_link_changed(prng, sound)));
     states.extend((0..20).map(|_| randomly_spoiled(prng, sound)));
     states.push(any_bytes(prng));
     states.push(crowded(prng));
@@ -239,19 +244,20 @@ fn randomly_spoiled(prng: &mut Prng, sound: &State) -> State {
     state
 }
 
-/// Task 0 has eight links to readers behind; a link of task 1 is turned into
-/// its ninth, or the count of links is taken past such a slot.
+/// Task 0 has eight links to readers behind, and perhaps one to itself; a link
+/// of task 1 is turned into its ninth, or the count of links is taken past such
+/// a slot.
 fn crowded(prng: &mut Prng) -> State {
     let tasks = prng.between(10, 16) as u8;
-    let mut links: Vec<Link> = (1..=8).map(|reader| link_of_any_kind(prng, 0, reader)).collect();
-    let at = prng.below(9);
+    let mut links = crowd_of_links(prng, MOST_BEHIND);
+    let at = prng.below(links.len() + 1);
     let reader = prng.between(9, usize::from(tasks) - 1) as u8;
     links.insert(at, Link { writer: 1, reader, kind: DELAYED, start_value: prng.word() });
     let defaults = (0..tasks).map(|_| prng.word()).collect();
     let mut state = from_history_of(prng, Table { defaults, links }).state;
     state.writer[at] = prng.pick(&[0, 0, 0, 2]);
     if prng.chance(30) {
-        state.links = 8;
+        state.links -= 1;
     }
     state
 }

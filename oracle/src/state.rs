@@ -81,6 +81,18 @@ impl State {
         Link::of([self.writer[number], self.reader[number], self.kind[number]], self.start_value[number])
     }
 
+    /// All links, of a count within the limit.
+    pub fn link_list(&self) -> Vec<Link> {
+        (0..usize::from(self.links)).map(|number| self.link(number)).collect()
+    }
+
+    /// The self links of the tasks in a set. The links must name tasks of the
+    /// table.
+    pub fn self_links_of(&self, set: u16) -> impl Iterator<Item = usize> + '_ {
+        let in_set = move |number: &usize| self.link(*number).to_itself() && set >> self.reader[*number] & 1 == 1;
+        (0..usize::from(self.links)).filter(in_set)
+    }
+
     /// N + 2 of a task. The links must name tasks of the table.
     pub fn positions(&self, task: usize) -> usize {
         let behind = |number: &usize| {
@@ -111,7 +123,7 @@ pub enum Clause {
     Tasks,
     Links,
     NamesNoTask,
-    WriterIsReader,
+    DirectToItself,
     Kind,
     DirectAhead,
     SecondToReader,
@@ -138,7 +150,7 @@ pub const CLAUSES: [Clause; 21] = [
     Clause::Tasks,
     Clause::Links,
     Clause::NamesNoTask,
-    Clause::WriterIsReader,
+    Clause::DirectToItself,
     Clause::Kind,
     Clause::DirectAhead,
     Clause::SecondToReader,
@@ -165,7 +177,7 @@ impl Clause {
             Clause::Tasks => Some(2),
             Clause::Links => Some(3),
             Clause::NamesNoTask => Some(4),
-            Clause::WriterIsReader => Some(5),
+            Clause::DirectToItself => Some(5),
             Clause::Kind => Some(6),
             Clause::DirectAhead => Some(7),
             Clause::SecondToReader => Some(8),
@@ -191,15 +203,13 @@ pub fn sound(state: &State) -> bool {
 
 fn table_clause(state: &State) -> Option<Clause> {
     let tasks = usize::from(state.tasks);
-    let links = usize::from(state.links);
     if tasks == 0 || tasks > MOST_TASKS {
         return Some(Clause::Tasks);
     }
-    if links > MOST_LINKS {
+    if usize::from(state.links) > MOST_LINKS {
         return Some(Clause::Links);
     }
-    let links: Vec<Link> = (0..links).map(|number| state.link(number)).collect();
-    let refusal = link_faults(tasks, &links, link_refusal).next()?;
+    let refusal = link_faults(tasks, &state.link_list(), link_refusal).next()?;
     CLAUSES.iter().copied().find(|clause| clause.table_refusal() == Some(refusal))
 }
 

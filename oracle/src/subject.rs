@@ -3,7 +3,7 @@
 //! behind this trait; the crate `judge` links the proved library behind it.
 
 use crate::engine::{Engine, FreshEngine};
-use crate::format::{replay, Counts, Event, Reading};
+use crate::format::{replay, Counts, Event, Reading, Table};
 use crate::pointers::{judge, Pointers};
 use crate::state::{sound, State};
 use crate::tables::LentTable;
@@ -67,10 +67,7 @@ impl Subject for Oracle {
     }
 
     fn fresh(&self, table: &LentTable) -> Made {
-        match table.judged() {
-            Ok(table) => Made { refusal: 0, state: State::fresh(&table) },
-            Err(refusal) => Made { refusal, state: State::single() },
-        }
+        made_of(table.judged())
     }
 
     fn one_event(&self, state: &State, event: Event) -> OneAnswer {
@@ -83,6 +80,14 @@ impl Subject for Oracle {
 
     fn write(&self, handover: &Handover, buffer: &mut [u8]) -> Written {
         write(&handover.defaults, &handover.links, &handover.events, buffer)
+    }
+}
+
+/// What a table that was judged makes.
+pub fn made_of(judged: Result<Table, u8>) -> Made {
+    match judged {
+        Ok(table) => Made { refusal: 0, state: State::fresh(&table) },
+        Err(refusal) => Made { refusal, state: State::single() },
     }
 }
 

@@ -1,7 +1,7 @@
 //! Tables as a host lends them, and the ones that get tried: lawful ones,
 //! every single fault, faults that compete, and counts outside the limits.
 
-use crate::format::{link_faults, link_refusal, Link, Table, MOST_LINKS, MOST_TASKS};
+use crate::format::{link_faults, link_refusal, Link, LinkRule, Table, MOST_LINKS, MOST_TASKS};
 use crate::nasty::competing_table;
 use crate::prng::Prng;
 use crate::random_table::{random_table, Size};
@@ -66,6 +66,11 @@ impl LentTable {
     /// The table, or the first of 2 to 9 and 20 that it breaks: the counts,
     /// then link by link.
     pub fn judged(&self) -> Result<Table, u8> {
+        self.judged_by(link_refusal)
+    }
+
+    /// The same, with the links judged by another rule.
+    pub fn judged_by(&self, rule: LinkRule) -> Result<Table, u8> {
         if self.tasks == 0 || self.tasks > MOST_TASKS {
             return Err(2);
         }
@@ -73,7 +78,7 @@ impl LentTable {
             return Err(3);
         }
         let table = self.as_it_stands();
-        let fault = link_faults(self.tasks, &table.links, link_refusal).next();
+        let fault = link_faults(self.tasks, &table.links, rule).next();
         fault.map_or(Ok(table), Err)
     }
 

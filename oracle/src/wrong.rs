@@ -4,12 +4,13 @@ mod engine;
 mod flaws;
 mod marks;
 mod reader;
+mod self_links;
 mod soundness;
 mod tables;
 mod writer;
 
 use crate::engine::Engine;
-use crate::format::{replay, Event, Table};
+use crate::format::{replay_by, Event, Table};
 use crate::state::State;
 use crate::subject::{answer_of, one_event_with, Answer, Made, OneAnswer, Oracle, Subject};
 use crate::tables::LentTable;
@@ -18,7 +19,7 @@ use engine::WrongEngine;
 pub use flaws::{in_handovers, in_recordings, in_saved_states, in_tables, Flaw};
 use reader::{distorted, with_other_first_byte};
 use soundness::{too_mild, too_strict};
-use tables::distorted_table;
+use tables::{distorted_table, link_rule};
 use writer::wrong_write;
 
 pub struct Wrong {
@@ -35,7 +36,7 @@ impl Subject for Wrong {
             return answer;
         }
         let make = |table: &Table| WrongEngine::new(self.flaw, wrong_fresh(self.flaw, table));
-        let answer = answer_of(replay(bytes, lent, make), |engine| engine.state);
+        let answer = answer_of(replay_by(link_rule(self.flaw), bytes, lent, make), |engine| engine.state);
         distorted(self.flaw, bytes, answer)
     }
 

@@ -3,7 +3,9 @@
 //! A task's n-th arrival produces its n-th output at once. A direct read gets
 //! the output of the writer's last arrival up to and including the reader's
 //! own, the writer's default where there is none; a delayed one the output
-//! before that, the link's start value where there is none.
+//! before that, the link's start value where there is none. Of a task that
+//! reads its own output, that last arrival is the reader's own, so it reads the
+//! output of its run before.
 
 use crate::engine::{Engine, FreshEngine, IDLE, RUNNING, WAITING};
 use crate::format::{Event, Table, DIRECT};

@@ -1,4 +1,5 @@
-//! The document's own examples, with the bytes and places of request 2026-02.
+//! The document's own examples, with the bytes and places of request 2026-02
+//! and the delayed link from a task to itself of request 2026-04.
 
 use oracle::engine::{Engine, FreshEngine};
 use oracle::example::long_example;
@@ -188,10 +189,13 @@ fn links_ahead_to_itself_and_of_kind_2() {
     assert_eq!(verdict_of(2, &[link(1, 0, 0)], &[]), (7, 11));
     assert_eq!(verdict_of(2, &[link(1, 0, 1)], &[]), (0, 20));
     assert_eq!(verdict_of(2, &[link(0, 0, 0)], &[]), (5, 11));
+    assert_eq!(verdict_of(2, &[link(0, 0, 1)], &[]), (0, 20));
     assert_eq!(verdict_of(2, &[link(0, 1, 2)], &[]), (6, 11));
-    // Rising order: no task (4), itself (5), kind (6), direct ahead (7), second (8).
+    // Rising order: no task (4), direct to itself (5), kind (6), direct ahead (7), second (8).
+    assert_eq!(verdict_of(2, &[link(2, 2, 0)], &[]), (4, 11));
     assert_eq!(verdict_of(2, &[link(2, 2, 2)], &[]), (4, 11));
-    assert_eq!(verdict_of(2, &[link(1, 1, 2)], &[]), (5, 11));
+    assert_eq!(verdict_of(2, &[link(1, 1, 1), link(1, 1, 0)], &[]), (5, 18));
+    assert_eq!(verdict_of(2, &[link(1, 1, 2)], &[]), (6, 11));
     assert_eq!(verdict_of(2, &[link(1, 0, 2)], &[]), (6, 11));
     assert_eq!(verdict_of(2, &[link(1, 0, 1), link(1, 0, 0)], &[]), (7, 18));
     assert_eq!(verdict_of(2, &[link(0, 1, 1), link(0, 1, 0)], &[]), (8, 18));
@@ -216,7 +220,9 @@ fn a_lent_table_is_judged_count_by_count_and_link_by_link() {
         assert_eq!(refusal(&LentTable { links, ..lawful.clone() }), 3);
     }
     assert_eq!(refusal(&lent(2, &[link(2, 2, 2)])), 4);
-    assert_eq!(refusal(&lent(2, &[link(1, 1, 2)])), 5);
+    assert_eq!(refusal(&lent(2, &[link(1, 1, 0)])), 5);
+    assert_eq!(refusal(&lent(2, &[link(1, 1, 1)])), 0);
+    assert_eq!(refusal(&lent(2, &[link(1, 1, 2)])), 6);
     assert_eq!(refusal(&lent(2, &[link(1, 0, 2)])), 6);
     assert_eq!(refusal(&lent(2, &[link(1, 0, 1), link(1, 0, 0)])), 7);
     assert_eq!(refusal(&lent(2, &[link(0, 1, 1), link(0, 1, 0)])), 8);

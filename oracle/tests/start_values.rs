@@ -1,57 +1,15 @@
 //! Request 2026-02, a delayed link has its own start value: cases worked out
 //! by hand.
 
-use oracle::engine::{Engine, FreshEngine};
-use oracle::format::{encode, Event, Link, Recording, Table};
-use oracle::pointers::Pointers;
-use oracle::state::{broken_clauses, sound, Clause, State};
-use oracle::subject::{disagreement, zero_time_reading, Made, Oracle, Subject};
-use oracle::tables::LentTable;
+mod common;
+
+use common::{delayed, direct, numbers, state_after, table, verdict, verdict_on_links};
+use oracle::format::{encode, Event, Link, Recording};
+use oracle::state::{broken_clauses, Clause, State};
+use oracle::subject::{Oracle, Subject};
 use Event::{Arrival as A, Finish as F, Read as R, Start as S};
 
 const SMALLEST: [u8; 9] = [253, 1, 0, 0, 0, 0, 0, 0, 0];
-
-fn direct(writer: u8, reader: u8) -> Link {
-    Link::of([writer, reader, 0], 0)
-}
-
-fn delayed(writer: u8, reader: u8, start_value: u32) -> Link {
-    Link::of([writer, reader, 1], start_value)
-}
-
-/// Tasks with the defaults 1000, 1001 and so on.
-fn table(tasks: u32, links: &[Link]) -> Table {
-    Table { defaults: (1000..1000 + tasks).collect(), links: links.to_vec() }
-}
-
-/// The numbers read, by the pointers and by the run that takes no time.
-fn numbers(table: &Table, events: &[Event]) -> Vec<u32> {
-    let bytes = encode(&Recording { table: table.clone(), events: events.to_vec() });
-    let lent = vec![7; events.len()];
-    let answer = Oracle.replay(&bytes, &lent);
-    assert_eq!(disagreement(&answer, &zero_time_reading(&bytes, &lent)), None);
-    assert_eq!(answer.refusal, 0);
-    answer.list[..answer.counts.reads as usize].to_vec()
-}
-
-fn verdict(bytes: &[u8]) -> (u8, usize) {
-    let answer = Oracle.replay(bytes, &[]);
-    assert_eq!(disagreement(&answer, &zero_time_reading(bytes, &[])), None);
-    if matches!(answer.refusal, 2 | 20) {
-        assert_eq!(answer.state, State::single());
-    }
-    (answer.refusal, answer.place)
-}
-
-fn state_after(table: &Table, events: &[Event]) -> State {
-    let mut engine = Pointers::fresh(table);
-    for &event in events {
-        assert_eq!(engine.judge(event), 0);
-        engine.apply(event);
-        assert!(sound(&engine.state));
-    }
-    engine.state
-}
 
 // ------------------------------------------------------------------- bytes
 
@@ -85,14 +43,7 @@ fn a_link_has_seven_bytes() {
 
 #[test]
 fn a_direct_link_with_a_start_value_is_20_after_9() {
-    let with = |tasks: u32, links: &[Link]| {
-        let table = table(tasks, links);
-        let made = Oracle.fresh(&LentTable::of(&table));
-        let (refusal, place) = verdict(&encode(&Recording { table, events: Vec::new() }));
-        assert_eq!(made.refusal, refusal);
-        assert!(refusal == 0 || made == Made { refusal, state: State::single() });
-        (refusal, place)
-    };
+    let with = verdict_on_links;
     let started = |writer: u8, reader: u8, kind: u8| Link::of([writer, reader, kind], 1);
     assert_eq!(with(2, &[started(0, 1, 0)]), (20, 11));
     assert_eq!(with(2, &[started(0, 1, 1)]), (0, 20));

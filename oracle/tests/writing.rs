@@ -1,5 +1,5 @@
-//! A recording written from numbers, by requests 2026-01 and 2026-02: handovers
-//! and answers worked out by hand.
+//! A recording written from numbers, by requests 2026-01, 2026-02 and 2026-04:
+//! handovers and answers worked out by hand.
 
 use oracle::example::long_example;
 use oracle::format::{encode, Fault};
@@ -200,7 +200,9 @@ fn the_rules_of_links_in_rising_order() {
     assert_eq!(with_links(&[2, 2, 2, 1]), (4, AT_LINK));
     assert_eq!(with_links(&[0, 2, 0, 1]), (4, AT_LINK));
     assert_eq!(with_links(&[2, 0, 1, 1]), (4, AT_LINK));
-    assert_eq!(with_links(&[1, 1, 2, 1]), (5, AT_LINK));
+    assert_eq!(with_links(&[1, 1, 0, 1]), (5, AT_LINK));
+    assert_eq!(with_links(&[1, 1, 1, 1]), (0, AT_EVENTS));
+    assert_eq!(with_links(&[1, 1, 2, 1]), (6, AT_LINK));
     assert_eq!(with_links(&[1, 0, 2, 1]), (6, AT_LINK));
     assert_eq!(with_links(&[1, 0, 0, 1]), (7, AT_LINK));
     assert_eq!(with_links(&[1, 0, 1, 1]), (0, AT_EVENTS));
@@ -299,7 +301,7 @@ fn no_number_is_cut_to_its_field() {
         assert_eq!(with_links(&[0, number, 0, 0]), (4, AT_LINK));
         assert_eq!(with_links(&[number, number, number, number]), (4, AT_LINK));
         assert_eq!(with_links(&[0, 1, number, 0]), (6, AT_LINK));
-        assert_eq!(with_links(&[1, 1, number, 0]), (5, AT_LINK));
+        assert_eq!(with_links(&[1, 1, number, 0]), (6, AT_LINK));
         assert_eq!(with_links(&[0, 1, 0, number]), (20, AT_LINK));
         assert_eq!(with_events(&[number]), (11, AT_EVENTS));
         assert_eq!(with_events(&[1, number]), (12, AT_EVENTS));

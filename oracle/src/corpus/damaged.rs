@@ -4,7 +4,7 @@
 use std::rc::Rc;
 
 use super::{Case, Origin};
-use crate::example::long_example;
+use crate::example::example;
 use crate::format::{
     encode, place_of_event_count, place_of_link_count, Recording, FIRST_BYTE, MOST_BYTES, MOST_EVENTS,
 };
@@ -13,8 +13,8 @@ use crate::random_table::{random_table, Size};
 use crate::schedule::{random_events, random_recording, reads};
 
 pub fn small_or_example(prng: &mut Prng, number: usize) -> Rc<Recording> {
-    if number == 0 {
-        return Rc::new(long_example());
+    if let Some(example) = example(number) {
+        return Rc::new(example);
     }
     let table = random_table(prng, Size::Small);
     let count = prng.between(6, 14);

@@ -5,7 +5,7 @@ use std::rc::Rc;
 use super::{Case, Origin};
 use crate::format::{encode, Event, Link, Recording, Table, DELAYED, MOST_BEHIND, MOST_EVENTS, MOST_TASKS};
 use crate::prng::Prng;
-use crate::random_table::{random_table, Size};
+use crate::random_table::{all_read_themselves, random_table, Size};
 use crate::schedule::{random_events, random_recording, reads};
 
 fn valid_case(prng: &mut Prng, recording: Recording) -> Case {
@@ -18,33 +18,31 @@ pub fn valid(prng: &mut Prng, size: Size, most: usize) -> Case {
     valid_case(prng, recording)
 }
 
-/// Up to 10,000 events; each third one has exactly that many. The first two
-/// have the largest table, and one of them the most bytes that can be accepted.
+/// Up to 10,000 events; each third one has exactly that many. The first three
+/// have the largest tables: with the most readers behind, twice, the second time
+/// with the most bytes that can be accepted; and with a self link of every task.
 pub fn valid_long(prng: &mut Prng, number: usize) -> Case {
-    if number < 2 {
-        return largest(prng, number == 1);
-    }
-    let table = random_table(prng, if number % 4 == 0 { Size::Any } else { Size::Limit });
-    let count = if number % 3 == 0 { MOST_EVENTS } else { prng.between(1_000, MOST_EVENTS) };
-    let (events, _) = random_events(prng, &table, count);
+    let table = match number {
+        0 | 1 => crowded_table(prng),
+        2 => all_read_themselves(prng),
+        n => random_table(prng, if n % 4 == 0 { Size::Any } else { Size::Limit }),
+    };
+    let count = if number == 2 || number % 3 == 0 { MOST_EVENTS } else { prng.between(1_000, MOST_EVENTS) };
+    let events = if number == 1 { most_bytes() } else { random_events(prng, &table, count).0 };
     valid_case(prng, Recording { table, events })
 }
 
-/// Sixteen tasks, 32 links, 10,000 events. With everything arriving at once
-/// and no reads, the share of finishes, the longest records, is greatest.
-fn largest(prng: &mut Prng, most_bytes: bool) -> Case {
-    let defaults = (0..MOST_TASKS).map(|_| prng.word()).collect();
-    let table = Table { defaults, links: crowded_links() };
-    let events = if most_bytes {
-        let mut round = vec![Event::Arrival(u16::MAX)];
-        round.extend(
-            (0..MOST_TASKS as u8).flat_map(|task| [Event::Start(task), Event::Finish(task, u32::from(task) + 1)]),
-        );
-        round.into_iter().cycle().take(MOST_EVENTS).collect()
-    } else {
-        random_events(prng, &table, MOST_EVENTS).0
-    };
-    valid_case(prng, Recording { table, events })
+/// With everything arriving at once and no reads, the share of finishes, the
+/// longest records, is greatest.
+fn most_bytes() -> Vec<Event> {
+    let mut round = vec![Event::Arrival(u16::MAX)];
+    round.extend((0..MOST_TASKS as u8).flat_map(|task| [Event::Start(task), Event::Finish(task, u32::from(task) + 1)]));
+    round.into_iter().cycle().take(MOST_EVENTS).collect()
+}
+
+/// Sixteen tasks and 32 links.
+fn crowded_table(prng: &mut Prng) -> Table {
+    Table { defaults: (0..MOST_TASKS).map(|_| prng.word()).collect(), links: crowded_links() }
 }
 
 /// Four writers with eight readers behind each, direct and delayed in turn.

@@ -2,7 +2,7 @@
 //! room.
 
 use super::Lent;
-use crate::example::long_example;
+use crate::example::example;
 use crate::format::Recording;
 use crate::prng::Prng;
 use crate::random_table::{random_table, Size};
@@ -10,8 +10,8 @@ use crate::schedule::random_events;
 use crate::writing::Handover;
 
 pub fn small_or_example(prng: &mut Prng, number: usize) -> Handover {
-    if number == 0 {
-        return Handover::of(&long_example());
+    if let Some(example) = example(number) {
+        return Handover::of(&example);
     }
     let table = random_table(prng, Size::Small);
     let count = prng.between(4, 12);

@@ -9,6 +9,8 @@ pub fn limits() -> Vec<Lent> {
     let mut handovers = task_counts();
     handovers.extend(link_counts());
     handovers.extend(readers_behind());
+    handovers.extend(self_links());
+    handovers.extend(all_read_themselves());
     handovers.extend(event_counts());
     handovers.extend(longest());
     handovers.extend((1..=MOST_TASKS as u32).flat_map(named_tasks));
@@ -62,7 +64,6 @@ fn link(number: usize) -> [u32; LINK_NUMBERS] {
 /// reader, and begun.
 fn readers_behind() -> Vec<Handover> {
     let ahead: Vec<u32> = (0..3).flat_map(|reader| [3, reader, 1, reader]).collect();
-    let behind = |count: u32| (4..4 + count).flat_map(|reader| [3, reader, reader % 2, 0]).collect::<Vec<u32>>();
     let slices = [
         [&ahead[..], &behind(7)].concat(),
         [&ahead[..], &behind(8)].concat(),
@@ -77,7 +78,63 @@ fn readers_behind() -> Vec<Handover> {
         [&behind(8)[..], &[2, 12, 0, 0]].concat(),
         [&behind(8)[..], &[2, 12, 0, 1]].concat(),
     ];
-    slices.map(|links| Handover { defaults: vec![6; MOST_TASKS], links, events: Vec::new() }).to_vec()
+    slices.map(of_sixteen_tasks).to_vec()
+}
+
+/// Links of task 3 to so many readers behind.
+fn behind(count: u32) -> Vec<u32> {
+    (4..4 + count).flat_map(|reader| [3, reader, reader % 2, 0]).collect()
+}
+
+fn of_sixteen_tasks(links: Vec<u32>) -> Handover {
+    Handover { defaults: vec![6; MOST_TASKS], links, events: Vec::new() }
+}
+
+/// A writer's self link before, among and after its eight readers behind, of
+/// which it is none, and with a ninth; a second one; a direct one by itself and
+/// after another, with a start value and without; one of no kind; and begun.
+fn self_links() -> Vec<Handover> {
+    let own = [3, 3, 1, 7];
+    let slices = [
+        [&own[..], &behind(8)].concat(),
+        [&behind(7)[..], &own, &behind(8)[28..]].concat(),
+        [&behind(8)[..], &own].concat(),
+        [&own[..], &behind(9)].concat(),
+        [&behind(8)[..], &own, &behind(9)[32..]].concat(),
+        [&own[..], &own].concat(),
+        [&behind(8)[..], &own, &own].concat(),
+        vec![3, 3, 0, 0],
+        vec![3, 3, 0, 1],
+        [&own[..], &[3, 3, 0, 0]].concat(),
+        [&own[..], &[2, 2, 0, 1]].concat(),
+        [&behind(8)[..], &[3, 3, 0, 0]].concat(),
+        [&own[..], &[3, 3, 2, 0]].concat(),
+        vec![3, 3, 255, 1],
+        vec![3, 3, 256, 0],
+        vec![3, 3, 257, 0],
+        vec![3, 3],
+        vec![3, 3, 1],
+    ];
+    slices.map(of_sixteen_tasks).to_vec()
+}
+
+/// Sixteen self links, and others up to the limit and past it; all tasks arrive
+/// at once, and each reads its own output; the last one in the end once more,
+/// after its finish.
+fn all_read_themselves() -> Vec<Handover> {
+    let own = (0..MOST_TASKS as u32).flat_map(|task| [task, task, 1, task << 24]);
+    let runs = (0..MOST_TASKS as u32).flat_map(|task| [2, task, 3, task, 4, task, task + 1]);
+    let events: Vec<u32> = [1, 0xFFFF].into_iter().chain(runs).collect();
+    let with = |others: usize, events: Vec<u32>| {
+        let links = own.clone().chain((0..others).flat_map(link)).collect();
+        Handover { events, ..of_sixteen_tasks(links) }
+    };
+    vec![
+        with(0, events.clone()),
+        with(16, events.repeat(3)),
+        with(17, events.clone()),
+        with(16, [&events[..], &[3, 15]].concat()),
+    ]
 }
 
 /// Counts of events with the last one whole, of an unknown kind, or begun.

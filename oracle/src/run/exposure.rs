@@ -18,7 +18,7 @@ pub fn subjects(flaws: &[Flaw]) -> Vec<(Wrong, Exposure)> {
 
 pub fn print_exposed(wrongs: &[(Wrong, Exposure)]) -> bool {
     for (wrong, exposure) in wrongs {
-        println!("  {:<28} {:>8} ({})", wrong.name(), exposure.whole, exposure.without_state);
+        println!("  {:<36} {:>8} ({})", wrong.name(), exposure.whole, exposure.without_state);
     }
     wrongs.iter().all(|(_, exposure)| exposure.whole > 0)
 }

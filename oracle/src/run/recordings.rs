@@ -64,16 +64,18 @@ impl Run<'_> {
 
     fn compare_valid(&mut self, recording: &Recording, answer: &Answer) -> Option<String> {
         self.take_table(&LentTable::of(&recording.table));
-        self.note_start_values(recording);
+        self.note_history(recording);
         laws::stepwise_law_broken(self.subject, recording, answer)
     }
 
-    fn note_start_values(&mut self, recording: &Recording) {
+    fn note_history(&mut self, recording: &Recording) {
+        let reach = &mut self.reached.recordings;
+        reach.note_table(&recording.table.links);
         let mut engine = Pointers::fresh(&recording.table);
         for &event in &recording.events {
             let before = engine.state;
             engine.apply(event);
-            self.reached.recordings.start_values.note(&before, event, &engine.state);
+            reach.note_event(&before, event, &engine.state);
         }
     }
 

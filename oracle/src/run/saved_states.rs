@@ -30,13 +30,7 @@ impl Run<'_> {
                 exposure.without_state += ((given.refusal, given.value) != (answer.refusal, answer.value)) as usize;
             }
         }
-        self.reached.events.refusals[usize::from(answer.refusal)] += 1;
-        if answer.refusal == 0 {
-            self.reached.events.start_values.note(state, event, &answer.state);
-        }
-        if answer.refusal != 19 {
-            self.reached.events.note_state(state);
-        }
+        self.reached.events.note_one(state, event, &answer);
         answer
     }
 

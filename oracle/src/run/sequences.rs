@@ -1,15 +1,11 @@
 //! Every sequence of events over small tables.
 
 use super::Run;
-use crate::exhaustive::{explore, three_task_tables, Visited};
-use crate::format::Table;
+use crate::exhaustive::{explore, explored_tables, self_links, Visited};
 
 impl Run<'_> {
-    /// Every table of three tasks and four links, every sequence of events;
-    /// with `--long` every table of three tasks.
     pub fn exhaustive(&mut self, depth: usize, long: bool) {
-        let links = if long { 0..=6 } else { 4..=4 };
-        let tables: Vec<Table> = links.flat_map(three_task_tables).collect();
+        let tables = explored_tables(long);
         let mut total = Visited { closed: true, ..Visited::default() };
         for table in &tables {
             match explore(self.subject, table, depth) {
@@ -19,8 +15,9 @@ impl Run<'_> {
         }
         self.reached.states = total.states;
         println!(
-            "exhaustive: {} tables, depth {}, {} states, {} transitions, {} sequences written{}",
+            "exhaustive: {} tables, {} of them with self links, depth {}, {} states, {} transitions, {} sequences written{}",
             tables.len(),
+            tables.iter().filter(|table| self_links(table) > 0).count(),
             total.depth,
             total.states,
             total.transitions,

@@ -1,6 +1,6 @@
 //! An engine with a flaw: the right one's parts, put together wrongly.
 
-use super::{marks, Flaw};
+use super::{marks, self_links, Flaw};
 use crate::engine::{Engine, IDLE, RUNNING};
 use crate::format::Event;
 use crate::pointers as right;
@@ -35,6 +35,7 @@ impl WrongEngine {
         if flaw == Flaw::DelayedAsDirect {
             all_direct(&mut self.state, set);
         }
+        self_links::after_readers(flaw, &before, &mut self.state, set);
         right::now_waiting(&mut self.state, set);
     }
 
@@ -57,6 +58,9 @@ impl WrongEngine {
         }
         if self.flaw == Flaw::StartBySeen {
             lent.mark[link] = u8::from(right::settles_on_start(&lent, link));
+        }
+        if self.flaw == Flaw::SelfReadsPrevious && lent.link(link).to_itself() {
+            lent.pointer[link] = lent.previous[usize::from(lent.reader[link])];
         }
         if lent.pointer[link] == ABSENT {
             lent.pointer[link] = self.held.pointer[link].max(1);
@@ -84,6 +88,7 @@ impl WrongEngine {
             _ => right::free_pointers(state, task),
         }
         marks::at_finish(self.flaw, &before, state, task);
+        self_links::at_finish(self.flaw, &before, state, task);
         state.phase[task] = IDLE;
     }
 
@@ -144,14 +149,18 @@ fn wrong_search(flaw: Flaw, state: &State, task: usize) -> u8 {
     let protects =
         |number: usize| flaw != Flaw::OnlyRunningProtected || state.phase[usize::from(state.reader[number])] == RUNNING;
     let ahead = |position: u8| {
-        (0..usize::from(state.links)).any(|l| usize::from(state.writer[l]) == task && state.pointer[l] == position)
+        (0..usize::from(state.links)).any(|l| {
+            let link = state.link(l);
+            usize::from(link.writer) == task && link.reader_ahead() && state.pointer[l] == position
+        })
     };
     let free = |position: &u8| {
         (*position != previous || flaw == Flaw::PreviousNotSearched)
             && !right::pointed_at(state, task, *position, protects)
             && !(flaw == Flaw::AheadProtectedToo && ahead(*position))
+            && !self_links::protects(flaw, state, task, *position)
     };
-    let positions = state.positions(task) as u8;
+    let positions = (state.positions(task) + self_links::more_positions(flaw, state, task)) as u8;
     let found = if flaw == Flaw::HighestFree { (1..=positions).rev().find(free) } else { (1..=positions).find(free) };
     found.unwrap_or(1)
 }

@@ -69,6 +69,29 @@ pub enum Flaw {
     MarkAtEachPresent,
     SeenPastCounts,
     MarkPastCounts,
+    // About self links: in the rules of a table,
+    SelfCountedBehind,
+    SelfAsNinth,
+    SelfDirectAccepted,
+    SelfDirectSeven,
+    SelfDelayedRefused,
+    SelfUnknownKindFive,
+    SelfTwice,
+    // in the engine,
+    SelfProtected,
+    SelfAsBehind,
+    SelfAtNewest,
+    SelfSetFirst,
+    SelfNotSet,
+    SelfMarkBeforeArrival,
+    SelfFreedAtFinish,
+    SelfMarkGoneAtFinish,
+    SelfReadsPrevious,
+    // and in the judgement of a saved state.
+    SelfRoom,
+    SelfIdleAbsent,
+    SelfPreviousAsked,
+    NotAskedOfSelf(Clause),
     // In the writer of recordings: its counts and limits,
     NoTaskWritten,
     SeventeenTasks,
@@ -150,9 +173,48 @@ const OF_START_VALUES: [Flaw; 15] = [
     Flaw::SeenPastTwo,
 ];
 
+/// The errors about self links in the rules of a table.
+const OF_SELF_LINK_RULES: [Flaw; 7] = [
+    Flaw::SelfCountedBehind,
+    Flaw::SelfAsNinth,
+    Flaw::SelfDirectAccepted,
+    Flaw::SelfDirectSeven,
+    Flaw::SelfDelayedRefused,
+    Flaw::SelfUnknownKindFive,
+    Flaw::SelfTwice,
+];
+
+/// The errors about self links in the engine, which both recordings and saved
+/// states must expose.
+const OF_SELF_LINKS: [Flaw; 8] = [
+    Flaw::SelfProtected,
+    Flaw::SelfAsBehind,
+    Flaw::SelfAtNewest,
+    Flaw::SelfSetFirst,
+    Flaw::SelfNotSet,
+    Flaw::SelfMarkBeforeArrival,
+    Flaw::SelfFreedAtFinish,
+    Flaw::SelfMarkGoneAtFinish,
+];
+
+/// The errors about self links that saved states alone can expose: in those of
+/// a recording each points to `previous`, and all are sound.
+const OF_SAVED_SELF_LINKS: [Flaw; 9] = [
+    Flaw::SelfReadsPrevious,
+    Flaw::SelfRoom,
+    Flaw::SelfIdleAbsent,
+    Flaw::SelfPreviousAsked,
+    Flaw::NotAskedOfSelf(Clause::Pointer),
+    Flaw::NotAskedOfSelf(Clause::ActiveReaderWithout),
+    Flaw::NotAskedOfSelf(Clause::Mark),
+    Flaw::NotAskedOfSelf(Clause::MarkWithoutPointer),
+    Flaw::NotAskedOfSelf(Clause::MarkMissing),
+];
+
 /// The errors the corpus of whole recordings must expose.
 pub fn in_recordings() -> Vec<Flaw> {
-    IN_RECORDINGS.iter().chain(&OF_START_VALUES).copied().collect()
+    let of_self_links = OF_SELF_LINK_RULES.iter().chain(&OF_SELF_LINKS);
+    IN_RECORDINGS.iter().chain(&OF_START_VALUES).chain(of_self_links).copied().collect()
 }
 
 const IN_RECORDINGS: [Flaw; 34] = [
@@ -204,6 +266,7 @@ pub fn in_tables() -> Vec<Flaw> {
         Flaw::TwentyBeforeNine,
         Flaw::TwentyByLowByte,
     ];
+    flaws.extend(OF_SELF_LINK_RULES);
     let table_rules = CLAUSES.iter().filter(|clause| clause.table_refusal().is_some());
     flaws.extend(table_rules.map(|clause| Flaw::Unsound(*clause)));
     flaws
@@ -216,6 +279,11 @@ pub fn in_saved_states() -> Vec<Flaw> {
     flaws.extend(OF_START_VALUES);
     flaws.extend([Flaw::TwelveBeforeNineteen, Flaw::TwentyByLowByte]);
     flaws.extend([Flaw::NoMarkAfterSecond, Flaw::MarkAtEachPresent, Flaw::SeenPastCounts, Flaw::MarkPastCounts]);
+    flaws.extend(OF_SELF_LINKS);
+    flaws.extend(OF_SAVED_SELF_LINKS);
+    // Which rule a table breaks does not show: each is 19.
+    let one_for_another = [Flaw::SelfDirectSeven, Flaw::SelfUnknownKindFive];
+    flaws.extend(OF_SELF_LINK_RULES.iter().filter(|flaw| !one_for_another.contains(flaw)));
     flaws.extend(CLAUSES.iter().map(|clause| Flaw::Unsound(*clause)));
     flaws
 }
@@ -239,6 +307,7 @@ pub fn in_handovers() -> Vec<Flaw> {
         EventCountHighByteFirst, LinkCountOneLess, EventCountOneLess, KindFromZero,
         BytePastEnd, BufferCleared, ShortBufferFilled, TouchedOnRefusal, ExactRoomRefused, OneShortWritten,
     ];
+    flaws.extend(OF_SELF_LINK_RULES);
     flaws.extend((4..=9).chain(12..=16).chain([20]).map(Untried));
     flaws
 }

@@ -1,9 +1,8 @@
 //! A reader of recordings with a flaw: the right answer, bent.
 
-use super::tables::link_rule;
 use super::Flaw;
 use crate::engine::{Engine, IDLE, RUNNING};
-use crate::format::{place_of_link_count, Event, Link, Table, Walker, FIRST_BYTE, LINK_BYTES};
+use crate::format::{place_of_link_count, Event, Table, Walker, FIRST_BYTE, LINK_BYTES};
 use crate::pointers as right;
 use crate::state::State;
 use crate::subject::{Answer, Oracle, Subject};
@@ -45,9 +44,6 @@ pub fn distorted<'a>(flaw: Flaw, bytes: &'a [u8], mut answer: Answer<'a>) -> Ans
             answer.rest = &[];
         }
         Flaw::ArrivalEventsCounted => answer.counts.arrivals = arrival_events(bytes, answer.place),
-        Flaw::LinkFaultsFalling | Flaw::TwentyBeforeNine if matches!(refusal, 4..=9 | 20) => {
-            judge_link_again(flaw, bytes, &mut answer)
-        }
         Flaw::RestBeforeKind if refusal == 11 && answer.rest.len() < 2 => answer.refusal = 1,
         Flaw::ListCleared => {
             let reads = answer.counts.reads as usize;
@@ -145,14 +141,4 @@ fn arrival_events(bytes: &[u8], place: usize) -> u32 {
         }
     }
     arrivals
-}
-
-/// Another of the rules that a link breaks in place of the first.
-fn judge_link_again(flaw: Flaw, bytes: &[u8], answer: &mut Answer) {
-    let tasks = usize::from(bytes[1]);
-    let first = place_of_link_count(tasks) + 1;
-    let links: Vec<Link> = bytes[first..answer.place + LINK_BYTES].chunks(LINK_BYTES).map(Link::of_record).collect();
-    if let Some((&last, earlier)) = links.split_last() {
-        answer.refusal = link_rule(flaw)(tasks, earlier, last);
-    }
 }

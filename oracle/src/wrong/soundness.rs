@@ -1,30 +1,42 @@
 //! Soundness judged with a flaw: too little asked of a state, or too much.
 
+use super::tables::link_rule;
 use super::Flaw;
-use crate::format::{DELAYED, DIRECT};
+use crate::format::{link_faults, DELAYED};
 use crate::state::{broken_clauses, sound, Clause, State, ABSENT, SEEN_TWO};
 
-/// Whether the flaw takes a state for sound that breaks one clause alone.
+/// Whether the flaw takes a state for sound that is not.
 pub fn too_mild(flaw: Flaw, state: &State) -> bool {
     match flaw {
         Flaw::Unsound(clause) => broken_clauses(state) == [clause],
-        Flaw::TwentyByLowByte => broken_clauses(state) == [Clause::DirectWithStart] && low_bytes_zero(state),
+        Flaw::NotAskedOfSelf(clause) => broken_clauses(state) == [clause] && sound(&with_self_links_mended(state)),
+        Flaw::SelfRoom => broken_by_one_position(state),
+        Flaw::TwentyByLowByte | Flaw::SelfDirectAccepted | Flaw::SelfTwice => {
+            broken_in_links(state) && !fault_by_rule(flaw, state)
+        }
         _ => false,
     }
 }
 
 /// Whether the flaw refuses a state that is sound.
 pub fn too_strict(flaw: Flaw, state: &State) -> bool {
-    let refuses: fn(&State) -> bool = match flaw {
-        Flaw::NoMarkAfterSecond => |state| any_link(state, |link| state.mark[link] == 1 && !state.writer_new(link)),
+    let refuses: fn(Flaw, &State) -> bool = match flaw {
+        Flaw::NoMarkAfterSecond => |_, state| any_link(state, |link| state.mark[link] == 1 && !state.writer_new(link)),
         Flaw::MarkAtEachPresent => {
-            |state| any_link(state, |link| present_and_delayed(state, link) && state.mark[link] == 0)
+            |_, state| any_link(state, |link| present_and_delayed(state, link) && state.mark[link] == 0)
         }
-        Flaw::SeenPastCounts => |state| state.seen[usize::from(state.tasks)..].iter().any(|seen| *seen > SEEN_TWO),
-        Flaw::MarkPastCounts => |state| state.mark[usize::from(state.links)..].iter().any(|mark| *mark != 0),
+        Flaw::SeenPastCounts => |_, state| state.seen[usize::from(state.tasks)..].iter().any(|seen| *seen > SEEN_TWO),
+        Flaw::MarkPastCounts => |_, state| state.mark[usize::from(state.links)..].iter().any(|mark| *mark != 0),
+        Flaw::SelfIdleAbsent => {
+            |_, state| any_present_self_link(state, |link| !state.active(usize::from(state.reader[link])))
+        }
+        Flaw::SelfPreviousAsked => |_, state| {
+            any_present_self_link(state, |link| state.pointer[link] != state.previous[usize::from(state.writer[link])])
+        },
+        Flaw::SelfCountedBehind | Flaw::SelfAsNinth | Flaw::SelfDelayedRefused => fault_by_rule,
         _ => return false,
     };
-    sound(state) && refuses(state)
+    sound(state) && refuses(flaw, state)
 }
 
 /// The counts must be within the limits.
@@ -36,6 +48,42 @@ fn present_and_delayed(state: &State, link: usize) -> bool {
     state.pointer[link] != ABSENT && state.kind[link] == DELAYED
 }
 
-fn low_bytes_zero(state: &State) -> bool {
-    !any_link(state, |link| state.kind[link] == DIRECT && state.start_value[link] as u8 != 0)
+fn any_present_self_link(state: &State, of: impl Fn(usize) -> bool) -> bool {
+    state.self_links_of(u16::MAX).any(|link| state.pointer[link] != ABSENT && of(link))
+}
+
+/// Whether a link breaks a rule of tables, after counts that break none.
+fn broken_in_links(state: &State) -> bool {
+    let refusal = broken_clauses(state).first().and_then(|clause| clause.table_refusal());
+    matches!(refusal, Some(4..=9 | 20))
+}
+
+/// Whether a link is at fault by the flaw's rule.
+fn fault_by_rule(flaw: Flaw, state: &State) -> bool {
+    link_faults(usize::from(state.tasks), &state.link_list(), link_rule(flaw)).next().is_some()
+}
+
+/// The state with a pointer and a mark at each self link that every sound state
+/// may have there: what is still broken is so by the others.
+fn with_self_links_mended(state: &State) -> State {
+    let mut mended = *state;
+    for link in state.self_links_of(u16::MAX) {
+        mended.pointer[link] = 1;
+        mended.mark[link] = 1;
+    }
+    mended
+}
+
+/// Whether all would be well if a task with a self link had one position more.
+fn broken_by_one_position(state: &State) -> bool {
+    let of_positions = [Clause::Newest, Clause::Previous, Clause::Pointer];
+    let broken = broken_clauses(state);
+    if broken.is_empty() || broken.iter().any(|clause| !of_positions.contains(clause)) {
+        return false;
+    }
+    let more = |task: usize| state.self_links_of(1 << task).count();
+    let inside = |position: u8, task: usize| usize::from(position) <= state.positions(task) + more(task);
+    let named = |position: u8, task: usize| position > 0 && inside(position, task);
+    (0..usize::from(state.tasks)).all(|task| named(state.newest[task], task) && named(state.previous[task], task))
+        && !any_link(state, |link| !inside(state.pointer[link], usize::from(state.writer[link])))
 }

@@ -1,19 +1,18 @@
 //! A judge of tables with a flaw: the right answer, bent.
 
-use super::Flaw;
-use crate::format::{link_faults, link_refusal, Link, DIRECT};
+use super::{self_links, Flaw};
+use crate::format::{link_faults, link_refusal, Link, LinkRule, DIRECT};
 use crate::state::State;
-use crate::subject::{Made, Oracle, Subject};
+use crate::subject::{made_of, Made, Oracle, Subject};
 use crate::tables::LentTable;
 
 /// The right answer to a table bent the way a wrong judge would give it.
 pub fn distorted_table(flaw: Flaw, table: &LentTable, right: Made) -> Made {
+    if let Some(rule) = own_rule(flaw) {
+        return made_of(table.judged_by(rule));
+    }
     let in_links = matches!(right.refusal, 4..=9 | 20);
     match flaw {
-        Flaw::LinkFaultsFalling | Flaw::TwentyBeforeNine | Flaw::TwentyByLowByte if in_links => {
-            let other = link_faults(table.tasks, &table.as_it_stands().links, link_rule(flaw)).next();
-            Made { refusal: other.unwrap_or(0), ..right }
-        }
         Flaw::LeastOfAllLinks if in_links => {
             let least = link_faults(table.tasks, &table.as_it_stands().links, link_refusal).min();
             Made { refusal: least.unwrap_or(0), ..right }
@@ -35,12 +34,17 @@ pub fn distorted_table(flaw: Flaw, table: &LentTable, right: Made) -> Made {
 }
 
 /// The rule by which a wrong judge knows a link at fault after earlier ones.
-pub fn link_rule(flaw: Flaw) -> fn(usize, &[Link], Link) -> u8 {
+pub fn link_rule(flaw: Flaw) -> LinkRule {
+    own_rule(flaw).unwrap_or(link_refusal)
+}
+
+/// It, where it is not the right one.
+fn own_rule(flaw: Flaw) -> Option<LinkRule> {
     match flaw {
-        Flaw::LinkFaultsFalling => greatest_link_fault,
-        Flaw::TwentyBeforeNine => twenty_before_nine,
-        Flaw::TwentyByLowByte => twenty_by_low_byte,
-        _ => link_refusal,
+        Flaw::LinkFaultsFalling => Some(greatest_link_fault),
+        Flaw::TwentyBeforeNine => Some(twenty_before_nine),
+        Flaw::TwentyByLowByte => Some(twenty_by_low_byte),
+        _ => self_links::rule(flaw),
     }
 }
 
@@ -69,9 +73,9 @@ fn greatest_link_fault(tasks: usize, earlier: &[Link], link: Link) -> u8 {
     let behind = same.clone().filter(|other| other.reader_behind()).count();
     [
         (4, usize::from(link.writer) >= tasks || usize::from(link.reader) >= tasks),
-        (5, link.writer == link.reader),
+        (5, link.kind == 0 && link.to_itself()),
         (6, link.kind > 1),
-        (7, link.kind == 0 && link.reader < link.writer),
+        (7, link.kind == 0 && link.reader_ahead()),
         (8, same.clone().any(|other| other.reader == link.reader)),
         (9, link.reader_behind() && behind >= 8),
         (20, direct_with_start(link)),

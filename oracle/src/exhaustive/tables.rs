@@ -1,0 +1,66 @@
+//! The small tables over which every sequence of events is tried.
+
+use crate::format::{Link, Table, DELAYED, DIRECT};
+
+/// Every table of one task and of two. Of three tasks: without self links every
+/// one with four links; with self links every one with up to one link between
+/// different tasks, and with two such links every one in which each task has a
+/// self link. With `long` every one of three tasks in which none or each has a
+/// self link, and every one with up to three links between different tasks.
+///
+/// From its task's first arrival on a self link points to `previous`, and it is
+/// marked until the second. So it adds reads but no states: where each task has
+/// one, all is tried that is where fewer have.
+pub fn explored_tables(long: bool) -> Vec<Table> {
+    let wanted = if long { in_long_run } else { in_default_run };
+    let of_three = small_tables(3).into_iter().filter(|table| {
+        let self_links = self_links(table);
+        wanted(self_links, table.links.len() - self_links)
+    });
+    small_tables(1).into_iter().chain(small_tables(2)).chain(of_three).collect()
+}
+
+/// How many links of a table are self links.
+pub fn self_links(table: &Table) -> usize {
+    table.links.iter().filter(|link| link.to_itself()).count()
+}
+
+fn in_default_run(self_links: usize, between: usize) -> bool {
+    matches!((self_links, between), (0, 4) | (1..=3, 0 | 1) | (3, 2))
+}
+
+fn in_long_run(self_links: usize, between: usize) -> bool {
+    matches!((self_links, between), (0 | 3, _) | (_, 0..=3))
+}
+
+/// Every table of so many tasks, apart from the order of the links.
+fn small_tables(tasks: u8) -> Vec<Table> {
+    let pairs = (0..tasks).flat_map(|writer| (0..tasks).map(move |reader| (writer, reader)));
+    let lists = pairs.fold(vec![Vec::new()], |lists, (writer, reader)| {
+        lists.iter().flat_map(|links| with_each_choice(links, writer, reader)).collect()
+    });
+    lists.into_iter().map(|links| Table { defaults: defaults(tasks), links }).collect()
+}
+
+/// The links with each choice that a pair leaves after them: none, a delayed
+/// one, and a direct one where the reader is behind.
+fn with_each_choice(links: &[Link], writer: u8, reader: u8) -> Vec<Vec<Link>> {
+    let direct = Link { writer, reader, kind: DIRECT, start_value: 0 };
+    let mut choices = vec![links.to_vec(), [links, &[delayed(writer, reader)]].concat()];
+    if direct.reader_behind() {
+        choices.push([links, &[direct]].concat());
+    }
+    choices
+}
+
+/// With a start value that is no default, that no finish writes, and that
+/// differs from link to link.
+fn delayed(writer: u8, reader: u8) -> Link {
+    let start_value = u32::from_be_bytes([0xE0, 0, writer, reader]);
+    Link { writer, reader, kind: DELAYED, start_value }
+}
+
+/// Defaults that no finish writes and that differ from task to task.
+fn defaults(tasks: u8) -> Vec<u32> {
+    (0..tasks).map(|task| 0xD000_0000 + u32::from(task)).collect()
+}

@@ -1,0 +1,61 @@
+//! What the tests of single requests share.
+
+use oracle::engine::{Engine, FreshEngine};
+use oracle::format::{encode, Event, Link, Recording, Table};
+use oracle::pointers::Pointers;
+use oracle::state::{sound, State};
+use oracle::subject::{disagreement, zero_time_reading, Made, Oracle, Subject};
+use oracle::tables::LentTable;
+
+pub fn direct(writer: u8, reader: u8) -> Link {
+    Link::of([writer, reader, 0], 0)
+}
+
+pub fn delayed(writer: u8, reader: u8, start_value: u32) -> Link {
+    Link::of([writer, reader, 1], start_value)
+}
+
+/// Tasks with the defaults 1000, 1001 and so on.
+pub fn table(tasks: u32, links: &[Link]) -> Table {
+    Table { defaults: (1000..1000 + tasks).collect(), links: links.to_vec() }
+}
+
+/// The numbers read, by the pointers and by the run that takes no time.
+pub fn numbers(table: &Table, events: &[Event]) -> Vec<u32> {
+    let bytes = encode(&Recording { table: table.clone(), events: events.to_vec() });
+    let lent = vec![7; events.len()];
+    let answer = Oracle.replay(&bytes, &lent);
+    assert_eq!(disagreement(&answer, &zero_time_reading(&bytes, &lent)), None);
+    assert_eq!(answer.refusal, 0);
+    answer.list[..answer.counts.reads as usize].to_vec()
+}
+
+pub fn verdict(bytes: &[u8]) -> (u8, usize) {
+    let answer = Oracle.replay(bytes, &[]);
+    assert_eq!(disagreement(&answer, &zero_time_reading(bytes, &[])), None);
+    if matches!(answer.refusal, 2..=10 | 20) {
+        assert_eq!(answer.state, State::single());
+    }
+    (answer.refusal, answer.place)
+}
+
+/// The verdict on a recording without events; its table by itself must earn the
+/// same refusal.
+pub fn verdict_on_links(tasks: u32, links: &[Link]) -> (u8, usize) {
+    let table = table(tasks, links);
+    let made = Oracle.fresh(&LentTable::of(&table));
+    let (refusal, place) = verdict(&encode(&Recording { table, events: Vec::new() }));
+    assert_eq!(made.refusal, refusal);
+    assert!(refusal == 0 || made == Made { refusal, state: State::single() });
+    (refusal, place)
+}
+
+pub fn state_after(table: &Table, events: &[Event]) -> State {
+    let mut engine = Pointers::fresh(table);
+    for &event in events {
+        assert_eq!(engine.judge(event), 0);
+        engine.apply(event);
+        assert!(sound(&engine.state));
+    }
+    engine.state
+}
