@@ -57,7 +57,7 @@ module _ {T : Table ℕ} {es : List (Event ℕ)} {ns : List ℕ} {q : State} (c 
   pub calls-possible : AllPossible T (policyOf T) (past [] es)
   calls-possible = subst (λ (t : Table ℕ). AllPossible t (policyOf t) (past [] es)) (C .same) (C .reached .possible)
 
-  pub calls-lawful : Lawful T
+  calls-lawful : Lawful T
   calls-lawful = subst (λ (t : Table ℕ). Lawful t) (C .same) (table-lawful ranks (C .reached))
 
   -- demand 2: a refusal is what the table and the accepted events say

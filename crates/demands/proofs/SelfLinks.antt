@@ -6,11 +6,10 @@ use mathlib.Core.Bool.{Bool, true, false, cond, _&&_, true≢false}
 use mathlib.Core.List.{List, [], _∷_, _++_}
 use Prim.Native.Nat.{ℕ, zero, suc, pred, _+_, _≤_, _<_}
 use native.Mathlib.Omega.{arith}
-use borrow.Author.Tests.{eq-eqb, eqb-true, ltb-true, lt-ltb}
+use borrow.Author.Tests.{eq-eqb, eqb-true, ltb-true, lt-ltb, not-false}
 use lib.Dec.{eqb}
 use lib.ListN.{length}
 use Rattle.lists.specs.Lists.{count}
-use Rattle.lists.proofs.Bools.{and-if}
 use Rattle.protocol.specs.Event.{Event, arrival, start, read, finish, has}
 use Rattle.protocol.specs.Table.{Table, marked, N}
 use Rattle.protocol.specs.History.{Goes, arrivals, finishes, past}
@@ -19,24 +18,27 @@ use Rattle.protocol.specs.ZeroTime.{runOf, had}
 use Rattle.protocol.specs.Published.{Lowest, Step}
 use Rattle.protocol.proofs.Schedule.{counted}
 use Rattle.protocol.proofs.Effects.{pointer-delayed, pointer-out, mark-in, mark-out}
-use Rattle.protocol.proofs.SelfLinks.{self-had, self-delayed, self-stays, self-unprotected}
+use Rattle.protocol.proofs.SelfLinks.{self-had, self-uncounted, self-stays, self-unprotected}
 use Rattle.protocol_state.specs.Records.{Task, linkOf, aheadOf}
-use Rattle.protocol_state.specs.Saved.{at, tasksIn}
+use Rattle.protocol_state.specs.Saved.{Saved, base, tasksIn}
+use Rattle.protocol_state.specs.Sound.{StandsSound}
 use Rattle.protocol_state.proofs.Rules.{ranked}
+use Rattle.protocol_state.proofs.SelfLinks.{self-sound-delayed, self-idle-sound}
 use Rattle.recording_format.specs.Link.{Link}
 use Rattle.mailbox.specs.States.{saved}
+use Rattle.mailbox.proofs.Packed.{whole-shape}
 use Rattle.mailbox.specs.declared.State.{State}
 use Rattle.mailbox.specs.declared.Step as code
 use Rattle.demands.specs.Station.{station}
 use Rattle.demands.specs.Refusals.{Earns, none, lowest, LinkBreaks, noTask, directToItself, unknownKind, directAhead, twice, ninth, startsDirect}
-use Rattle.demands.specs.States.{IsSound, IsWhole, tableIn, boxesIn}
+use Rattle.demands.specs.States.{IsSound, IsWhole, tableIn, boxesIn, OtherPointer, standingIn}
 use Rattle.demands.specs.Order.{EachRead}
-use Rattle.demands.specs.Calls.{Gives, Calls, fresh, accepted, refused}
+use Rattle.demands.specs.Calls.{Gives, Calls}
 use Rattle.demands.specs.Outputs.{Gave}
-use Rattle.demands.specs.SelfLinks.{ToItself, SelfLink, HasPair, SelfLinks}
+use Rattle.demands.specs.SelfLinks.{ToItself, SelfLink, HasPair, SoundlySet, SelfLinks}
 use Rattle.demands.proofs.Orders.{part-possible, each-so}
 use Rattle.demands.proofs.AnyState.{any-state}
-use Rattle.demands.proofs.Runs.{calls-possible, calls-lawful, calls-delayed, calls-start-value, calls-finished}
+use Rattle.demands.proofs.Runs.{calls-possible, calls-there, calls-delayed, calls-start-value, calls-finished}
 
 -- ---- the refusal of such a link
 module _ (ds : List Task) (ls : List Link) (x : Link) (S : ToItself ds x) where
@@ -75,8 +77,8 @@ module _ (ds : List Task) (ls : List Link) (x : Link) (S : ToItself ds x) where
       go h (eight p) = omega arith
       go h (twenty z) = omega arith
 
-  direct : x .kind ≡ 0 → Earns (LinkBreaks ds ls x) 5
-  direct k = lowest (directToItself k (S .same)) (λ n h b. go h (can-break b))
+  direct-refused : x .kind ≡ 0 → Earns (LinkBreaks ds ls x) 5
+  direct-refused k = lowest (directToItself k (S .same)) (λ n h b. go h (can-break b))
     where
       go : {n : ℕ} → n < 5 → CanBreak n → ⊥
       go h (five z) = omega arith
@@ -84,8 +86,8 @@ module _ (ds : List Task) (ls : List Link) (x : Link) (S : ToItself ds x) where
       go h (eight p) = omega arith
       go h (twenty z) = omega arith
 
-  neither : 1 < x .kind → Earns (LinkBreaks ds ls x) 6
-  neither k = lowest (unknownKind (λ z. omega arith) (λ z. omega arith)) (λ n h b. go h (can-break b))
+  unknown-refused : 1 < x .kind → Earns (LinkBreaks ds ls x) 6
+  unknown-refused k = lowest (unknownKind (λ z. omega arith) (λ z. omega arith)) (λ n h b. go h (can-break b))
     where
       go : {n : ℕ} → n < 6 → CanBreak n → ⊥
       go h (five z) = omega arith
@@ -107,11 +109,11 @@ count-first f (suc n) = rw (count-first f n) (go (f 0) (f (suc n)) (count (λ i.
     go false false c = refl
 
 -- how many links pass a test
-abbrev passing : (Link → Bool) → List Link → ℕ
-passing test ls = count (λ l. test (linkOf ls l)) (length ls)
+abbrev linksPassing : (Link → Bool) → List Link → ℕ
+linksPassing test ls = count (λ l. test (linkOf ls l)) (length ls)
 
 -- one that does not pass changes nothing, wherever it stands
-passing-without : (test : Link → Bool) (before : List Link) (x : Link) (after : List Link) → test x ≡ false → passing test (before ++ (x ∷ after)) ≡ passing test (before ++ after)
+passing-without : (test : Link → Bool) (before : List Link) (x : Link) (after : List Link) → test x ≡ false → linksPassing test (before ++ (x ∷ after)) ≡ linksPassing test (before ++ after)
 passing-without test [] x after e = count-first (λ l. test (linkOf (x ∷ after) l)) (length after) ∙ rw e
 passing-without test (y ∷ ys) x after e =
     count-first (λ l. test (linkOf (y ∷ (ys ++ (x ∷ after))) l)) (length (ys ++ (x ∷ after)))
@@ -121,24 +123,21 @@ passing-without test (y ∷ ys) x after e =
 uncounted : (ds : List Task) (before : List Link) (x : Link) (after : List Link) → ToItself ds x → (t : ℕ) → N (station ds (before ++ (x ∷ after))) t ≡ N (station ds (before ++ after)) t
 uncounted ds before x after S t =
     passing-without (λ (y : Link). eqb (y .writer) t && aheadOf ds t (y .reader)) before x after
-    (and-if (eqb (x .writer) t) (aheadOf ds t (x .reader)) (λ e. rw (← S .same, eqb-true (x .writer) t e) (ranked ds .itself t)))
+    (self-uncounted (station ds (x ∷ [])) 0 (S .same) (ranked ds .itself) t)
 
 -- ---- in any sound state
 module _ (q : State) (G : IsSound q) (l : ℕ) (S : SelfLink (tableIn q) l) where
   sound-delayed : tableIn q .delayed l ≡ true
-  sound-delayed =
-      let o = G .rules .each l (S .link) in
-      let k : at (saved q .kind) l ≢ 0 = λ z. o .apart z (S .same) in
-      eq-eqb (at (saved q .kind) l) 1 (omega (arith, k, o .kind))
+  sound-delayed = self-sound-delayed (ranked (tasksIn (saved q))) (saved q) G l (S .link) (S .same)
 
   -- nobody is ahead of himself
   level : (t : ℕ) → tableIn q .ahead t t ≡ false
   level t = ranked (tasksIn (saved q)) .itself t
 
-  set : (m : ℕ) (r : code.Step) → Gives q (arrival m) r → IsWhole q → r .answer .refusal ≡ 0 → has m (tableIn q .reader l) ≡ true
+  at-arrival : (m : ℕ) (r : code.Step) → Gives q (arrival m) r → IsWhole q → r .answer .refusal ≡ 0 → has m (tableIn q .reader l) ≡ true
       → (boxesIn (r .state) .pointer l ≡ boxesIn (r .state) .previous (tableIn q .reader l)) × ((boxesIn (r .state) .mark l ≡ true) ↔ (boxesIn (r .state) .seen (tableIn q .reader l) < 2))
   unfolding Step
-  set m r call W z h =
+  at-arrival m r call W z h =
       let A = any-state q (arrival m) r call W G z .0 in
       let p = pointer-delayed (tableIn q) A l (S .link) h sound-delayed in
       let k : boxesIn (r .state) .mark l ≡ marked true (boxesIn (r .state) .seen (tableIn q .writer l)) = mark-in (tableIn q) A l (S .link) h ∙ ap (λ (d : Bool). marked d (boxesIn (r .state) .seen (tableIn q .writer l))) sound-delayed in (
@@ -158,16 +157,29 @@ module _ (q : State) (G : IsSound q) (l : ℕ) (S : SelfLink (tableIn q) l) wher
       go (read k) same out = (ap (λ s. s .pointer l) same, ap (λ s. s .mark l) same)
       go (finish t v) F out = (F .pointer l ∙ rw (self-stays (tableIn q) l (S .same) level t), F .mark l ∙ rw (self-stays (tableIn q) l (S .same) level t))
 
--- ---- after any calls
--- nobody is ahead of himself
-calls-level : {T : Table ℕ} {es : List (Event ℕ)} {ns : List ℕ} {q : State} → Calls T es ns q → (t : ℕ) → T .ahead t t ≡ false
-calls-level (fresh n l D W R K B m said ok) t = ranked [] .itself t
-calls-level (accepted c e r call z) t = calls-level c t
-calls-level (refused c e r call z) t = calls-level c t
+  sound : SoundlySet q l
+  sound = record {
+    delayed = sound-delayed;
+    pointer = subst (λ (w : ℕ). boxesIn q .pointer l ≤ N (tableIn q) w + 2) (S .same) (G .pointer l (S .link));
+    present = λ active. G .present l (S .link) (λ z. true≢false (sym active ∙ rw z));
+    held = λ e. G .held l (S .link) (eqb-true _ 1 e) .1;
+    early = λ i few. eq-eqb _ 1 (G .early l (S .link) sound-delayed i (rw (← S .same) at few));
+  }
 
+  when-idle : (q′ : State) (p m : ℕ) → IsWhole q → standingIn q .active (tableIn q .reader l) ≡ false → OtherPointer q l p m q′
+      → p ≤ N (tableIn q) (tableIn q .reader l) + 2 → m ≤ 1 → (m ≡ 1 → 1 ≤ p) → (1 ≤ p → boxesIn q .seen (tableIn q .reader l) < 2 → m ≡ 1) → IsSound q′
+  when-idle q′ p m W idle same high bit held early =
+      subst (λ (x : Saved). StandsSound base x) (sym same)
+      (self-idle-sound (ranked (tasksIn (saved q))) (saved q) G l (S .link) (S .same) (whole-shape q W) (eqb-true _ 0 (not-false _ idle)) p m
+      (subst (λ (w : ℕ). p ≤ N (tableIn q) w + 2) (sym (S .same)) high) bit held (λ i few. early i (rw (S .same) at few)))
+
+-- ---- after any calls
 module _ {T : Table ℕ} {es : List (Event ℕ)} {ns : List ℕ} {q : State} (c : Calls T es ns q) where
+  -- the state is sound and of the same table
   calls-self-delayed : (l : ℕ) → SelfLink T l → T .delayed l ≡ true
-  calls-self-delayed l S = self-delayed T l (S .same) (calls-level c) (calls-lawful c) (S .link)
+  calls-self-delayed =
+      let here = calls-there c in
+      subst (λ (t : Table ℕ). (l : ℕ) → SelfLink t l → t .delayed l ≡ true) (here .2) (λ l S. sound-delayed q (here .1) l S)
 
   -- at a read the link is one of the table, and its reader's run is the next after those that have finished
   at-read : (h : List (Event ℕ)) (l : ℕ) → Goes (read l ∷ h) (past [] es) → (l < T .links) × (arrivals h (T .reader l) ≡ suc (finishes h (T .reader l)))
@@ -205,13 +217,14 @@ pub self-links : SelfLinks
 self-links = record {
   allowed = allowed;
   second = second;
-  direct = direct;
-  neither = neither;
-  delayed = calls-self-delayed;
+  direct-refused = direct-refused;
+  unknown-refused = unknown-refused;
   uncounted = uncounted;
-  unprotected = λ ds ls l S. self-unprotected (station ds ls) l (S .same) (ranked ds .itself);
-  set = λ q m r call W G z l S h. set q G l S m r call W z h;
+  unprotected = λ T level l S. self-unprotected T l (S .same) level;
+  at-arrival = λ q m r call W G z l S h. at-arrival q G l S m r call W z h;
   stays = λ q e r call W G z l S out. stays q G l S e r call W z out;
+  sound = sound;
+  when-idle = λ q q′ l p m W G S. when-idle q G l S q′ p m W;
   last-output = last-output;
   first-run = first-run;
   run-before = run-before;

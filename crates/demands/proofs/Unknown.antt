@@ -44,6 +44,7 @@ unknown-earns {ds} {ls} {l} k (lowest b f) = go b f
     go (ninth h b) f = absurd (f 6 (omega arith) (unknownKind (λ z. omega arith) (λ z. omega arith)))
     go (startsDirect z n) f = absurd (omega arith)
 
+-- so it is refused
 four-or-six : {r : ℕ} → (r ≡ 4) ⊎ (r ≡ 6) → r ≢ 0
 four-or-six (inl e) z = omega arith
 four-or-six (inr e) z = omega arith

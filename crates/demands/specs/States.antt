@@ -1,11 +1,14 @@
 -- What a state of the code says. Here the demands meet the code's own state: what they say of it they say by these names.
 -- Assumes nothing.
+use mathlib.Core.Path.{_≡_}
 use Prim.Native.Nat.{ℕ}
 use lib.Dec.{eqb}
+use lib.ListN.{set}
 use Rattle.protocol.specs.Table.{Table}
 use Rattle.protocol.specs.Published.{Boxes}
 use Rattle.protocol_state.specs.Saved.{base, at, aheadIn, busy, table, boxes}
 use Rattle.protocol_state.specs.Sound.{StandsSound}
+use Rattle.protocol_state.specs.Next.{withPointer, withMark}
 use Rattle.mailbox.specs.States.{saved}
 pub use Rattle.mailbox.specs.States.{IsWhole}
 use Rattle.mailbox.specs.declared.State.{State}
@@ -26,6 +29,10 @@ tableIn q = table (aheadIn (saved q)) (saved q)
 -- stands for a mailbox, and no accepted read comes there, for the pointer of an active reader is never absent
 abbrev pub boxesIn : State → Boxes ℕ
 boxesIn q = boxes (saved q)
+
+-- the state q′ is q with the pointer p and the mark m of link l
+abbrev pub OtherPointer : State → ℕ → ℕ → ℕ → State → Type 0
+OtherPointer q l p m q′ = saved q′ ≡ withMark (set (saved q .mark) l m) (withPointer (set (saved q .pointer) l p) (saved q))
 
 -- how its tasks stand, by their phases: 0 idle, 1 waiting, 2 running; active is not idle
 abbrev pub standingIn : State → Standing

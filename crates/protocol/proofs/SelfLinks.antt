@@ -44,14 +44,6 @@ module _ {Val : Type 0} (T : Table Val) (l : ℕ) (self : T .writer l ≡ T .rea
     pub self-not-behind : behind T l ≡ false
     self-not-behind = rw (behind, self) (level (T .reader l))
 
-    -- so it is delayed
-    pub self-delayed : Lawful T → l < T .links → T .delayed l ≡ true
-    self-delayed L k = go (T .delayed l) refl
-      where
-        go : (b : Bool) → T .delayed l ≡ b → b ≡ true
-        go true d = refl
-        go false d = absurd (true≢false (sym (L .direct l k d) ∙ self-not-behind))
-
     -- no N counts it
     pub self-uncounted : (t : ℕ) → toBehind (T .ahead) (T .writer) (T .reader) t l ≡ false
     self-uncounted t = and-if (eqb (T .writer l) t) (T .ahead t (T .reader l)) (λ x. rw (← eqb-true (T .writer l) t x) self-not-behind)

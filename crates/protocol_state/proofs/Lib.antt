@@ -5,6 +5,8 @@ pub mod Places
 pub mod Records
 pub mod Rules
 pub mod Sound
+-- a task that reads its own last output
+pub mod SelfLinks
 -- what each accepted event does: sound stays sound, and it is a step of the published protocol
 pub mod Free
 pub mod Arrivals

@@ -402,7 +402,7 @@ fn a_task_reads_its_own_last_output() {
     assert_eq!(a.state, s);
 }
 
-/// Where the pointer of an idle task's link to itself is absent the state is sound too; of an active task it is not, and no direct link is.
+/// An idle task's pointer to itself may be there or not, an active task's must be; a direct link to itself is never sound.
 #[test]
 fn sound_with_a_link_to_itself() {
     let idle = after(&State::fresh(&filter_table()).state, &[Arrival(1), Start(0), Finish(0, 41)]);
