@@ -3,11 +3,11 @@
 
 mod common;
 
-use common::{delayed, direct, numbers, state_after, table, verdict, verdict_on_links};
+use common::{delayed, direct, numbers, only_clause_broken, state_after, table, verdict, verdict_on_links};
 use oracle::example::own_output_example;
 use oracle::format::{encode, Event, Link, Recording, Table};
 use oracle::handovers::split;
-use oracle::state::{broken_clauses, Clause, State};
+use oracle::state::{Clause, State};
 use oracle::subject::{Oracle, Subject};
 use oracle::writing::{write, Written};
 use Event::{Arrival as A, Finish as F, Read as R, Start as S};
@@ -215,12 +215,7 @@ fn breaks(change: impl Fn(&mut State)) -> Option<Clause> {
     assert_eq!((&state.seen[..3], &state.phase[..3]), (&[2, 1, 0][..], &[0, 1, 0][..]));
     assert_eq!((&state.pointer[..4], &state.mark[..4]), (&[2, 1, 0, 0][..], &[0, 1, 0, 0][..]));
     change(&mut state);
-    let answer = Oracle.one_event(&state, A(0));
-    assert_eq!((answer.value, answer.state), (0, state));
-    let broken = broken_clauses(&state);
-    assert_eq!(answer.refusal, if broken.is_empty() { 12 } else { 19 });
-    assert!(broken.len() <= 1, "{:?}", broken);
-    broken.first().copied()
+    only_clause_broken(&state)
 }
 
 #[test]

@@ -3,9 +3,9 @@
 
 mod common;
 
-use common::{delayed, direct, numbers, state_after, table, verdict, verdict_on_links};
+use common::{delayed, direct, numbers, only_clause_broken, state_after, table, verdict, verdict_on_links};
 use oracle::format::{encode, Event, Link, Recording};
-use oracle::state::{broken_clauses, Clause, State};
+use oracle::state::{Clause, State};
 use oracle::subject::{Oracle, Subject};
 use Event::{Arrival as A, Finish as F, Read as R, Start as S};
 
@@ -186,12 +186,7 @@ fn breaks(change: impl Fn(&mut State)) -> Option<Clause> {
     let mut state = reader_running();
     assert_eq!((&state.seen[..4], &state.mark[..3]), (&[2, 0, 1, 0][..], &[0, 1, 0][..]));
     change(&mut state);
-    let answer = Oracle.one_event(&state, A(0));
-    assert_eq!((answer.value, answer.state), (0, state));
-    let broken = broken_clauses(&state);
-    assert_eq!(answer.refusal, if broken.is_empty() { 12 } else { 19 });
-    assert!(broken.len() <= 1, "{:?}", broken);
-    broken.first().copied()
+    only_clause_broken(&state)
 }
 
 #[test]

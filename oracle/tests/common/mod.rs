@@ -3,7 +3,7 @@
 use oracle::engine::{Engine, FreshEngine};
 use oracle::format::{encode, Event, Link, Recording, Table};
 use oracle::pointers::Pointers;
-use oracle::state::{sound, State};
+use oracle::state::{broken_clauses, sound, Clause, State};
 use oracle::subject::{disagreement, zero_time_reading, Made, Oracle, Subject};
 use oracle::tables::LentTable;
 
@@ -58,4 +58,15 @@ pub fn state_after(table: &Table, events: &[Event]) -> State {
         assert!(sound(&engine.state));
     }
     engine.state
+}
+
+/// The only clause of soundness that the state breaks, none if it is sound: an
+/// empty set is then 12, and else 19, with the state as it was.
+pub fn only_clause_broken(state: &State) -> Option<Clause> {
+    let answer = Oracle.one_event(state, Event::Arrival(0));
+    assert_eq!((answer.value, answer.state), (0, *state));
+    let broken = broken_clauses(state);
+    assert_eq!(answer.refusal, if broken.is_empty() { 12 } else { 19 });
+    assert!(broken.len() <= 1, "{:?}", broken);
+    broken.first().copied()
 }
