@@ -68,32 +68,24 @@ module _ (ds : List Task) (ls : List Link) (x : Link) (S : ToItself ds x) where
       go (eight p) = alone p
       go (twenty z) = omega arith
 
-  second : x .kind ≡ 1 → HasPair ls x → Earns (LinkBreaks ds ls x) 8
-  second k p = lowest (twice (p .0) (p .1) (p .2) (p .3)) (λ n h b. go h (can-break b))
+  -- where each of these rules that it breaks has a number of r or more, so has every rule that it breaks
+  least : (r : ℕ) → (x .kind ≡ 0 → r ≤ 5) → (1 < x .kind → r ≤ 6) → (HasPair ls x → r ≤ 8) → (n : ℕ) → n < r → LinkBreaks ds ls x n → ⊥
+  least r by-five by-six by-eight n low b = go low (can-break b)
     where
-      go : {n : ℕ} → n < 8 → CanBreak n → ⊥
-      go h (five z) = omega arith
-      go h (six z) = omega arith
-      go h (eight p) = omega arith
-      go h (twenty z) = omega arith
+      go : {n : ℕ} → n < r → CanBreak n → ⊥
+      go low (five z) = omega (arith, by-five z)
+      go low (six z) = omega (arith, by-six z)
+      go low (eight p) = omega (arith, by-eight p)
+      go low (twenty z) = omega (arith, by-five z)
+
+  second : x .kind ≡ 1 → HasPair ls x → Earns (LinkBreaks ds ls x) 8
+  second k p = lowest (twice (p .0) (p .1) (p .2) (p .3)) (least 8 (λ z. absurd (omega arith)) (λ z. absurd (omega arith)) (λ p. omega arith))
 
   direct-refused : x .kind ≡ 0 → Earns (LinkBreaks ds ls x) 5
-  direct-refused k = lowest (directToItself k (S .same)) (λ n h b. go h (can-break b))
-    where
-      go : {n : ℕ} → n < 5 → CanBreak n → ⊥
-      go h (five z) = omega arith
-      go h (six z) = omega arith
-      go h (eight p) = omega arith
-      go h (twenty z) = omega arith
+  direct-refused k = lowest (directToItself k (S .same)) (least 5 (λ z. omega arith) (λ z. omega arith) (λ p. omega arith))
 
   unknown-refused : 1 < x .kind → Earns (LinkBreaks ds ls x) 6
-  unknown-refused k = lowest (unknownKind (λ z. omega arith) (λ z. omega arith)) (λ n h b. go h (can-break b))
-    where
-      go : {n : ℕ} → n < 6 → CanBreak n → ⊥
-      go h (five z) = omega arith
-      go h (six z) = omega arith
-      go h (eight p) = omega arith
-      go h (twenty z) = omega arith
+  unknown-refused k = lowest (unknownKind (λ z. omega arith) (λ z. omega arith)) (least 6 (λ z. absurd (omega arith)) (λ z. omega arith) (λ p. omega arith))
 
 -- ---- N
 -- counted from the first number on
@@ -128,7 +120,7 @@ uncounted ds before x after S t =
 -- ---- in any sound state
 module _ (q : State) (G : IsSound q) (l : ℕ) (S : SelfLink (tableIn q) l) where
   sound-delayed : tableIn q .delayed l ≡ true
-  sound-delayed = self-sound-delayed (ranked (tasksIn (saved q))) (saved q) G l (S .link) (S .same)
+  sound-delayed = self-sound-delayed (saved q) G l (S .link) (S .same)
 
   -- nobody is ahead of himself
   level : (t : ℕ) → tableIn q .ahead t t ≡ false
@@ -170,7 +162,7 @@ module _ (q : State) (G : IsSound q) (l : ℕ) (S : SelfLink (tableIn q) l) wher
       → p ≤ N (tableIn q) (tableIn q .reader l) + 2 → m ≤ 1 → (m ≡ 1 → 1 ≤ p) → (1 ≤ p → boxesIn q .seen (tableIn q .reader l) < 2 → m ≡ 1) → IsSound q′
   when-idle q′ p m W idle same high bit held early =
       subst (λ (x : Saved). StandsSound base x) (sym same)
-      (self-idle-sound (ranked (tasksIn (saved q))) (saved q) G l (S .link) (S .same) (whole-shape q W) (eqb-true _ 0 (not-false _ idle)) p m
+      (self-idle-sound (saved q) G l (S .link) (S .same) (ranked (tasksIn (saved q))) (whole-shape q W) (eqb-true _ 0 (not-false _ idle)) p m
       (subst (λ (w : ℕ). p ≤ N (tableIn q) w + 2) (sym (S .same)) high) bit held (λ i few. early i (rw (S .same) at few)))
 
 -- ---- after any calls

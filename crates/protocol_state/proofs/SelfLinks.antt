@@ -1,6 +1,6 @@
 -- A link from a task to itself in a sound state: it is delayed, and while its task is idle its pointer may be there or not.
 -- Assumes nothing.
-use mathlib.Core.Path.{_≡_, refl, sym, _∙_}
+use mathlib.Core.Path.{_≡_, sym, _∙_}
 use mathlib.Core.Logic.{_≢_}
 use mathlib.Core.Bool.{Bool, true, false, true≢false}
 use Prim.Native.Nat.{ℕ, _+_, _≤_, _<_}
@@ -15,7 +15,7 @@ use Rattle.protocol_state.specs.Rules.{Ranks}
 use Rattle.protocol_state.specs.Sound.{Sound}
 use Rattle.protocol_state.specs.Next.{withPointer, withMark}
 
-module _ {ahead : ℕ → ℕ → Bool} (ranks : Ranks ahead) {size : Size} (q : Saved) (G : Sound ahead size q) (l : ℕ) (h : l < q .links) (self : at (q .writer) l ≡ at (q .reader) l) where
+module _ {ahead : ℕ → ℕ → Bool} {size : Size} (q : Saved) (G : Sound ahead size q) (l : ℕ) (h : l < q .links) (self : at (q .writer) l ≡ at (q .reader) l) where
   -- rule 5
   pub self-sound-delayed : delayedKind (at (q .kind) l) ≡ true
   self-sound-delayed =
@@ -23,7 +23,7 @@ module _ {ahead : ℕ → ℕ → Bool} (ranks : Ranks ahead) {size : Size} (q :
       eq-eqb (at (q .kind) l) 1 (omega (arith, k, G .rules .each l h .kind))
 
   -- with another pointer p, or none, 0, and a mark m that may stand there
-  module _ (S : Shape size q) (idle : at (q .phase) (at (q .reader) l) ≡ 0) (p m : ℕ) where
+  module _ (ranks : Ranks ahead) (S : Shape size q) (idle : at (q .phase) (at (q .reader) l) ≡ 0) (p m : ℕ) where
     abbrev other : Saved
     other = withMark (set (q .mark) l m) (withPointer (set (q .pointer) l p) q)
 
