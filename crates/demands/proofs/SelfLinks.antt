@@ -2,11 +2,11 @@
 -- Assumes nothing.
 use mathlib.Core.Path.{_≡_, refl, sym, ap, subst, _∙_}
 use mathlib.Core.Logic.{_≢_, _↔_, inl, inr}
-use mathlib.Core.Bool.{Bool, true, false, cond, _&&_, true≢false}
+use mathlib.Core.Bool.{Bool, true, false, cond, not, _&&_, true≢false}
 use mathlib.Core.List.{List, [], _∷_, _++_}
 use Prim.Native.Nat.{ℕ, zero, suc, pred, _+_, _≤_, _<_}
 use native.Mathlib.Omega.{arith}
-use borrow.Author.Tests.{eq-eqb, eqb-true, ltb-true, lt-ltb, not-false}
+use borrow.Author.Tests.{eq-eqb, ne-eqb, eqb-true, ltb-true, lt-ltb}
 use lib.Dec.{eqb}
 use lib.ListN.{length}
 use Rattle.lists.specs.Lists.{count}
@@ -23,7 +23,7 @@ use Rattle.protocol_state.specs.Records.{Task, linkOf, aheadOf}
 use Rattle.protocol_state.specs.Saved.{Saved, base, tasksIn}
 use Rattle.protocol_state.specs.Sound.{StandsSound}
 use Rattle.protocol_state.proofs.Rules.{ranked}
-use Rattle.protocol_state.proofs.SelfLinks.{self-sound-delayed, self-idle-sound}
+use Rattle.protocol_state.proofs.SelfLinks.{self-sound-delayed, self-other-sound}
 use Rattle.recording_format.specs.Link.{Link}
 use Rattle.mailbox.specs.States.{saved}
 use Rattle.mailbox.proofs.Packed.{whole-shape}
@@ -158,12 +158,12 @@ module _ (q : State) (G : IsSound q) (l : ℕ) (S : SelfLink (tableIn q) l) wher
     early = λ i few. eq-eqb _ 1 (G .early l (S .link) sound-delayed i (rw (← S .same) at few));
   }
 
-  when-idle : (q′ : State) (p m : ℕ) → IsWhole q → standingIn q .active (tableIn q .reader l) ≡ false → OtherPointer q l p m q′
-      → p ≤ N (tableIn q) (tableIn q .reader l) + 2 → m ≤ 1 → (m ≡ 1 → 1 ≤ p) → (1 ≤ p → boxesIn q .seen (tableIn q .reader l) < 2 → m ≡ 1) → IsSound q′
-  when-idle q′ p m W idle same high bit held early =
+  no-more : (q′ : State) (p m : ℕ) → IsWhole q → OtherPointer q l p m q′ → p ≤ N (tableIn q) (tableIn q .reader l) + 2
+      → (standingIn q .active (tableIn q .reader l) ≡ true → 1 ≤ p) → m ≤ 1 → (m ≡ 1 → 1 ≤ p) → (1 ≤ p → boxesIn q .seen (tableIn q .reader l) < 2 → m ≡ 1) → IsSound q′
+  no-more q′ p m W same high present bit held early =
       subst (λ (x : Saved). StandsSound base x) (sym same)
-      (self-idle-sound (saved q) G l (S .link) (S .same) (ranked (tasksIn (saved q))) (whole-shape q W) (eqb-true _ 0 (not-false _ idle)) p m
-      (subst (λ (w : ℕ). p ≤ N (tableIn q) w + 2) (sym (S .same)) high) bit held (λ i few. early i (rw (S .same) at few)))
+      (self-other-sound (saved q) G l (S .link) (S .same) (ranked (tasksIn (saved q))) (whole-shape q W) p m
+      (subst (λ (w : ℕ). p ≤ N (tableIn q) w + 2) (sym (S .same)) high) (λ active. present (ap not (ne-eqb _ 0 active))) bit held (λ i few. early i (rw (S .same) at few)))
 
 -- ---- after any calls
 module _ {T : Table ℕ} {es : List (Event ℕ)} {ns : List ℕ} {q : State} (c : Calls T es ns q) where
@@ -216,7 +216,7 @@ self-links = record {
   at-arrival = λ q m r call W G z l S h. at-arrival q G l S m r call W z h;
   stays = λ q e r call W G z l S out. stays q G l S e r call W z out;
   sound = sound;
-  when-idle = λ q q′ l p m W G S. when-idle q G l S q′ p m W;
+  no-more = λ q q′ l p m W G S. no-more q G l S q′ p m W;
   last-output = last-output;
   first-run = first-run;
   run-before = run-before;

@@ -70,10 +70,10 @@ pub record SelfLinks : Type 0 where
       (boxesIn (r .state) .pointer l ≡ boxesIn q .pointer l) × (boxesIn (r .state) .mark l ≡ boxesIn q .mark l)
   -- "soundness .. include[s] these links": a sound state has each of them so
   pub sound : (q : State) → IsSound q → (l : ℕ) → SelfLink (tableIn q) l → SoundlySet q l
-  -- and asks no more of an idle task's: with any such pointer p, 0 for none, and any such mark m, the state is sound
-  pub when-idle : (q q′ : State) (l p m : ℕ) → IsWhole q → IsSound q → SelfLink (tableIn q) l → standingIn q .active (tableIn q .reader l) ≡ false →
-      OtherPointer q l p m q′ → p ≤ N (tableIn q) (tableIn q .reader l) + 2 → m ≤ 1 → (m ≡ 1 → 1 ≤ p) →
-      (1 ≤ p → boxesIn q .seen (tableIn q .reader l) < 2 → m ≡ 1) → IsSound q′
+  -- and asks no more: with any other pointer p, 0 for none, and any other mark m that are so, it is sound
+  pub no-more : (q q′ : State) (l p m : ℕ) → IsWhole q → IsSound q → SelfLink (tableIn q) l → OtherPointer q l p m q′ →
+      p ≤ N (tableIn q) (tableIn q .reader l) + 2 → (standingIn q .active (tableIn q .reader l) ≡ true → 1 ≤ p) →
+      m ≤ 1 → (m ≡ 1 → 1 ≤ p) → (1 ≤ p → boxesIn q .seen (tableIn q .reader l) < 2 → m ≡ 1) → IsSound q′
   -- "demands 2 and 3 include these links": the number read is the task's own last output, with which it last finished; in its first run, the start value
   pub last-output : {T : Table ℕ} {es : List (Event ℕ)} {ns : List ℕ} {q : State} → Calls T es ns q →
       EachRead (λ h l n. T .writer l ≡ T .reader l → 1 ≤ finishes h (T .reader l) → Gave (T .reader l) h (finishes h (T .reader l)) n) [] es ns

@@ -1,4 +1,4 @@
--- A link from a task to itself in a sound state: it is delayed, and while its task is idle its pointer may be there or not.
+-- A link from a task to itself in a sound state: it is delayed, and any of its task's positions may be its pointer, or none while the task is idle.
 -- Assumes nothing.
 use mathlib.Core.Path.{_≡_, sym, _∙_}
 use mathlib.Core.Logic.{_≢_}
@@ -23,7 +23,7 @@ module _ {ahead : ℕ → ℕ → Bool} {size : Size} (q : Saved) (G : Sound ahe
       eq-eqb (at (q .kind) l) 1 (omega (arith, k, G .rules .each l h .kind))
 
   -- with another pointer p, or none, 0, and a mark m that may stand there
-  module _ (ranks : Ranks ahead) (S : Shape size q) (idle : at (q .phase) (at (q .reader) l) ≡ 0) (p m : ℕ) where
+  module _ (ranks : Ranks ahead) (S : Shape size q) (p m : ℕ) where
     abbrev other : Saved
     other = withMark (set (q .mark) l m) (withPointer (set (q .pointer) l p) q)
 
@@ -33,8 +33,8 @@ module _ {ahead : ℕ → ℕ → Bool} {size : Size} (q : Saved) (G : Sound ahe
     here-mark : at (set (q .mark) l m) l ≡ m
     here-mark = getD-set-same (q .mark) l m 0 (omega (arith, S .mark, G .rules .links))
 
-    pub self-idle-sound : p ≤ N (table ahead q) (at (q .writer) l) + 2 → m ≤ 1 → (m ≡ 1 → 1 ≤ p) → (1 ≤ p → at (q .seen) (at (q .writer) l) < 2 → m ≡ 1) → Sound ahead size other
-    self-idle-sound high bit held early = record {
+    pub self-other-sound : p ≤ N (table ahead q) (at (q .writer) l) + 2 → ((at (q .phase) (at (q .reader) l) ≡ 0 → ⊥) → 1 ≤ p) → m ≤ 1 → (m ≡ 1 → 1 ≤ p) → (1 ≤ p → at (q .seen) (at (q .writer) l) < 2 → m ≡ 1) → Sound ahead size other
+    self-other-sound high there bit held early = record {
       rules = G .rules;
       phase = G .phase;
       newest = G .newest;
@@ -54,7 +54,7 @@ module _ {ahead : ℕ → ℕ → Bool} {size : Size} (q : Saved) (G : Sound ahe
         pointer k i (no n) = rw (getD-set-other (q .pointer) l k p 0 n) (G .pointer k i)
 
         present : (k : ℕ) → k < q .links → Dec (k ≡ l) → (at (q .phase) (at (q .reader) k) ≡ 0 → ⊥) → 1 ≤ at (set (q .pointer) l p) k
-        present k i (yes e) n = absurd (n (rw e idle))
+        present k i (yes e) active = rw (e, here-pointer) (there (rw e at active))
         present k i (no n) active = rw (getD-set-other (q .pointer) l k p 0 n) (G .present k i active)
 
         absent : (k : ℕ) → k < q .links → Dec (k ≡ l) → ahead (at (q .writer) k) (at (q .reader) k) ≡ true → at (q .phase) (at (q .reader) k) ≡ 0 → at (set (q .pointer) l p) k ≡ 0
@@ -70,5 +70,5 @@ module _ {ahead : ℕ → ℕ → Bool} {size : Size} (q : Saved) (G : Sound ahe
         holds k i (no n) one = rw (getD-set-other (q .pointer) l k p 0 n) (G .held k i (sym (getD-set-other (q .mark) l k m 0 n) ∙ one))
 
         earlier : (k : ℕ) → k < q .links → Dec (k ≡ l) → delayedKind (at (q .kind) k) ≡ true → 1 ≤ at (set (q .pointer) l p) k → at (q .seen) (at (q .writer) k) < 2 → at (set (q .mark) l m) k ≡ 1
-        earlier k i (yes e) d there few = rw (e, here-mark) (early (rw (e, here-pointer) at there) (rw e at few))
-        earlier k i (no n) d there few = getD-set-other (q .mark) l k m 0 n ∙ G .early k i d (rw (getD-set-other (q .pointer) l k p 0 n) at there) few
+        earlier k i (yes e) d some few = rw (e, here-mark) (early (rw (e, here-pointer) at some) (rw e at few))
+        earlier k i (no n) d some few = getD-set-other (q .mark) l k m 0 n ∙ G .early k i d (rw (getD-set-other (q .pointer) l k p 0 n) at some) few
