@@ -6,10 +6,10 @@ ghost use lib.ListN.{set};
 ghost use Rattle.protocol.specs.Event.{has};
 ghost use Rattle.protocol_state.specs.Saved.{cellOf};
 
-// At most so many tasks, links and, in a recording, events.
-pub const TASKS: usize = 16;
+// A state has room for so many tasks and links; a recording has at most so many events.
+pub const TASKS: usize = 32;
 
-pub const LINKS: usize = 32;
+pub const LINKS: usize = 96;
 
 pub const EVENTS: usize = 10000;
 

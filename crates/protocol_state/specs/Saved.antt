@@ -15,9 +15,9 @@ pub record Size : Type 0 where
   pub tasks : ℕ
   pub links : ℕ
 
--- document 01's room: 16 tasks, 32 links
+-- the room of a state: "T goes to 32, L to 96"
 abbrev pub base : Size
-base = record { tasks = 16; links = 32 }
+base = record { tasks = 32; links = 96 }
 
 -- N is at most 8, so a task has at most 10 positions
 abbrev pub positions : ℕ
