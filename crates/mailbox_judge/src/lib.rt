@@ -54,7 +54,8 @@ pub fn judge_arrival(set: u32, tasks: usize, control: &[u8; CONTROL]) -> u8
 {
     let n = few(tasks, TASKS);
     let busy = pick(all_may(set, n, control), 0, 13);
-    pick((set == 0) | (set >> n != 0), 12, busy)
+    // With room for 32 tasks no bit of 32 is spare: the shift is one of 64.
+    pick((set == 0) | ((set as u64) >> n != 0), 12, busy)
 }
 
 // Whether a task with this phase is unfinished.

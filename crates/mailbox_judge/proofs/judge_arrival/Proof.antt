@@ -14,9 +14,6 @@ all-may-requires c κs = search needs
 pick-requires : tie.Need-pick-requires
 pick-requires c κs = search needs
 
-cast-pick : tie.Need-cast-pick
-cast-pick c = search needs
-
 shr-pick : tie.Need-shr-pick
 shr-pick c = search needs
 
@@ -29,4 +26,4 @@ returns c =
 
 pub judge-arrival-spec : {M : Type 1} → statement M
 judge-arrival-spec =
-    tie.close (tie.spec few-requires all-may-requires pick-requires cast-pick shr-pick pick-requires-2 returns)
+    tie.close (tie.spec few-requires all-may-requires pick-requires shr-pick pick-requires-2 returns)
