@@ -28,7 +28,7 @@ use Rattle.mailbox.specs.declared.State.{State}
 use Rattle.mailbox.specs.declared.Step.{Step}
 use Rattle.mailbox.specs.declared.Made.{Made}
 use Rattle.byte_format.specs.Number.{Bytes}
-use Rattle.recording_format.proofs.Base.{base-length}
+use Rattle.recording_format.proofs.BothKinds.{kind-length}
 use Rattle.recording_format.specs.Link.{Link}
 use Rattle.recording_core.specs.Playing.{coreOf}
 use Rattle.recording.specs.declared.Answer.{Answer}
@@ -52,7 +52,7 @@ use Rattle.demands.proofs.Replays.{keeps-of}
 use Rattle.demands.proofs.Genuine.{genuine-kept, one-reading, exactly, accepted-calls}
 use Rattle.demands.proofs.Explained.{single-held, every-answer}
 use Rattle.demands.proofs.Only.{explained-is, explained-whole, only, totals}
-use Rattle.demands.proofs.Unknown.{unknown-event, unknown-link}
+use Rattle.demands.proofs.Unknown.{unknown-first, unknown-event, unknown-link}
 use Rattle.demands.proofs.Cuts.{one-answer, power-cut, nothing-lost}
 
 asks-nothing : AsksNothing
@@ -170,8 +170,8 @@ told : {s out list : List ℕ} {a : Answer} → Bytes s → Explained s out a li
 told b x = record { answer = explained-is x; whole = explained-whole x; bytes = b }
 
 -- no recording is longer
-longest : {s out ds : List ℕ} {ls : List Link} {es : List (Event ℕ)} → Genuine s out ds ls es → length s ≤ 60293
-longest {s} {out} {ds} {ls} {es} g = base-length (coreOf base out) s ds ls es (genuine-kept g)
+longest : {wide : Bool} {s out ds : List ℕ} {ls : List Link} {es : List (Event ℕ)} → Genuine wide s out ds ls es → length s ≤ cond wide 60805 60293
+longest {wide} {s} {out} {ds} {ls} {es} g = kind-length wide (coreOf base out) s ds ls es (genuine-kept g)
 
 -- ---- the theorems
 pub demand-1 : Demand1
@@ -179,6 +179,7 @@ demand-1 = record {
   asks = asks-nothing;
   tells = tells;
   unknown-state = unknown-state;
+  unknown-first = unknown-first;
   unknown-event = unknown-event;
   unknown-link = unknown-link;
   table-number = table-number;

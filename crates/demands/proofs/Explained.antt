@@ -2,6 +2,7 @@
 -- Assumes nothing.
 use mathlib.Core.Path.{_≡_, refl, sym, ap, subst, _∙_}
 use mathlib.Core.Logic.{_≢_, inl, inr}
+use mathlib.Core.Bool.{Bool}
 use mathlib.Core.List.{List, [], _∷_}
 use Prim.Native.Nat.{ℕ, _+_, _≤_}
 use native.Mathlib.Omega.{arith}
@@ -24,10 +25,10 @@ use Rattle.byte_format.proofs.Kinded.{Case, missing, strange, short, whole, whi
 use Rattle.recording_format.specs.Link.{Link}
 use Rattle.recording_format.specs.Event as format
 use Rattle.recording_format.specs.Event.{Kind, eventKinds, events, eventAt, sizeOf}
-use Rattle.recording_format.specs.RecordingKind.{baseRecording, eventLimit}
+use Rattle.recording_format.specs.RecordingKind.{eitherKind, kindIn, wideIn, eventLimit}
 use Rattle.recording_format.specs.Recording.{stateAfter}
 use Rattle.recording_format.specs.Outcome.{TableTo, RecordingOutcome, firstByte, taskCount, taskRecord, linkCount, linkRecord, eventCount, eventRecord, extraBytes, lastFault, accepted}
-use Rattle.recording_format.proofs.Base.{base-room}
+use Rattle.recording_format.proofs.BothKinds.{kind-room}
 use Rattle.recording_format.proofs.Sizes.{events-within}
 use Rattle.recording_format.proofs.LinkRules.{allowed-judged}
 use Rattle.recording_format.proofs.EventKinds.{byteOf, events-told}
@@ -52,13 +53,13 @@ use Rattle.demands.proofs.Genuine.{calls-there, listed-there}
 use Rattle.demands.proofs.TableFaults.{table-begun, first-fault, task-count-fault, task-fault, link-count-fault, link-fault, event-count-fault}
 
 -- the kinds of events, in words and as the reader knows them
-pub kind-known : (k : Kind) {b : ℕ} → b ≡ byteOf k → KindOf b (sizeOf baseRecording k)
+pub kind-known : {wide : Bool} (k : Kind) {b : ℕ} → b ≡ byteOf k → KindOf wide b (sizeOf (eitherKind wide) k)
 kind-known format.anArrival e = rw e anArrival
 kind-known format.aStart e = rw e aStart
 kind-known format.aRead e = rw e aRead
 kind-known format.aFinish e = rw e aFinish
 
-pub known-kind : {b n : ℕ} → KindOf b n → (k : Kind) × (b ≡ byteOf k) × (n ≡ sizeOf baseRecording k)
+pub known-kind : {wide : Bool} {b n : ℕ} → KindOf wide b n → (k : Kind) × (b ≡ byteOf k) × (n ≡ sizeOf (eitherKind wide) k)
 known-kind anArrival = (format.anArrival, refl, refl)
 known-kind aStart = (format.aStart, refl, refl)
 known-kind aRead = (format.aRead, refl, refl)
@@ -86,9 +87,10 @@ module _ {s out list : List ℕ} {a : Answer} (said : Replays s out a list) wher
 
   -- an answer with the state that some events came to: all but what lies at its place
   module _ {r p : ℕ} {ds : List ℕ} {ls : List Link} {es : List (Event ℕ)} (e : replied a list ≡ verdict r p (stateAfter (coreOf base out) ds ls es))
-      (w : Went out ds ls es (stateAfter (coreOf base out) ds ls es)) (E : ℕ) (b : EventsBegun s ds ls E es p) (t : Ending (station ds ls) s out E es p r) where
+      (w : Went out ds ls es (stateAfter (coreOf base out) ds ls es)) (E : ℕ) (b : EventsBegun (wideIn s) s ds ls E es p) (t : Ending (wideIn s) (station ds ls) s out E es p r) where
     at-events : AtEvents s out a list
     at-events = record {
+      wide = wideIn s;
       ds = ds;
       ls = ls;
       es = es;
@@ -102,56 +104,56 @@ module _ {s out list : List ℕ} {a : Answer} (said : Replays s out a list) wher
     }
 
   -- a record that is not there, or is refused by the table and the events before it
-  record-fault : {ds : List ℕ} {ls : List Link} {m : ℕ} {es : List (Event ℕ)} {r p : ℕ} (t : TableTo baseRecording s ds ls m)
-      (f : Faulty (events baseRecording) (eventLimit baseRecording) judgedIn steppedIn s (coreOf base out .start ds ls) m es r p)
-      → tableOf base ds ls ≡ station ds ls → r ≢ 0 → Ending (station ds ls) s out (f .total) es p r
-  record-fault {ds} {ls} {m} {es} {r} {p} t f same n = go (which (eventKinds baseRecording) byteOf (events-told baseRecording) s p)
+  record-fault : {ds : List ℕ} {ls : List Link} {m : ℕ} {es : List (Event ℕ)} {r p : ℕ} (t : TableTo (kindIn s) s ds ls m)
+      (f : Faulty (events (kindIn s)) (eventLimit (kindIn s)) judgedIn steppedIn s (coreOf base out .start ds ls) m es r p)
+      → tableOf base ds ls ≡ station ds ls → r ≢ 0 → Ending (wideIn s) (station ds ls) s out (f .total) es p r
+  record-fault {ds} {ls} {m} {es} {r} {p} t f same n = go (which (eventKinds (kindIn s)) byteOf (events-told (kindIn s)) s p)
     where
-      stopped : {k : ℕ} → eventAt baseRecording s p ≡ stop k → k ≡ r
+      stopped : {k : ℕ} → eventAt (kindIn s) s p ≡ stop k → k ≡ r
       stopped i = sym (f .fault ∙ ap (λ (y : Got (Event ℕ)). refusalOf y (judgedIn (stateAfter (coreOf base out) ds ls es))) i)
 
-      given : {k : ℕ} → k ≡ r → Ending (station ds ls) s out (f .total) es p k → Ending (station ds ls) s out (f .total) es p r
-      given e x = subst (λ (k : ℕ). Ending (station ds ls) s out (f .total) es p k) e x
+      given : {k : ℕ} → k ≡ r → Ending (wideIn s) (station ds ls) s out (f .total) es p k → Ending (wideIn s) (station ds ls) s out (f .total) es p r
+      given e x = subst (λ (k : ℕ). Ending (wideIn s) (station ds ls) s out (f .total) es p k) e x
 
-      go : Case (eventKinds baseRecording) byteOf (events-told baseRecording) s p → Ending (station ds ls) s out (f .total) es p r
+      go : Case (eventKinds (kindIn s)) byteOf (events-told (kindIn s)) s p → Ending (wideIn s) (station ds ls) s out (f .total) es p r
       go (missing h i) = given (stopped i) (noKind (f .more) (omega (arith, f .played .bytes .within)))
       go (strange h u i) = given (stopped i) (unknownKind (f .more) h (λ k x. let w = known-kind x in u (w .0) (w .1)))
-      go (short k h e l i) = given (stopped i) (cutEvent (f .more) h (sizeOf baseRecording k) (kind-known k e) l)
+      go (short k h e l i) = given (stopped i) (cutEvent (f .more) h (sizeOf (kindIn s) k) (kind-known k e) l)
       go (whole k e l i) =
-          let x : Event ℕ = format.bodyAt baseRecording k s p in
-          let w = events-lawful baseRecording .tells s p x (p + sizeOf baseRecording k) (said .bytes) (f .played .bytes .within) i in
-          badEvent (f .more) x (p + sizeOf baseRecording k) (w .1) (w .0)
+          let x : Event ℕ = format.bodyAt (kindIn s) k s p in
+          let w = events-lawful (kindIn s) .tells s p x (p + sizeOf (kindIn s) k) (said .bytes) (f .played .bytes .within) i in
+          badEvent (f .more) x (p + sizeOf (kindIn s) k) (w .1) (w .0)
           (subst (λ (j : ℕ). Earns (RecordBreaks (station ds ls) out (past [] es) x) j)
-          (sym (event-refused baseRecording base base-room out t f i ∙ ap (λ (T : Table ℕ). refusedBy T out (past [] es) x) same)) (record-earned (station ds ls) (past [] es) out x)) n
+          (sym (event-refused (kindIn s) base (kind-room (wideIn s)) out t f i ∙ ap (λ (T : Table ℕ). refusedBy T out (past [] es) x) same)) (record-earned (station ds ls) (past [] es) out x)) n
 
-  table-fine : {ds : List ℕ} {ls : List Link} {m : ℕ} → TableTo baseRecording s ds ls m → judgedLists base ds ls ≡ 0
-  table-fine {ds} {ls} t = allowed-judged (aheadOf ds) (length ds) baseRecording base base-room ls (t .tasked .whole .kept .few) (t .linked .kept .few) (t .linked .kept .allowed)
+  table-fine : {ds : List ℕ} {ls : List Link} {m : ℕ} → TableTo (kindIn s) s ds ls m → judgedLists base ds ls ≡ 0
+  table-fine {ds} {ls} t = allowed-judged (aheadOf ds) (length ds) (kindIn s) base (kind-room (wideIn s)) ls (t .tasked .whole .kept .few) (t .linked .kept .few) (t .linked .kept .allowed)
 
   -- the table and the first events stand there
-  events-begun : {ds : List ℕ} {ls : List Link} {m : ℕ} → TableTo baseRecording s ds ls m → (es : List (Event ℕ)) (E p : ℕ) → E ≤ baseRecording .events → FitEach (events baseRecording) es
-      → Stands s m (encodeBegun (events baseRecording) E es) p → EventsBegun s ds ls E es p
+  events-begun : {ds : List ℕ} {ls : List Link} {m : ℕ} → TableTo (kindIn s) s ds ls m → (es : List (Event ℕ)) (E p : ℕ) → E ≤ (kindIn s) .events → FitEach (events (kindIn s)) es
+      → Stands s m (encodeBegun (events (kindIn s)) E es) p → EventsBegun (wideIn s) s ds ls E es p
   events-begun t es E p few fits b =
-      let k = table-begun s t in
-      record { few = few; keeps = k .keeps; fits = (k .fits .0, (k .fits .1, fits)); bytes = stands-join (t .tasked .first) (stands-join (t .tasked .whole .bytes) (stands-join (t .linked .bytes) b)) }
+      let k = table-begun (wideIn s) s t in
+      record { few-tasks = k .few-tasks; few-links = k .few; few = few; keeps = k .keeps; fits = (k .fits .0, (k .fits .1, fits)); bytes = stands-join (t .tasked .first) (stands-join (t .tasked .whole .bytes) (stands-join (t .linked .bytes) b)) }
 
   pub every-answer : Explained s out a list
   every-answer = go (answered said)
     where
-      go : RecordingOutcome baseRecording (coreOf base out) s (replied a list) → Explained s out a list
+      go : RecordingOutcome (kindIn s) (coreOf base out) s (replied a list) → Explained s out a list
       go (firstByte r n u e) = inl (at-table e (first-fault s u))
-      go (taskCount r n x u e) = inl (at-table e (task-count-fault s x u))
-      go (taskRecord ds r p n x f e) = inl (at-table e (task-fault s n x f))
-      go (linkCount ds r p n t u e) = inl (at-table e (link-count-fault s t u))
-      go (linkRecord ds m ls r p n t f e) = inl (at-table e (link-fault s n t f))
-      go (eventCount ds ls r p n t u e) = inl (at-table e (event-count-fault s t u))
+      go (taskCount r n x u e) = inl (at-table e (task-count-fault (wideIn s) s x u))
+      go (taskRecord ds r p n x f e) = inl (at-table e (task-fault (wideIn s) s n x f))
+      go (linkCount ds r p n t u e) = inl (at-table e (link-count-fault (wideIn s) s t u))
+      go (linkRecord ds m ls r p n t f e) = inl (at-table e (link-fault (wideIn s) s n t f))
+      go (eventCount ds ls r p n t u e) = inl (at-table e (event-count-fault (wideIn s) s t u))
       go (eventRecord ds ls m es r p n t f e) =
           let w = went out ds ls es (table-fine t) (f .played .allowed) in
-          inr (at-events e w (f .total) (events-begun t es (f .total) p (events-within baseRecording (f .total) (f .few)) (f .played .fits) (stands-join (f .count) (f .played .bytes)))
+          inr (at-events e w (f .total) (events-begun t es (f .total) p (events-within (kindIn s) (f .total) (f .few)) (f .played .fits) (stands-join (f .count) (f .played .bytes)))
           (record-fault t f (w .same) n))
       go (extraBytes ds ls m es p t k h e) =
           let w = went out ds ls es (table-fine t) (k .kept .allowed) in
-          inr (at-events e w (length es) (events-begun t es (length es) p (events-within baseRecording (length es) (k .kept .few)) (k .kept .fits) (k .bytes)) (recordings.extra refl (omega arith)))
+          inr (at-events e w (length es) (events-begun t es (length es) p (events-within (kindIn s) (length es) (k .kept .few)) (k .kept .fits) (k .bytes)) (recordings.extra refl (omega arith)))
       go (lastFault ds ls m es t k n e) = absurd (n refl)
       go (accepted ds ls m es t k z e) =
           let w = went out ds ls es (table-fine t) (k .kept .allowed) in
-          inr (at-events e w (length es) (events-begun t es (length es) (length s) (events-within baseRecording (length es) (k .kept .few)) (k .kept .fits) (k .bytes)) (recordings.whole refl refl))
+          inr (at-events e w (length es) (events-begun t es (length es) (length s) (events-within (kindIn s) (length es) (k .kept .few)) (k .kept .fits) (k .bytes)) (recordings.whole refl refl))

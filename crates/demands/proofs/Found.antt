@@ -2,6 +2,7 @@
 -- Assumes nothing.
 use mathlib.Core.Path.{_≡_, refl, sym, ap, subst, _∙_}
 use mathlib.Core.Logic.{_≢_}
+use mathlib.Core.Bool.{Bool}
 use mathlib.Core.List.{List, [], _++_}
 use Prim.Native.Nat.{ℕ, _+_, _<_}
 use native.Mathlib.Omega.{arith}
@@ -20,10 +21,10 @@ use Rattle.byte_format.proofs.Kinded as kinded
 use Rattle.recording_format.specs.Task.{tasks}
 use Rattle.recording_format.specs.Link.{Link, links}
 use Rattle.recording_format.specs.Event.{eventKinds, events, eventAt, sizeOf}
-use Rattle.recording_format.specs.RecordingKind.{baseRecording, eventLimit}
+use Rattle.recording_format.specs.RecordingKind.{eitherKind, kindIn, eventLimit}
 use Rattle.recording_format.specs.Recording.{encodeFirst, encodeRecording, taskPlace, tasksEnd, tableEnd, stateAfter}
 use Rattle.recording_format.specs.Outcome.{TableTo, RecordingOutcome, eventRecord, extraBytes, accepted}
-use Rattle.recording_format.proofs.Base.{base-room, base-counts}
+use Rattle.recording_format.proofs.BothKinds.{kind-room, kind-counts, kind-begun}
 use Rattle.recording_format.proofs.Sizes.{within-events, events-fit}
 use Rattle.recording_format.proofs.LinkRules.{recorded-judged}
 use Rattle.recording_format.proofs.EventKinds.{byteOf, events-told, kind-unknown}
@@ -42,75 +43,82 @@ use Rattle.demands.proofs.TableFaults.{begun-table}
 use Rattle.demands.proofs.Explained.{kind-known, known-kind}
 
 -- ---- the table and the events es stand at the beginning of the bytes s, and the events could happen
-module _ {s out ds : List ℕ} {ls : List Link} {es : List (Event ℕ)} {E p : ℕ} (b : EventsBegun s ds ls E es p) (alone : Genuine (encodeRecording baseRecording ds ls es) out ds ls es) where
-  from-tasks : Stands s taskPlace (encodeSection (tasks baseRecording) ds ++ (encodeSection (links baseRecording) ls ++ (bytesOf (baseRecording .eventCountWidth) E ++ encodes (events baseRecording) es))) p
-  from-tasks = stands-left (encodeFirst baseRecording) _ (b .bytes)
+module _ {wide : Bool} {s out ds : List ℕ} {ls : List Link} {es : List (Event ℕ)} {E p : ℕ} (b : EventsBegun wide s ds ls E es p) (alone : Genuine wide (encodeRecording (eitherKind wide) ds ls es) out ds ls es) where
+  from-tasks : Stands s taskPlace (encodeSection (tasks (eitherKind wide)) ds ++ (encodeSection (links (eitherKind wide)) ls ++ (bytesOf ((eitherKind wide) .eventCountWidth) E ++ encodes (events (eitherKind wide)) es))) p
+  from-tasks = stands-left (encodeFirst (eitherKind wide)) _ (b .bytes)
 
-  from-links : Stands s (tasksEnd baseRecording ds) (encodeSection (links baseRecording) ls ++ (bytesOf (baseRecording .eventCountWidth) E ++ encodes (events baseRecording) es)) p
-  from-links = stands-left (encodeSection (tasks baseRecording) ds) _ from-tasks
+  from-links : Stands s (tasksEnd (eitherKind wide) ds) (encodeSection (links (eitherKind wide)) ls ++ (bytesOf ((eitherKind wide) .eventCountWidth) E ++ encodes (events (eitherKind wide)) es)) p
+  from-links = stands-left (encodeSection (tasks (eitherKind wide)) ds) _ from-tasks
 
-  from-events : Stands s (tableEnd baseRecording ds ls) (bytesOf (baseRecording .eventCountWidth) E ++ encodes (events baseRecording) es) p
-  from-events = stands-left (encodeSection (links baseRecording) ls) _ from-links
+  from-events : Stands s (tableEnd (eitherKind wide) ds ls) (bytesOf ((eitherKind wide) .eventCountWidth) E ++ encodes (events (eitherKind wide)) es) p
+  from-events = stands-left (encodeSection (links (eitherKind wide)) ls) _ from-links
 
-  table-there : TableTo baseRecording s ds ls (tableEnd baseRecording ds ls)
-  table-there = begun-table s (record {
-    few = b .keeps .links;
+  table-there : TableTo (eitherKind wide) s ds ls (tableEnd (eitherKind wide) ds ls)
+  table-there = begun-table wide s (record {
+    few-tasks = b .few-tasks;
+    few = b .few-links;
     keeps = b .keeps;
     fits = (b .fits .0, b .fits .1 .0);
-    bytes = stands-join (stands-first (encodeFirst baseRecording) _ (b .bytes))
-        (stands-join (stands-first (encodeSection (tasks baseRecording) ds) _ from-tasks) (stands-first (encodeSection (links baseRecording) ls) _ from-links));
+    bytes = stands-join (stands-first (encodeFirst (eitherKind wide)) _ (b .bytes))
+        (stands-join (stands-first (encodeSection (tasks (eitherKind wide)) ds) _ from-tasks) (stands-first (encodeSection (links (eitherKind wide)) ls) _ from-links));
   })
 
   allowed-there : Allowed judgedIn steppedIn (coreOf base out .start ds ls) es
   allowed-there = genuine-kept alone .played .allowed
 
   pub went-there : Went out ds ls es (stateAfter (coreOf base out) ds ls es)
-  went-there = went out ds ls es (recorded-judged baseRecording base base-room (coreOf base out) (encodeRecording baseRecording ds ls es) ds ls es (genuine-kept alone)) allowed-there
+  went-there = went out ds ls es (recorded-judged (eitherKind wide) base (kind-room wide) (coreOf base out) (encodeRecording (eitherKind wide) ds ls es) ds ls es (genuine-kept alone)) allowed-there
 
   -- what the reader finds at the place
-  faulty : (r : ℕ) → length es < E → r ≡ refusalOf (eventAt baseRecording s p) (judgedIn (stateAfter (coreOf base out) ds ls es))
-      → Faulty (events baseRecording) (eventLimit baseRecording) judgedIn steppedIn s (coreOf base out .start ds ls) (tableEnd baseRecording ds ls) es r p
+  faulty : (r : ℕ) → length es < E → r ≡ refusalOf (eventAt (eitherKind wide) s p) (judgedIn (stateAfter (coreOf base out) ds ls es))
+      → Faulty (events (eitherKind wide)) (eventLimit (eitherKind wide)) judgedIn steppedIn s (coreOf base out .start ds ls) (tableEnd (eitherKind wide) ds ls) es r p
   faulty r more e =
-      let few = within-events baseRecording (E) (b .few) in
+      let few = within-events (eitherKind wide) (E) (b .few) in
       record {
         total = E;
-        counted = events-fit baseRecording (E) base-counts few;
+        counted = events-fit (eitherKind wide) (E) (kind-counts wide) few;
         few = few;
-        first = (tableEnd baseRecording ds ls) + length (bytesOf (baseRecording .eventCountWidth) (E));
-        count = stands-first (bytesOf (baseRecording .eventCountWidth) (E)) _ from-events;
-        played = record { fits = b .fits .1 .1; allowed = allowed-there; bytes = stands-left (bytesOf (baseRecording .eventCountWidth) (E)) _ from-events };
+        first = (tableEnd (eitherKind wide) ds ls) + length (bytesOf ((eitherKind wide) .eventCountWidth) (E));
+        count = stands-first (bytesOf ((eitherKind wide) .eventCountWidth) (E)) _ from-events;
+        played = record { fits = b .fits .1 .1; allowed = allowed-there; bytes = stands-left (bytesOf ((eitherKind wide) .eventCountWidth) (E)) _ from-events };
         more = more;
         fault = e;
       }
 
   -- a record that stops the reader
-  stops : (r : ℕ) → length es < E → r ≢ 0 → eventAt baseRecording s p ≡ stop r
-      → RecordingOutcome baseRecording (coreOf base out) s (verdict r p (stateAfter (coreOf base out) ds ls es))
+  stops : (r : ℕ) → length es < E → r ≢ 0 → eventAt (eitherKind wide) s p ≡ stop r
+      → RecordingOutcome (eitherKind wide) (coreOf base out) s (verdict r p (stateAfter (coreOf base out) ds ls es))
   stops r more n i =
-      eventRecord ds ls (tableEnd baseRecording ds ls) es r p n table-there
+      eventRecord ds ls (tableEnd (eitherKind wide) ds ls) es r p n table-there
       (faulty r more (sym (ap (λ (y : Got (Event ℕ)). refusalOf y (judgedIn (stateAfter (coreOf base out) ds ls es))) i))) refl
 
-  pub found : {r : ℕ} → Ending (station ds ls) s out (E) es p r
-      → RecordingOutcome baseRecording (coreOf base out) s (verdict r p (stateAfter (coreOf base out) ds ls es))
-  found (recordings.whole e i) =
-      accepted ds ls (tableEnd baseRecording ds ls) es table-there
-      (record { kept = genuine-kept alone .played; bytes = rw (← i) (subst (λ (n : ℕ). Stands s (tableEnd baseRecording ds ls) (bytesOf (baseRecording .eventCountWidth) n ++ encodes (events baseRecording) es) p) (sym e) from-events) })
+  found-so : {r : ℕ} → Ending wide (station ds ls) s out (E) es p r
+      → RecordingOutcome (eitherKind wide) (coreOf base out) s (verdict r p (stateAfter (coreOf base out) ds ls es))
+  found-so (recordings.whole e i) =
+      accepted ds ls (tableEnd (eitherKind wide) ds ls) es table-there
+      (record { kept = genuine-kept alone .played; bytes = rw (← i) (subst (λ (n : ℕ). Stands s (tableEnd (eitherKind wide) ds ls) (bytesOf ((eitherKind wide) .eventCountWidth) n ++ encodes (events (eitherKind wide)) es) p) (sym e) from-events) })
       refl (ap (λ (k : ℕ). verdict 0 k (stateAfter (coreOf base out) ds ls es)) i)
-  found (recordings.extra e h) =
-      extraBytes ds ls (tableEnd baseRecording ds ls) es p table-there
-      (record { kept = genuine-kept alone .played; bytes = subst (λ (n : ℕ). Stands s (tableEnd baseRecording ds ls) (bytesOf (baseRecording .eventCountWidth) n ++ encodes (events baseRecording) es) p) (sym e) from-events }) h refl
-  found (noKind more i) = stops 1 more (λ z. omega arith) (kinded.kind-missing (eventKinds baseRecording) byteOf (events-told baseRecording) s p (omega arith))
-  found (unknownKind more h u) =
+  found-so (recordings.extra e h) =
+      extraBytes ds ls (tableEnd (eitherKind wide) ds ls) es p table-there
+      (record { kept = genuine-kept alone .played; bytes = subst (λ (n : ℕ). Stands s (tableEnd (eitherKind wide) ds ls) (bytesOf ((eitherKind wide) .eventCountWidth) n ++ encodes (events (eitherKind wide)) es) p) (sym e) from-events }) h refl
+  found-so (noKind more i) = stops 1 more (λ z. omega arith) (kinded.kind-missing (eventKinds (eitherKind wide)) byteOf (events-told (eitherKind wide)) s p (omega arith))
+  found-so (unknownKind more h u) =
       stops 11 more (λ z. omega arith)
-      (kinded.kind-unknown (eventKinds baseRecording) byteOf (events-told baseRecording) s p h (kind-unknown _ (λ k e. u (sizeOf baseRecording k) (kind-known k e))))
-  found (cutEvent more h n k l) =
+      (kinded.kind-unknown (eventKinds (eitherKind wide)) byteOf (events-told (eitherKind wide)) s p h (kind-unknown _ (λ k e. u (sizeOf (eitherKind wide) k) (kind-known k e))))
+  found-so (cutEvent more h n k l) =
       let w = known-kind k in
-      stops 1 more (λ z. omega arith) (kinded.rest-missing (eventKinds baseRecording) byteOf (events-told baseRecording) s p (w .0) h (w .1) (omega (arith, w .2)))
-  found (badEvent {r} more e q x f g n) =
-      let i : eventAt baseRecording s p ≡ got e q = events-lawful baseRecording .reads s p e q f x in
+      stops 1 more (λ z. omega arith) (kinded.rest-missing (eventKinds (eitherKind wide)) byteOf (events-told (eitherKind wide)) s p (w .0) h (w .1) (omega (arith, w .2)))
+  found-so (badEvent {r} more e q x f g n) =
+      let i : eventAt (eitherKind wide) s p ≡ got e q = events-lawful (eitherKind wide) .reads s p e q f x in
       let j : judgedIn (stateAfter (coreOf base out) ds ls es) e ≡ refusedBy (station ds ls) out (past [] es) e =
       refused-by (went-there .right) e ∙ ap (λ (T : Table ℕ). refusedBy T out (past [] es) e) (went-there .same) in
-      eventRecord ds ls (tableEnd baseRecording ds ls) es r p n table-there
+      eventRecord ds ls (tableEnd (eitherKind wide) ds ls) es r p n table-there
       (faulty r more
       (earns-one g (record-earned (station ds ls) (past [] es) out e) ∙ sym j
       ∙ sym (ap (λ (y : Got (Event ℕ)). refusalOf y (judgedIn (stateAfter (coreOf base out) ds ls es))) i))) refl
+
+  -- by the kind that the bytes say
+  pub found : {r : ℕ} → Ending wide (station ds ls) s out E es p r → RecordingOutcome (kindIn s) (coreOf base out) s (verdict r p (stateAfter (coreOf base out) ds ls es))
+  found {r} x =
+      subst (λ (w : Bool). RecordingOutcome (eitherKind w) (coreOf base out) s (verdict r p (stateAfter (coreOf base out) ds ls es)))
+      (sym (kind-begun wide s (stands-first (encodeFirst (eitherKind wide)) _ (b .bytes)))) (found-so x)

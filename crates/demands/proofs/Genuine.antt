@@ -2,6 +2,7 @@
 -- Assumes nothing.
 use mathlib.Core.Path.{_≡_, refl, sym, ap, subst, _∙_}
 use mathlib.Core.Logic.{_↔_}
+use mathlib.Core.Bool.{Bool}
 use mathlib.Core.List.{List, []}
 use Prim.Native.Nat.{ℕ, _+_, _≤_}
 use native.Mathlib.Omega.{arith}
@@ -13,9 +14,9 @@ use Rattle.protocol.specs.Schedule.{policyOf, AllPossible}
 use Rattle.protocol_state.specs.Saved.{base}
 use Rattle.byte_format.specs.Play.{Verdict, verdict}
 use Rattle.recording_format.specs.Link.{Link}
-use Rattle.recording_format.specs.RecordingKind.{baseRecording}
+use Rattle.recording_format.specs.RecordingKind.{eitherKind, wideIn}
 use Rattle.recording_format.specs.Recording.{stateAfter, Recorded}
-use Rattle.recording_format.proofs.Base.{base-room, base-counts}
+use Rattle.recording_format.proofs.BothKinds.{kind-room, kind-counts, kind-said}
 use Rattle.recording_format.proofs.LinkRules.{recorded-judged}
 use Rattle.recording_format.proofs.Recordings.{recorded-accepted}
 use Rattle.recording_format.proofs.Unique.{recorded-unique}
@@ -27,7 +28,7 @@ use Rattle.mailbox.specs.declared.State.{State}
 use Rattle.recording.specs.Answers.{replied}
 use Rattle.recording.specs.declared.Answer.{Answer}
 use Rattle.recording_demands.specs.Ensured.{Replays}
-use Rattle.recording_demands.proofs.Demands.{accepted-only, accepted-all}
+use Rattle.recording_demands.proofs.Demands.{answer-by, accepted-only, accepted-all}
 use Rattle.demands.specs.Station.{station}
 use Rattle.demands.specs.Calls.{Calls}
 use Rattle.demands.specs.Recordings.{Genuine, Listed}
@@ -36,14 +37,14 @@ use Rattle.demands.proofs.Orders.{past-reads, happen-possible, possible
 use Rattle.demands.proofs.Replays.{Went, went}
 
 -- ---- the exactly-when, in the words of this crate and of recording_core
-module _ {s out ds : List ℕ} {ls : List Link} {es : List (Event ℕ)} where
-  pub genuine-core : Genuine s out ds ls es → core.CoreGenuine baseRecording base s out ds ls es
+module _ {wide : Bool} {s out ds : List ℕ} {ls : List Link} {es : List (Event ℕ)} where
+  pub genuine-core : Genuine wide s out ds ls es → core.CoreGenuine (eitherKind wide) base s out ds ls es
   unfolding reads AllPossible
   genuine-core g = record {
     bytes = g .bytes;
     fits = g .fits;
-    few-tasks = g .keeps .tasks;
-    few-links = g .keeps .links;
+    few-tasks = (g .keeps .tasks .0, g .few-tasks);
+    few-links = g .few-links;
     few-events = g .few;
     rules = g .keeps .rules;
     happens = subst (λ (t : Table ℕ). AllPossible t (policyOf t) (past [] es)) (sym (fresh-station ds ls (g .keeps .tasks .1) (g .keeps .links)))
@@ -51,42 +52,63 @@ module _ {s out ds : List ℕ} {ls : List Link} {es : List (Event ℕ)} where
     room = omega (arith, past-reads [] es, g .room);
   }
 
-  pub core-genuine : core.CoreGenuine baseRecording base s out ds ls es → Genuine s out ds ls es
+  pub core-genuine : core.CoreGenuine (eitherKind wide) base s out ds ls es → Genuine wide s out ds ls es
   unfolding reads
   core-genuine g = record {
-    keeps = record { tasks = g .few-tasks; links = g .few-links; rules = g .rules };
+    keeps = record { tasks = (g .few-tasks .0, in-tasks); links = in-links; rules = g .rules };
     bytes = g .bytes;
     fits = g .fits;
+    few-tasks = g .few-tasks .1;
+    few-links = g .few-links;
     few = g .few-events;
     room = omega (arith, past-reads [] es, g .room);
     happen = possible-happen (station ds ls) [] es
-        (subst (λ (t : Table ℕ). AllPossible t (policyOf t) (past [] es)) (fresh-station ds ls (g .few-tasks .1) (g .few-links)) (g .happens)) .0;
+        (subst (λ (t : Table ℕ). AllPossible t (policyOf t) (past [] es)) (fresh-station ds ls in-tasks in-links) (g .happens)) .0;
   }
+    where
+      in-tasks : length ds ≤ base .tasks
+      in-tasks = omega (arith, g .few-tasks .1, kind-room wide .tasks)
+
+      in-links : length ls ≤ base .links
+      in-links = omega (arith, g .few-links, kind-room wide .links)
 
   -- a genuine recording, as the reader judges it
-  pub genuine-kept : Genuine s out ds ls es → Recorded baseRecording (coreOf base out) s ds ls es
-  genuine-kept g = genuine-recorded baseRecording base base-room out base-counts (genuine-core g)
+  pub genuine-kept : Genuine wide s out ds ls es → Recorded (eitherKind wide) (coreOf base out) s ds ls es
+  genuine-kept g = genuine-recorded (eitherKind wide) base (kind-room wide) out (kind-counts wide) (genuine-core g)
 
 -- another list with room for the numbers
-genuine-room : {s out out′ ds : List ℕ} {ls : List Link} {es : List (Event ℕ)} → Genuine s out ds ls es → reads es ≤ length out′ → Genuine s out′ ds ls es
-genuine-room g h = record { keeps = g .keeps; bytes = g .bytes; fits = g .fits; few = g .few; room = h; happen = g .happen }
+genuine-room : {wide : Bool} {s out out′ ds : List ℕ} {ls : List Link} {es : List (Event ℕ)} → Genuine wide s out ds ls es → reads es ≤ length out′ → Genuine wide s out′ ds ls es
+genuine-room g h = record { keeps = g .keeps; bytes = g .bytes; fits = g .fits; few-tasks = g .few-tasks; few-links = g .few-links; few = g .few; room = h; happen = g .happen }
 
--- the bytes fix tasks, links and events
-pub one-reading : {s out out′ ds ds′ : List ℕ} {ls ls′ : List Link} {es es′ : List (Event ℕ)} → Genuine s out ds ls es → Genuine s out′ ds′ ls′ es′
+-- the bytes fix the kind,
+pub one-kind : {wide : Bool} {s out ds : List ℕ} {ls : List Link} {es : List (Event ℕ)} → Genuine wide s out ds ls es → wideIn s ≡ wide
+one-kind {wide} g = ap wideIn (g .bytes) ∙ kind-said wide
+
+-- and tasks, links and events
+one-reading-of-kind :
+    {wide : Bool} {s out out′ ds ds′ : List ℕ} {ls ls′ : List Link} {es es′ : List (Event ℕ)} → Genuine wide s out ds ls es → Genuine wide s out′ ds′ ls′ es′
     → (ds ≡ ds′) × (ls ≡ ls′) × (es ≡ es′)
-one-reading {s} {out} {out′} {ds} {ds′} {ls} {ls′} {es} {es′} g g′ =
+one-reading-of-kind {wide} {s} {out} {out′} {ds} {ds′} {ls} {ls′} {es} {es′} g g′ =
     let n = reads es + reads es′ in
     let long = length-replicate {A = ℕ} n 0 in
     let k = genuine-kept (genuine-room {out′ = replicate {A = ℕ} n 0} g (omega arith)) in
     let k′ = genuine-kept (genuine-room {out′ = replicate {A = ℕ} n 0} g′ (omega arith)) in
-    let u = recorded-unique baseRecording (coreOf base (replicate {A = ℕ} n 0)) s ds ds′ ls ls′ es es′ k k′ in
+    let u = recorded-unique (eitherKind wide) (coreOf base (replicate {A = ℕ} n 0)) s ds ds′ ls ls′ es es′ k k′ in
     (u .0, u .1 .0, u .1 .1)
 
+pub one-reading :
+    {wide wide′ : Bool} {s out out′ ds ds′ : List ℕ} {ls ls′ : List Link} {es es′ : List (Event ℕ)} → Genuine wide s out ds ls es → Genuine wide′ s out′ ds′ ls′ es′
+    → (wide ≡ wide′) × (ds ≡ ds′) × (ls ≡ ls′) × (es ≡ es′)
+one-reading {s = s} {out′ = out′} {ds′ = ds′} {ls′ = ls′} {es′ = es′} g g′ =
+    let same = sym (one-kind g) ∙ one-kind g′ in
+    let u = one-reading-of-kind g (subst (λ (w : Bool). Genuine w s out′ ds′ ls′ es′) (sym same) g′) in
+    (same, u .0, u .1, u .2)
+
 module _ {s out list : List ℕ} {a : Answer} (said : Replays s out a list) where
-  pub exactly : (a .refusal ≡ 0) ↔ ((ds : List ℕ) × ((ls : List Link) × ((es : List (Event ℕ)) × Genuine s out ds ls es)))
+  pub exactly : (a .refusal ≡ 0) ↔ ((wide : Bool) × ((ds : List ℕ) × ((ls : List Link) × ((es : List (Event ℕ)) × Genuine wide s out ds ls es))))
   exactly = (
-    λ z. let g = accepted-only said z in (g .0, (g .1 .0, (g .1 .1 .0, core-genuine (g .1 .1 .1)))),
-    λ g. accepted-all said (genuine-core (g .1 .1 .1)) .0,
+    λ z. let g = accepted-only said z in (wideIn s, (g .0, (g .1 .0, (g .1 .1 .0, core-genuine (g .1 .1 .1))))),
+    λ g. accepted-all said (g .0) (genuine-core (g .1 .1 .1 .1)) .0,
   )
 
 -- an answer with the state that some events came to
@@ -99,10 +121,10 @@ module _ {s out list : List ℕ} {a : Answer} {r p : ℕ} {ds : List ℕ} {ls : 
   listed-there = subst (λ (x : List ℕ). Listed (w .ns) out x) (sym (ap (λ (x : Verdict Playing). x .state .list) e)) (w .listed)
 
 -- a recording that is accepted
-pub accepted-calls : {s out list ds : List ℕ} {a : Answer} {ls : List Link} {es : List (Event ℕ)} → Replays s out a list → Genuine s out ds ls es
+pub accepted-calls : {wide : Bool} {s out list ds : List ℕ} {a : Answer} {ls : List Link} {es : List (Event ℕ)} → Replays s out a list → Genuine wide s out ds ls es
     → (ns : List ℕ) × Calls (station ds ls) es ns (a .state) × Listed ns out list × (a .place ≡ length s)
-accepted-calls {s} {out} {list} {ds} {a} {ls} {es} said g =
+accepted-calls {wide} {s} {out} {list} {ds} {a} {ls} {es} said g =
     let k = genuine-kept g in
-    let e = said .answer ∙ recorded-accepted baseRecording (coreOf base out) s ds ls es k refl in
-    let w = went out ds ls es (recorded-judged baseRecording base base-room (coreOf base out) s ds ls es k) (k .played .allowed) in
+    let e = answer-by said wide (one-kind g) ∙ recorded-accepted (eitherKind wide) (coreOf base out) s ds ls es k refl in
+    let w = went out ds ls es (recorded-judged (eitherKind wide) base (kind-room wide) (coreOf base out) s ds ls es k) (k .played .allowed) in
     (w .ns, calls-there said e w, listed-there said e w, ap (λ (x : Verdict Playing). x .place) e)

@@ -13,7 +13,7 @@ use Rattle.protocol.specs.ZeroTime.{ideals}
 use Rattle.protocol_state.specs.Saved.{base}
 use Rattle.byte_format.specs.Play.{Verdict, verdict}
 use Rattle.recording_format.specs.Link.{Link}
-use Rattle.recording_format.specs.RecordingKind.{baseRecording}
+use Rattle.recording_format.specs.RecordingKind.{eitherKind, kindIn}
 use Rattle.recording_format.specs.Recording.{encodeRecording, stateAfter, recording}
 use Rattle.recording_format.proofs.Decided.{outcome-is}
 use Rattle.recording_core.specs.Playing.{Playing, coreOf}
@@ -42,11 +42,11 @@ use Rattle.demands.proofs.Explained.{single-made}
 
 -- the answer that the replay's definition gives
 abbrev defined : List ℕ → List ℕ → Verdict Playing
-defined s out = recording baseRecording (coreOf base out) s
+defined s out = recording (kindIn s) (coreOf base out) s
 
 -- ---- an answer in the table
 table-answer : {s out list : List ℕ} {a : Answer} → AtTable s out a list → replied a list ≡ defined s out
-table-answer {s} {out} {list} {a} x = same ∙ outcome-is baseRecording (coreOf base out) s (fault-found s out (x .fault))
+table-answer {s} {out} {list} {a} x = same ∙ outcome-is (kindIn s) (coreOf base out) s (fault-found s out (x .fault))
   where
     state : saved (a .state) ≡ coreOf base out .single .state
     state = ap (λ (m : fresh.Made). m .state) (x .state .answer) ∙ ap (λ (m : fresh.Made). m .state) single-made
@@ -66,7 +66,7 @@ module _ {s out list : List ℕ} {a : Answer} (x : AtEvents s out a list) where
   es = x .es
 
   -- no more events than their count says
-  within-total : {r : ℕ} → Ending (station ds ls) s out (x .total) es (a .place) r → length es ≤ x .total
+  within-total : {r : ℕ} → Ending (x .wide) (station ds ls) s out (x .total) es (a .place) r → length es ≤ x .total
   within-total (recordings.whole e p) = omega arith
   within-total (recordings.extra e p) = omega arith
   within-total (noKind h p) = omega arith
@@ -75,12 +75,14 @@ module _ {s out list : List ℕ} {a : Answer} (x : AtEvents s out a list) where
   within-total (badEvent h e q b f g n) = omega arith
 
   -- the events alone are a recording
-  alone : Genuine (encodeRecording baseRecording ds ls es) out ds ls es
+  alone : Genuine (x .wide) (encodeRecording (eitherKind (x .wide)) ds ls es) out ds ls es
   unfolding reads
   alone = record {
     keeps = x .begun .keeps;
     bytes = refl;
     fits = x .begun .fits;
+    few-tasks = x .begun .few-tasks;
+    few-links = x .begun .few-links;
     few = omega (arith, within-total (x .ending), x .begun .few);
     room = omega (arith, x .listed .room, ap length (calls-ideals (x .calls)), length-turned (ideals (station ds ls) (past [] es)), calls-count (x .calls), past-reads [] es);
     happen = possible-happen (station ds ls) [] es (calls-possible (x .calls)) .0;
@@ -106,7 +108,7 @@ module _ {s out list : List ℕ} {a : Answer} (x : AtEvents s out a list) where
   same-reply = λ i. verdict (a .refusal) (a .place) (record { state = same-state i; counts = same-counts i; list = same-list i })
 
   events-answer : replied a list ≡ defined s out
-  events-answer = same-reply ∙ outcome-is baseRecording (coreOf base out) s (found (x .begun) alone (x .ending))
+  events-answer = same-reply ∙ outcome-is (kindIn s) (coreOf base out) s (found (x .begun) alone (x .ending))
 
   -- "arrivals counted task by task equal finishes plus tasks still active"
   pub totals : a .arrivals ≡ a .finishes + count (busy (saved (a .state))) (length ds)

@@ -8,7 +8,7 @@ use Prim.Native.Nat.{ℕ, _+_, _-_, _≤_, _<_}
 use native.Mathlib.Omega.{arith}
 use borrow.Author.Tests.{eqb-true, eqb-false, eq-eqb, ne-eqb, ltb-true, lt-ltb, leb-true, leb-false}
 use lib.Dec.{eqb, ltb, leb}
-use lib.ListN.{length}
+use lib.ListN.{length, getD}
 use Rattle.protocol_state.specs.Saved.{base}
 use Rattle.byte_format.specs.Number.{bytesOf, numberAt}
 use Rattle.byte_format.specs.Stands.{Stands}
@@ -21,10 +21,10 @@ use Rattle.byte_format.proofs.Sized.{sized-reads, sized-ends}
 use Rattle.byte_format.proofs.Standing.{stands-join, stands-first, stands-left}
 use Rattle.recording_format.specs.Task.{tasks, anyTask, andTask}
 use Rattle.recording_format.specs.Link.{Link, links, linkAt, andLink, linkFault}
-use Rattle.recording_format.specs.RecordingKind.{baseRecording, firstLimit, taskLimit, linkLimit, eventLimit}
+use Rattle.recording_format.specs.RecordingKind.{RecordingKind, baseRecording, wideRecording, eitherKind, kindNamed, kindIn, wideIn, firstLimit, taskLimit, linkLimit, eventLimit}
 use Rattle.recording_format.specs.Recording.{encodeFirst, taskPlace, tasksEnd, firstAt, taskCountAt, linkCountAt, eventCountAt}
 use Rattle.recording_format.specs.Outcome.{Begins, TasksTo, TableTo, RecordingOutcome, firstByte, taskCount, taskRecord, linkCount, linkRecord, eventCount}
-use Rattle.recording_format.proofs.Base.{base-room, base-counts}
+use Rattle.recording_format.proofs.BothKinds.{kind-room, kind-counts, kind-begun}
 use Rattle.recording_format.proofs.Sizes.{tasks-within, within-tasks, links-within, within-links, tasks-fit, links-fit}
 use Rattle.recording_format.proofs.LinkRules.{no-fault-allowed, allowed-judged}
 use Rattle.recording_format.proofs.Onward.{any-allowed, in-order}
@@ -71,29 +71,38 @@ module _ (w : ℕ) (limit : ℕ → ℕ) (s : List ℕ) (p : ℕ) where
           let l = leb-false (p + w) (length s) i in
           subst (λ (k : ℕ). CountFault w limit s p k) (stopped (sym (count-stops h (cut l)) ∙ e)) (cut l)
 
--- the limit of the first byte
-first-over : (n : ℕ) → firstLimit baseRecording n ≢ 0 → (firstLimit baseRecording n ≡ 2) × (n ≢ baseRecording .first)
-first-over n ne = go (eqb n (baseRecording .first)) refl ne
+-- the first byte, where it is that of no kind
+first-other : {n b : ℕ} → n ≡ b → b ≢ baseRecording .first → b ≢ wideRecording .first → firstLimit (kindNamed b) n ≡ 2
+first-other {n} {b} e other wide = rw (ne-eqb b (wideRecording .first) wide, ne-eqb n (baseRecording .first) (λ z. other (sym e ∙ z)))
+
+-- and where it is refused
+first-over : {n b : ℕ} → n ≡ b → firstLimit (kindNamed b) n ≢ 0 → (firstLimit (kindNamed b) n ≡ 2) × ((b ≢ baseRecording .first) × (b ≢ wideRecording .first))
+first-over {n} {b} e ne = go (eqb b 254) refl (eqb n 253) (eqb n 254) refl refl ne
   where
-    go : (b : Bool) → eqb n (baseRecording .first) ≡ b → cond {A = ℕ} b 0 2 ≢ 0 → (cond {A = ℕ} b 0 2 ≡ 2) × (n ≢ baseRecording .first)
-    go true e m = absurd (m refl)
-    go false e m = (refl, eqb-false n (baseRecording .first) e)
+    go :
+        (w : Bool) → eqb b 254 ≡ w → (x y : Bool) → eqb n 253 ≡ x → eqb n 254 ≡ y → firstLimit (eitherKind w) n ≢ 0 →
+        (firstLimit (eitherKind w) n ≡ 2) × ((b ≢ 253) × (b ≢ 254))
+    go true f x true g h m = absurd (m (rw h))
+    go true f x false g h m = absurd (eqb-false n 254 h (e ∙ eqb-true b 254 f))
+    go false f true y g h m = absurd (m (rw g))
+    go false f false y g h m = (rw g, (λ z. eqb-false n 253 g (e ∙ z), eqb-false b 254 f))
 
 -- and the three of the counts
-task-over : (n : ℕ) → taskLimit baseRecording n ≢ 0 → (taskLimit baseRecording n ≡ 2) × ((n ≡ 0) ⊎ (baseRecording .tasks < n))
-task-over n ne = go (eqb n 0 || ltb (baseRecording .tasks) n) refl ne
-  where
-    side : (eqb n 0 ≡ true) ⊎ (ltb (baseRecording .tasks) n ≡ true) → (n ≡ 0) ⊎ (baseRecording .tasks < n)
-    side (inl e) = inl (eqb-true n 0 e)
-    side (inr e) = inr (ltb-true (baseRecording .tasks) n e)
+module _ (kind : RecordingKind) where
+  task-over : (n : ℕ) → taskLimit kind n ≢ 0 → (taskLimit kind n ≡ 2) × ((n ≡ 0) ⊎ (kind .tasks < n))
+  task-over n ne = go (eqb n 0 || ltb (kind .tasks) n) refl ne
+    where
+      side : (eqb n 0 ≡ true) ⊎ (ltb (kind .tasks) n ≡ true) → (n ≡ 0) ⊎ (kind .tasks < n)
+      side (inl e) = inl (eqb-true n 0 e)
+      side (inr e) = inr (ltb-true (kind .tasks) n e)
 
-    go : (b : Bool) → (eqb n 0 || ltb (baseRecording .tasks) n) ≡ b → cond {A = ℕ} b 2 0 ≢ 0 → (cond {A = ℕ} b 2 0 ≡ 2) × ((n ≡ 0) ⊎ (baseRecording .tasks < n))
-    go true e m = (refl, side (either (eqb n 0) (ltb (baseRecording .tasks) n) e))
-    go false e m = absurd (m refl)
+      go : (b : Bool) → (eqb n 0 || ltb (kind .tasks) n) ≡ b → cond {A = ℕ} b 2 0 ≢ 0 → (cond {A = ℕ} b 2 0 ≡ 2) × ((n ≡ 0) ⊎ (kind .tasks < n))
+      go true e m = (refl, side (either (eqb n 0) (ltb (kind .tasks) n) e))
+      go false e m = absurd (m refl)
 
-over-tasks : (n : ℕ) → (n ≡ 0) ⊎ (baseRecording .tasks < n) → taskLimit baseRecording n ≡ 2
-over-tasks n (inl e) = rw (eq-eqb n 0 e)
-over-tasks n (inr h) = rw (or-second (eqb n 0) (lt-ltb (baseRecording .tasks) n h))
+  over-tasks : (n : ℕ) → (n ≡ 0) ⊎ (kind .tasks < n) → taskLimit kind n ≡ 2
+  over-tasks n (inl e) = rw (eq-eqb n 0 e)
+  over-tasks n (inr h) = rw (or-second (eqb n 0) (lt-ltb (kind .tasks) n h))
 
 -- a limit that is one number
 over-one : (most k n : ℕ) → cond {A = ℕ} (ltb most n) k 0 ≢ 0 → (cond {A = ℕ} (ltb most n) k 0 ≡ k) × (most < n)
@@ -104,58 +113,62 @@ over-one most k n ne = go (ltb most n) refl ne
     go false e m = absurd (m refl)
 
 -- ---- links that keep the rules, as the reader judges them
-pub allowed-keeps : (ds : List ℕ) (ls : List Link) → taskLimit baseRecording (length ds) ≡ 0 → length ls ≤ base .links → Allowed (linkFault (aheadOf ds) (length ds)) andLink [] ls → Keeps ds ls
-allowed-keeps ds ls t h a = keeps-of ds ls (allowed-judged (aheadOf ds) (length ds) baseRecording base base-room ls t (within-links baseRecording (length ls) h) a)
+pub allowed-keeps :
+    (wide : Bool) (ds : List ℕ) (ls : List Link) → taskLimit (eitherKind wide) (length ds) ≡ 0 → length ls ≤ eitherKind wide .links →
+    Allowed (linkFault (aheadOf ds) (length ds)) andLink [] ls → Keeps ds ls
+allowed-keeps wide ds ls t h a =
+    keeps-of ds ls (allowed-judged (aheadOf ds) (length ds) (eitherKind wide) base (kind-room wide) ls t (within-links (eitherKind wide) (length ls) h) a)
 
 pub keeps-allowed : (ds : List ℕ) (ls : List Link) → Keeps ds ls → Allowed (linkFault (aheadOf ds) (length ds)) andLink [] ls
 keeps-allowed ds ls k = no-fault-allowed (aheadOf ds) (length ds) ls (λ l h. no-fault (aheadOf ds) (length ds) (linkOf ls) l (k .rules l h))
 
-module _ (s : List ℕ) where
+module _ (wide : Bool) (s : List ℕ) where
   -- ---- what stands at the beginning
-  tasks-begun : {ds : List ℕ} {p : ℕ} → TasksTo baseRecording s ds p → TasksBegun s (length ds) ds p
-  tasks-begun {ds} t = record { few = tasks-within baseRecording (length ds) (t .whole .kept .few); fits = t .whole .kept .fits; bytes = stands-join (t .first) (t .whole .bytes) }
+  tasks-begun : {ds : List ℕ} {p : ℕ} → TasksTo (eitherKind wide) s ds p → TasksBegun wide s (length ds) ds p
+  tasks-begun {ds} t = record { few = tasks-within (eitherKind wide) (length ds) (t .whole .kept .few); fits = t .whole .kept .fits; bytes = stands-join (t .first) (t .whole .bytes) }
 
-  begun-tasks : {ds : List ℕ} {p : ℕ} → TasksBegun s (length ds) ds p → TasksTo baseRecording s ds p
+  begun-tasks : {ds : List ℕ} {p : ℕ} → TasksBegun wide s (length ds) ds p → TasksTo (eitherKind wide) s ds p
   begun-tasks {ds} b =
-      let few = within-tasks baseRecording (length ds) (b .few .0) (b .few .1) in
+      let few = within-tasks (eitherKind wide) (length ds) (b .few .0) (b .few .1) in
       record {
-        first = stands-first (encodeFirst baseRecording) _ (b .bytes);
+        first = stands-first (encodeFirst (eitherKind wide)) _ (b .bytes);
         whole = record {
-          kept = record { counted = tasks-fit baseRecording (length ds) base-counts few; few = few; fits = b .fits; allowed = any-allowed [] ds };
-          bytes = stands-left (encodeFirst baseRecording) _ (b .bytes);
+          kept = record { counted = tasks-fit (eitherKind wide) (length ds) (kind-counts wide) few; few = few; fits = b .fits; allowed = any-allowed [] ds };
+          bytes = stands-left (encodeFirst (eitherKind wide)) _ (b .bytes);
         };
       }
 
   -- all tasks of the links that are begun
-  links-tasks : {ds : List ℕ} {L p : ℕ} {ls : List Link} (b : LinksBegun s ds L ls p) → TasksTo baseRecording s ds (tasksEnd baseRecording ds)
+  links-tasks : {ds : List ℕ} {L p : ℕ} {ls : List Link} (b : LinksBegun wide s ds L ls p) → TasksTo (eitherKind wide) s ds (tasksEnd (eitherKind wide) ds)
   links-tasks {ds} b =
-      let first = stands-first (encodeFirst baseRecording) _ (b .bytes) in
+      let first = stands-first (encodeFirst (eitherKind wide)) _ (b .bytes) in
       begun-tasks (record {
-        few = b .keeps .tasks;
+        few = (b .keeps .tasks .0, b .few-tasks);
         fits = b .fits .0;
-        bytes = stands-join first (stands-first (encodeSection (tasks baseRecording) ds) _ (stands-left (encodeFirst baseRecording) _ (b .bytes)));
+        bytes = stands-join first (stands-first (encodeSection (tasks (eitherKind wide)) ds) _ (stands-left (encodeFirst (eitherKind wide)) _ (b .bytes)));
       })
 
   -- and the links after them
-  links-from : {ds : List ℕ} {L p : ℕ} {ls : List Link} (b : LinksBegun s ds L ls p) → Stands s (tasksEnd baseRecording ds) (bytesOf (baseRecording .linkCountWidth) L ++ encodes (links baseRecording) ls) p
-  links-from {ds} b = stands-left (encodeSection (tasks baseRecording) ds) _ (stands-left (encodeFirst baseRecording) _ (b .bytes))
+  links-from : {ds : List ℕ} {L p : ℕ} {ls : List Link} (b : LinksBegun wide s ds L ls p) → Stands s (tasksEnd (eitherKind wide) ds) (bytesOf ((eitherKind wide) .linkCountWidth) L ++ encodes (links (eitherKind wide)) ls) p
+  links-from {ds} b = stands-left (encodeSection (tasks (eitherKind wide)) ds) _ (stands-left (encodeFirst (eitherKind wide)) _ (b .bytes))
 
-  pub table-begun : {ds : List ℕ} {ls : List Link} {p : ℕ} → TableTo baseRecording s ds ls p → LinksBegun s ds (length ls) ls p
+  pub table-begun : {ds : List ℕ} {ls : List Link} {p : ℕ} → TableTo (eitherKind wide) s ds ls p → LinksBegun wide s ds (length ls) ls p
   table-begun {ds} {ls} t = record {
-    few = links-within baseRecording (length ls) (t .linked .kept .few);
-    keeps = allowed-keeps ds ls (t .tasked .whole .kept .few) (links-within baseRecording (length ls) (t .linked .kept .few)) (t .linked .kept .allowed);
+    few-tasks = tasks-within (eitherKind wide) (length ds) (t .tasked .whole .kept .few) .1;
+    few = links-within (eitherKind wide) (length ls) (t .linked .kept .few);
+    keeps = allowed-keeps wide ds ls (t .tasked .whole .kept .few) (links-within (eitherKind wide) (length ls) (t .linked .kept .few)) (t .linked .kept .allowed);
     fits = (t .tasked .whole .kept .fits, t .linked .kept .fits);
     bytes = stands-join (t .tasked .first) (stands-join (t .tasked .whole .bytes) (t .linked .bytes));
   }
 
-  pub begun-table : {ds : List ℕ} {ls : List Link} {p : ℕ} → LinksBegun s ds (length ls) ls p → TableTo baseRecording s ds ls p
+  pub begun-table : {ds : List ℕ} {ls : List Link} {p : ℕ} → LinksBegun wide s ds (length ls) ls p → TableTo (eitherKind wide) s ds ls p
   begun-table {ds} {ls} b =
-      let few = within-links baseRecording (length ls) (b .few) in
+      let few = within-links (eitherKind wide) (length ls) (b .few) in
       record {
-        place = tasksEnd baseRecording ds;
+        place = tasksEnd (eitherKind wide) ds;
         tasked = links-tasks b;
         linked = record {
-          kept = record { counted = links-fit baseRecording (length ls) base-counts few; few = few; fits = b .fits .1; allowed = keeps-allowed ds ls (b .keeps) };
+          kept = record { counted = links-fit (eitherKind wide) (length ls) (kind-counts wide) few; few = few; fits = b .fits .1; allowed = keeps-allowed ds ls (b .keeps) };
           bytes = links-from b;
         };
       }
@@ -165,126 +178,152 @@ module _ (s : List ℕ) where
   given : {r k p : ℕ} → k ≡ r → TableFault s k p → TableFault s r p
   given {p = p} e f = subst (λ (n : ℕ). TableFault s n p) e f
 
-  pub first-fault : {r : ℕ} → firstAt baseRecording s ≡ stop r → TableFault s r 0
-  first-fault e = go (stops-count 1 (firstLimit baseRecording) s 0 (omega arith) e)
+  pub task-count-fault : {r : ℕ} → Begins (eitherKind wide) s → taskCountAt (eitherKind wide) s taskPlace ≡ stop r → TableFault s r taskPlace
+  task-count-fault x e = go (stops-count 1 (taskLimit (eitherKind wide)) s taskPlace (x .within) e)
     where
-      go : {r : ℕ} → CountFault 1 (firstLimit baseRecording) s 0 r → TableFault s r 0
-      go (cut h) = noFirst (omega arith)
-      go (above h n) = let o = first-over (numberAt 1 s 0) n in given (sym (o .0)) (otherFirst (omega arith) (λ z. o .1 (number-one s 0 ∙ z)))
-
-  pub task-count-fault : {r : ℕ} → Begins baseRecording s → taskCountAt baseRecording s taskPlace ≡ stop r → TableFault s r taskPlace
-  task-count-fault x e = go (stops-count 1 (taskLimit baseRecording) s taskPlace (x .within) e)
-    where
-      go : {r : ℕ} → CountFault 1 (taskLimit baseRecording) s taskPlace r → TableFault s r taskPlace
-      go (cut h) = cutTaskCount x (omega arith)
-      go (above h n) = let o = task-over (numberAt (baseRecording .taskCountWidth) s taskPlace) n in given (sym (o .0)) (badTaskCount x (omega arith) (o .1))
+      go : {r : ℕ} → CountFault 1 (taskLimit (eitherKind wide)) s taskPlace r → TableFault s r taskPlace
+      go (cut h) = cutTaskCount wide x (omega arith)
+      go (above h n) = let o = task-over (eitherKind wide) (numberAt ((eitherKind wide) .taskCountWidth) s taskPlace) n in given (sym (o .0)) (badTaskCount wide x (omega arith) (o .1))
 
   -- a task record at fault is cut
-  pub task-fault : {ds : List ℕ} {r p : ℕ} → r ≢ 0 → Begins baseRecording s → Faulty (tasks baseRecording) (taskLimit baseRecording) anyTask andTask s [] taskPlace ds r p → TableFault s r p
+  pub task-fault : {ds : List ℕ} {r p : ℕ} → r ≢ 0 → Begins (eitherKind wide) s → Faulty (tasks (eitherKind wide)) (taskLimit (eitherKind wide)) anyTask andTask s [] taskPlace ds r p → TableFault s r p
   task-fault {ds} {r} {p} n x f = go (leb 4 (length s - p)) refl (f .fault)
     where
       go : (b : Bool) → leb 4 (length s - p) ≡ b → r ≡ refusalOf (cond b (got (numberAt 4 s p) (p + 4)) (stop 1)) (λ d. 0) → TableFault s r p
       go true i z = absurd (n z)
       go false i z =
           given (sym z)
-          (cutTask (record { few = tasks-within baseRecording (f .total) (f .few); fits = f .played .fits; bytes = stands-join x (stands-join (f .count) (f .played .bytes)) }) (f .more)
+          (cutTask wide (record { few = tasks-within (eitherKind wide) (f .total) (f .few); fits = f .played .fits; bytes = stands-join x (stands-join (f .count) (f .played .bytes)) }) (f .more)
           (omega (arith, leb-false 4 (length s - p) i, f .played .bytes .within)))
 
-  pub link-count-fault : {ds : List ℕ} {r p : ℕ} → TasksTo baseRecording s ds p → linkCountAt baseRecording s p ≡ stop r → TableFault s r p
-  link-count-fault {ds} {r} {p} t e = go (stops-count 1 (linkLimit baseRecording) s p (t .whole .bytes .within) e)
+  pub link-count-fault : {ds : List ℕ} {r p : ℕ} → TasksTo (eitherKind wide) s ds p → linkCountAt (eitherKind wide) s p ≡ stop r → TableFault s r p
+  link-count-fault {ds} {r} {p} t e = go (stops-count 1 (linkLimit (eitherKind wide)) s p (t .whole .bytes .within) e)
     where
-      go : {r : ℕ} → CountFault 1 (linkLimit baseRecording) s p r → TableFault s r p
-      go (cut h) = cutLinkCount (tasks-begun t) (omega (arith, t .whole .bytes .within))
-      go (above h n) = let o = over-one (baseRecording .links) 3 (numberAt (baseRecording .linkCountWidth) s p) n in given (sym (o .0)) (badLinkCount (tasks-begun t) (omega arith) (o .1))
+      go : {r : ℕ} → CountFault 1 (linkLimit (eitherKind wide)) s p r → TableFault s r p
+      go (cut h) = cutLinkCount wide (tasks-begun t) (omega (arith, t .whole .bytes .within))
+      go (above h n) = let o = over-one ((eitherKind wide) .links) 3 (numberAt ((eitherKind wide) .linkCountWidth) s p) n in given (sym (o .0)) (badLinkCount wide (tasks-begun t) (omega arith) (o .1))
 
   -- a link record is cut, or breaks a rule
-  pub link-fault : {ds : List ℕ} {m : ℕ} {ls : List Link} {r p : ℕ} → r ≢ 0 → TasksTo baseRecording s ds m
-      → Faulty (links baseRecording) (linkLimit baseRecording) (linkFault (aheadOf ds) (length ds)) andLink s [] m ls r p → TableFault s r p
+  pub link-fault : {ds : List ℕ} {m : ℕ} {ls : List Link} {r p : ℕ} → r ≢ 0 → TasksTo (eitherKind wide) s ds m
+      → Faulty (links (eitherKind wide)) (linkLimit (eitherKind wide)) (linkFault (aheadOf ds) (length ds)) andLink s [] m ls r p → TableFault s r p
   link-fault {ds} {m} {ls} {r} {p} n t f = go (leb 7 (length s - p)) refl (rw (in-order [] ls) at (f .fault))
     where
-      few : f .total ≤ baseRecording .links
-      few = links-within baseRecording (f .total) (f .few)
+      few : f .total ≤ (eitherKind wide) .links
+      few = links-within (eitherKind wide) (f .total) (f .few)
 
-      begun : LinksBegun s ds (f .total) ls p
+      begun : LinksBegun wide s ds (f .total) ls p
       begun = record {
+        few-tasks = tasks-within (eitherKind wide) (length ds) (t .whole .kept .few) .1;
         few = few;
-        keeps = allowed-keeps ds ls (t .whole .kept .few) (omega (arith, few, f .more)) (f .played .allowed);
+        keeps = allowed-keeps wide ds ls (t .whole .kept .few) (omega (arith, few, f .more)) (f .played .allowed);
         fits = (t .whole .kept .fits, f .played .fits);
         bytes = stands-join (t .first) (stands-join (t .whole .bytes) (stands-join (f .count) (f .played .bytes)));
       }
 
       go : (b : Bool) → leb 7 (length s - p) ≡ b → r ≡ refusalOf (cond b (got (linkAt s p) (p + 7)) (stop 1)) (linkFault (aheadOf ds) (length ds) ls) → TableFault s r p
       go true i z =
-          badLink begun (f .more) (omega (arith, leb-true 7 (length s - p) i))
+          badLink wide begun (f .more) (omega (arith, leb-true 7 (length s - p) i))
           (subst (λ (k : ℕ). Earns (LinkBreaks ds ls (linkAt s p)) k) (sym z) (link-earned ds ls (linkAt s p))) n
-      go false i z = given (sym z) (cutLink begun (f .more) (omega (arith, leb-false 7 (length s - p) i, begun .bytes .within)))
+      go false i z = given (sym z) (cutLink wide begun (f .more) (omega (arith, leb-false 7 (length s - p) i, begun .bytes .within)))
 
-  pub event-count-fault : {ds : List ℕ} {ls : List Link} {r p : ℕ} → TableTo baseRecording s ds ls p → eventCountAt baseRecording s p ≡ stop r → TableFault s r p
-  event-count-fault {ds} {ls} {r} {p} t e = go (stops-count 2 (eventLimit baseRecording) s p (t .linked .bytes .within) e)
+  pub event-count-fault : {ds : List ℕ} {ls : List Link} {r p : ℕ} → TableTo (eitherKind wide) s ds ls p → eventCountAt (eitherKind wide) s p ≡ stop r → TableFault s r p
+  event-count-fault {ds} {ls} {r} {p} t e = go (stops-count 2 (eventLimit (eitherKind wide)) s p (t .linked .bytes .within) e)
     where
-      go : {r : ℕ} → CountFault 2 (eventLimit baseRecording) s p r → TableFault s r p
-      go (cut h) = cutEventCount (table-begun t) h
-      go (above h n) = let o = over-one (baseRecording .events) 10 (numberAt (baseRecording .eventCountWidth) s p) n in given (sym (o .0)) (badEventCount (table-begun t) h (o .1))
+      go : {r : ℕ} → CountFault 2 (eventLimit (eitherKind wide)) s p r → TableFault s r p
+      go (cut h) = cutEventCount wide (table-begun t) h
+      go (above h n) = let o = over-one ((eitherKind wide) .events) 10 (numberAt ((eitherKind wide) .eventCountWidth) s p) n in given (sym (o .0)) (badEventCount wide (table-begun t) h (o .1))
 
   -- ---- and back
-  link-faulty : {ds : List ℕ} {L p : ℕ} {ls : List Link} → LinksBegun s ds L ls p → length ls < L → (r : ℕ) → r ≡ refusalOf (links baseRecording .read s p) (linkFault (aheadOf ds) (length ds) ls)
-      → Faulty (links baseRecording) (linkLimit baseRecording) (linkFault (aheadOf ds) (length ds)) andLink s [] (tasksEnd baseRecording ds) ls r p
+  link-faulty : {ds : List ℕ} {L p : ℕ} {ls : List Link} → LinksBegun wide s ds L ls p → length ls < L → (r : ℕ) → r ≡ refusalOf (links (eitherKind wide) .read s p) (linkFault (aheadOf ds) (length ds) ls)
+      → Faulty (links (eitherKind wide)) (linkLimit (eitherKind wide)) (linkFault (aheadOf ds) (length ds)) andLink s [] (tasksEnd (eitherKind wide) ds) ls r p
   link-faulty {ds} {L} {p} {ls} b more r e =
-      let few = within-links baseRecording L (b .few) in
-      let from : Stands s (tasksEnd baseRecording ds) (bytesOf (baseRecording .linkCountWidth) L ++ encodes (links baseRecording) ls) p = links-from b in
+      let few = within-links (eitherKind wide) L (b .few) in
+      let from : Stands s (tasksEnd (eitherKind wide) ds) (bytesOf ((eitherKind wide) .linkCountWidth) L ++ encodes (links (eitherKind wide)) ls) p = links-from b in
       record {
         total = L;
-        counted = links-fit baseRecording L base-counts few;
+        counted = links-fit (eitherKind wide) L (kind-counts wide) few;
         few = few;
-        first = tasksEnd baseRecording ds + length (bytesOf (baseRecording .linkCountWidth) L);
-        count = stands-first (bytesOf (baseRecording .linkCountWidth) L) _ from;
-        played = record { fits = b .fits .1; allowed = keeps-allowed ds ls (b .keeps); bytes = stands-left (bytesOf (baseRecording .linkCountWidth) L) _ from };
+        first = tasksEnd (eitherKind wide) ds + length (bytesOf ((eitherKind wide) .linkCountWidth) L);
+        count = stands-first (bytesOf ((eitherKind wide) .linkCountWidth) L) _ from;
+        played = record { fits = b .fits .1; allowed = keeps-allowed ds ls (b .keeps); bytes = stands-left (bytesOf ((eitherKind wide) .linkCountWidth) L) _ from };
         more = more;
         fault = rw (in-order [] ls) e;
       }
 
-  module _ (out : List ℕ) where
-    abbrev Found : ℕ → ℕ → Type 0
-    Found r p = RecordingOutcome baseRecording (coreOf base out) s (verdict r p (coreOf base out .single))
+-- ---- the first byte, and back
+module _ (s : List ℕ) where
+  pub first-fault : {r : ℕ} → firstAt (kindIn s) s ≡ stop r → TableFault s r 0
+  first-fault e = go (stops-count 1 (firstLimit (kindIn s)) s 0 (omega arith) e)
+    where
+      go : {r : ℕ} → CountFault 1 (firstLimit (kindIn s)) s 0 r → TableFault s r 0
+      go (cut h) = noFirst (omega arith)
+      go (above h n) =
+          let o = first-over {n = numberAt 1 s 0} {b = getD s 0 0} (number-one s 0) n in
+          subst (λ (k : ℕ). TableFault s k 0) (sym (o .0)) (otherFirst (omega arith) (o .1 .0) (o .1 .1))
 
-    pub fault-found : {r p : ℕ} → TableFault s r p → Found r p
-    fault-found (noFirst z) = firstByte 1 (λ y. omega arith) (count-stops 1 (firstLimit baseRecording) s 0 (omega arith) (cut (omega arith))) refl
-    fault-found (otherFirst h o) =
-        let two : firstLimit baseRecording (numberAt 1 s 0) ≡ 2 = rw (ne-eqb (numberAt 1 s 0) (baseRecording .first) (λ z. o (sym (number-one s 0) ∙ z))) in
-        firstByte 2 (λ y. omega arith) (count-above 1 (firstLimit baseRecording) s 0 (omega arith) two (λ y. omega arith)) refl
-    fault-found (cutTaskCount x z) = taskCount 1 (λ y. omega arith) x (count-stops 1 (taskLimit baseRecording) s taskPlace (x .within) (cut (omega arith))) refl
-    fault-found (badTaskCount x h o) =
-        taskCount 2 (λ y. omega arith) x (count-above 1 (taskLimit baseRecording) s taskPlace (omega arith) (over-tasks (numberAt (baseRecording .taskCountWidth) s taskPlace) o) (λ y. omega arith)) refl
-    fault-found (cutTask {T} {p} {ds} b more h) = taskRecord ds 1 p (λ y. omega arith) (stands-first (encodeFirst baseRecording) _ (b .bytes)) (faulty b more h) refl
+  -- ---- what the reader finds where such a fault lies
+  module _ (out : List ℕ) where
+    abbrev Found : RecordingKind → ℕ → ℕ → Type 0
+    Found kind r p = RecordingOutcome kind (coreOf base out) s (verdict r p (coreOf base out .single))
+
+    -- a fault behind the first byte of a kind, by the kind that the bytes say
+    said-so : (wide : Bool) {r p : ℕ} → Begins (eitherKind wide) s → Found (eitherKind wide) r p → Found (kindIn s) r p
+    said-so wide {r} {p} x o = subst (λ (w : Bool). Found (eitherKind w) r p) (sym (kind-begun wide s x)) o
+
+    first-of-links : (wide : Bool) {ds : List ℕ} {L p : ℕ} {ls : List Link} → LinksBegun wide s ds L ls p → Begins (eitherKind wide) s
+    first-of-links wide b = stands-first (encodeFirst (eitherKind wide)) _ (b .bytes)
+
+    first-of-tasks : (wide : Bool) {T p : ℕ} {ds : List ℕ} → TasksBegun wide s T ds p → Begins (eitherKind wide) s
+    first-of-tasks wide b = stands-first (encodeFirst (eitherKind wide)) _ (b .bytes)
+
+    pub fault-found : {r p : ℕ} → TableFault s r p → Found (kindIn s) r p
+    fault-found (noFirst z) = firstByte 1 (λ y. omega arith) (count-stops 1 (firstLimit (kindIn s)) s 0 (omega arith) (cut (omega arith))) refl
+    fault-found (otherFirst h o w) =
+        let two : firstLimit (kindIn s) (numberAt 1 s 0) ≡ 2 = first-other {n = numberAt 1 s 0} {b = getD s 0 0} (number-one s 0) o w in
+        firstByte 2 (λ y. omega arith) (count-above 1 (firstLimit (kindIn s)) s 0 (omega arith) two (λ y. omega arith)) refl
+    fault-found (cutTaskCount wide x z) =
+        said-so wide x (taskCount 1 (λ y. omega arith) x (count-stops 1 (taskLimit (eitherKind wide)) s taskPlace (x .within) (cut (omega arith))) refl)
+    fault-found (badTaskCount wide x h o) =
+        said-so wide x
+        (taskCount 2 (λ y. omega arith) x
+        (count-above 1 (taskLimit (eitherKind wide)) s taskPlace (omega arith) (over-tasks (eitherKind wide) (numberAt (eitherKind wide .taskCountWidth) s taskPlace) o) (λ y. omega arith)) refl)
+    fault-found (cutTask wide {T} {p} {ds} b more h) =
+        said-so wide (first-of-tasks wide b) (taskRecord ds 1 p (λ y. omega arith) (first-of-tasks wide b) (faulty b more h) refl)
       where
-        faulty : TasksBegun s T ds p → length ds < T → length s < p + baseRecording .valueWidth → Faulty (tasks baseRecording) (taskLimit baseRecording) anyTask andTask s [] taskPlace ds 1 p
+        faulty : TasksBegun wide s T ds p → length ds < T → length s < p + eitherKind wide .valueWidth → Faulty (tasks (eitherKind wide)) (taskLimit (eitherKind wide)) anyTask andTask s [] taskPlace ds 1 p
         faulty b more h =
-            let few = within-tasks baseRecording T (b .few .0) (b .few .1) in
-            let from : Stands s taskPlace (bytesOf (baseRecording .taskCountWidth) T ++ encodes (tasks baseRecording) ds) p = stands-left (encodeFirst baseRecording) _ (b .bytes) in
+            let few = within-tasks (eitherKind wide) T (b .few .0) (b .few .1) in
+            let from : Stands s taskPlace (bytesOf (eitherKind wide .taskCountWidth) T ++ encodes (tasks (eitherKind wide)) ds) p = stands-left (encodeFirst (eitherKind wide)) _ (b .bytes) in
             record {
               total = T;
-              counted = tasks-fit baseRecording T base-counts few;
+              counted = tasks-fit (eitherKind wide) T (kind-counts wide) few;
               few = few;
-              first = taskPlace + length (bytesOf (baseRecording .taskCountWidth) T);
-              count = stands-first (bytesOf (baseRecording .taskCountWidth) T) _ from;
-              played = record { fits = b .fits; allowed = any-allowed [] ds; bytes = stands-left (bytesOf (baseRecording .taskCountWidth) T) _ from };
+              first = taskPlace + length (bytesOf (eitherKind wide .taskCountWidth) T);
+              count = stands-first (bytesOf (eitherKind wide .taskCountWidth) T) _ from;
+              played = record { fits = b .fits; allowed = any-allowed [] ds; bytes = stands-left (bytesOf (eitherKind wide .taskCountWidth) T) _ from };
               more = more;
               fault = sym (ap (λ (y : Got ℕ). refusalOf y (anyTask (finally andTask [] ds))) (sized-ends 4 (numberAt 4 s p) s p (b .bytes .within) h));
             }
-    fault-found (cutLinkCount {p} {ds} b z) =
-        linkCount ds 1 p (λ y. omega arith) (begun-tasks b) (count-stops 1 (linkLimit baseRecording) s p (b .bytes .within) (cut (omega arith))) refl
-    fault-found (badLinkCount {p} {ds} b h o) =
-        let three : linkLimit baseRecording (numberAt (baseRecording .linkCountWidth) s p) ≡ 3 = rw (lt-ltb (baseRecording .links) (numberAt (baseRecording .linkCountWidth) s p) o) in
-        linkCount ds 3 p (λ y. omega arith) (begun-tasks b) (count-above 1 (linkLimit baseRecording) s p (omega arith) three (λ y. omega arith)) refl
-    fault-found (cutLink {L} {p} {ds} {ls} b more h) =
-        linkRecord ds (tasksEnd baseRecording ds) ls 1 p (λ y. omega arith) (links-tasks b)
-        (link-faulty b more 1 (sym (ap (λ (y : Got Link). refusalOf y (linkFault (aheadOf ds) (length ds) ls)) (sized-ends 7 (linkAt s p) s p (b .bytes .within) h)))) refl
-    fault-found (badLink {L} {p} {r} {ds} {ls} b more h g n) =
-        linkRecord ds (tasksEnd baseRecording ds) ls r p n (links-tasks b)
-        (link-faulty b more r
-        (earns-one g (link-earned ds ls (linkAt s p)) ∙ sym (ap (λ (y : Got Link). refusalOf y (linkFault (aheadOf ds) (length ds) ls)) (sized-reads 7 (linkAt s p) s p h)))) refl
-    fault-found (cutEventCount {p} {ds} {ls} b h) =
-        eventCount ds ls 1 p (λ y. omega arith) (begun-table b) (count-stops 2 (eventLimit baseRecording) s p (b .bytes .within) (cut h)) refl
-    fault-found (badEventCount {p} {ds} {ls} b h o) =
-        let ten : eventLimit baseRecording (numberAt (baseRecording .eventCountWidth) s p) ≡ 10 = rw (lt-ltb (baseRecording .events) (numberAt (baseRecording .eventCountWidth) s p) o) in
-        eventCount ds ls 10 p (λ y. omega arith) (begun-table b) (count-above 2 (eventLimit baseRecording) s p h ten (λ y. omega arith)) refl
+    fault-found (cutLinkCount wide {p} {ds} b z) =
+        said-so wide (first-of-tasks wide b)
+        (linkCount ds 1 p (λ y. omega arith) (begun-tasks wide s b) (count-stops 1 (linkLimit (eitherKind wide)) s p (b .bytes .within) (cut (omega arith))) refl)
+    fault-found (badLinkCount wide {p} {ds} b h o) =
+        let three : linkLimit (eitherKind wide) (numberAt (eitherKind wide .linkCountWidth) s p) ≡ 3 = rw (lt-ltb (eitherKind wide .links) (numberAt (eitherKind wide .linkCountWidth) s p) o) in
+        said-so wide (first-of-tasks wide b)
+        (linkCount ds 3 p (λ y. omega arith) (begun-tasks wide s b) (count-above 1 (linkLimit (eitherKind wide)) s p (omega arith) three (λ y. omega arith)) refl)
+    fault-found (cutLink wide {L} {p} {ds} {ls} b more h) =
+        said-so wide (first-of-links wide b)
+        (linkRecord ds (tasksEnd (eitherKind wide) ds) ls 1 p (λ y. omega arith) (links-tasks wide s b)
+        (link-faulty wide s b more 1 (sym (ap (λ (y : Got Link). refusalOf y (linkFault (aheadOf ds) (length ds) ls)) (sized-ends 7 (linkAt s p) s p (b .bytes .within) h)))) refl)
+    fault-found (badLink wide {L} {p} {r} {ds} {ls} b more h g n) =
+        said-so wide (first-of-links wide b)
+        (linkRecord ds (tasksEnd (eitherKind wide) ds) ls r p n (links-tasks wide s b)
+        (link-faulty wide s b more r
+        (earns-one g (link-earned ds ls (linkAt s p)) ∙ sym (ap (λ (y : Got Link). refusalOf y (linkFault (aheadOf ds) (length ds) ls)) (sized-reads 7 (linkAt s p) s p h)))) refl)
+    fault-found (cutEventCount wide {p} {ds} {ls} b h) =
+        said-so wide (first-of-links wide b)
+        (eventCount ds ls 1 p (λ y. omega arith) (begun-table wide s b) (count-stops 2 (eventLimit (eitherKind wide)) s p (b .bytes .within) (cut h)) refl)
+    fault-found (badEventCount wide {p} {ds} {ls} b h o) =
+        let ten : eventLimit (eitherKind wide) (numberAt (eitherKind wide .eventCountWidth) s p) ≡ 10 = rw (lt-ltb (eitherKind wide .events) (numberAt (eitherKind wide .eventCountWidth) s p) o) in
+        said-so wide (first-of-links wide b)
+        (eventCount ds ls 10 p (λ y. omega arith) (begun-table wide s b) (count-above 2 (eventLimit (eitherKind wide)) s p h ten (λ y. omega arith)) refl)

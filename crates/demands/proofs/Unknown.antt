@@ -1,7 +1,8 @@
--- Demand 1: a byte that is no kind of event, and a link of an unknown kind, are refused at their place.
+-- Demand 1: a first byte of no kind of recording, a byte that is no kind of event, and a link of an unknown kind, are refused at their place.
 -- Assumes nothing.
 use mathlib.Core.Path.{_≡_, refl, sym, ap, subst}
 use mathlib.Core.Logic.{_≢_, _⊎_, inl, inr}
+use mathlib.Core.Bool.{Bool}
 use mathlib.Core.List.{List}
 use Prim.Native.Nat.{ℕ, _+_, _≤_, _<_}
 use native.Mathlib.Omega.{arith}
@@ -9,7 +10,7 @@ use lib.ListN.{length, getD}
 use Rattle.protocol.specs.Event.{Event}
 use Rattle.protocol_state.specs.Records.{aheadOf}
 use Rattle.byte_format.specs.Play.{Verdict}
-use Rattle.recording_format.specs.RecordingKind.{baseRecording}
+use Rattle.recording_format.specs.RecordingKind.{baseRecording, wideRecording, eitherKind}
 use Rattle.recording_format.specs.Link.{Link, linkSize, linkAt, linkFault}
 use Rattle.recording_format.specs.Recording.{encodeRecording}
 use Rattle.recording_core.specs.Playing.{Playing}
@@ -17,14 +18,20 @@ use Rattle.recording.specs.declared.Answer.{Answer}
 use Rattle.recording_demands.specs.Ensured.{Replays}
 use Rattle.recording_demands.proofs.Demands.{only-answer}
 use Rattle.demands.specs.Refusals.{Earns, none, lowest, LinkBreaks, noTask, directToItself, unknownKind, directAhead, twice, ninth, startsDirect}
-use Rattle.demands.specs.Recordings.{Genuine, LinksBegun, EventsBegun, KindOf, badLink}
+use Rattle.demands.specs.Recordings.{Genuine, LinksBegun, EventsBegun, KindOf, otherFirst, badLink}
 use Rattle.demands.specs.Recordings as recordings
 use Rattle.demands.proofs.Links.{link-earned}
 use Rattle.demands.proofs.TableFaults.{fault-found}
 use Rattle.demands.proofs.Found.{found}
 
-pub unknown-event : {s out list ds : List ℕ} {a : Answer} {ls : List Link} {es : List (Event ℕ)} {E p : ℕ} → Replays s out a list →
-    Genuine (encodeRecording baseRecording ds ls es) out ds ls es → EventsBegun s ds ls E es p → length es < E → p < length s → ((n : ℕ) → KindOf (getD s p 0) n → ⊥) →
+pub unknown-first : {s out list : List ℕ} {a : Answer} → Replays s out a list → 1 ≤ length s → getD s 0 0 ≢ baseRecording .first → getD s 0 0 ≢ wideRecording .first →
+    (a .refusal ≡ 2) × (a .place ≡ 0)
+unknown-first {s} {out} said h o w =
+    let e = sym (only-answer said (fault-found s out (otherFirst h o w))) in
+    (ap (λ (x : Verdict Playing). x .refusal) e, ap (λ (x : Verdict Playing). x .place) e)
+
+pub unknown-event : {wide : Bool} {s out list ds : List ℕ} {a : Answer} {ls : List Link} {es : List (Event ℕ)} {E p : ℕ} → Replays s out a list →
+    Genuine wide (encodeRecording (eitherKind wide) ds ls es) out ds ls es → EventsBegun wide s ds ls E es p → length es < E → p < length s → ((n : ℕ) → KindOf wide (getD s p 0) n → ⊥) →
     (a .refusal ≡ 11) × (a .place ≡ p)
 unknown-event said g b more h u =
     let e = sym (only-answer said (found b g (recordings.unknownKind more h u))) in
@@ -49,13 +56,13 @@ four-or-six : {r : ℕ} → (r ≡ 4) ⊎ (r ≡ 6) → r ≢ 0
 four-or-six (inl e) z = omega arith
 four-or-six (inr e) z = omega arith
 
-pub unknown-link : {s out list ds : List ℕ} {a : Answer} {ls : List Link} {L p : ℕ} → Replays s out a list →
-    LinksBegun s ds L ls p → length ls < L → p + linkSize baseRecording ≤ length s → 1 < linkAt s p .kind →
+pub unknown-link : {wide : Bool} {s out list ds : List ℕ} {a : Answer} {ls : List Link} {L p : ℕ} → Replays s out a list →
+    LinksBegun wide s ds L ls p → length ls < L → p + linkSize (eitherKind wide) ≤ length s → 1 < linkAt s p .kind →
     Earns (LinkBreaks ds ls (linkAt s p)) (a .refusal) × ((a .refusal ≡ 4) ⊎ (a .refusal ≡ 6)) × (a .place ≡ p)
-unknown-link {s} {out} {list} {ds} {a} {ls} {L} {p} said b more h k =
+unknown-link {wide} {s} {out} {list} {ds} {a} {ls} {L} {p} said b more h k =
     let g = link-earned ds ls (linkAt s p) in
     let n : linkFault (aheadOf ds) (length ds) ls (linkAt s p) ≢ 0 = four-or-six (unknown-earns k g) in
-    let e = sym (only-answer said (fault-found s out (badLink b more h g n))) in
+    let e = sym (only-answer said (fault-found s out (badLink wide b more h g n))) in
     let r = ap (λ (x : Verdict Playing). x .refusal) e in
     let same = subst (λ (x : ℕ). Earns (LinkBreaks ds ls (linkAt s p)) x) (sym r) g in
     (same, unknown-earns k same, ap (λ (x : Verdict Playing). x .place) e)

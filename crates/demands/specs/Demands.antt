@@ -4,7 +4,7 @@
 -- Assumes nothing.
 use mathlib.Core.Path.{_≡_}
 use mathlib.Core.Logic.{_≢_, _⊎_, _↔_}
-use mathlib.Core.Bool.{true, false}
+use mathlib.Core.Bool.{Bool, true, false, cond}
 use mathlib.Core.List.{List, [], _∷_, _++_}
 use Prim.Native.Nat.{ℕ, pred, _+_, _≤_, _<_}
 use lib.ListN.{length, take, getD}
@@ -21,7 +21,7 @@ use Rattle.protocol.specs.Instant.{Order, zeroRun, find}
 use Rattle.protocol.specs.Answering.{ReadsNothing}
 use Rattle.byte_format.specs.Number.{Bytes}
 use Rattle.recording_format.specs.Link.{Link, linkSize, linkAt}
-use Rattle.recording_format.specs.RecordingKind.{baseRecording}
+use Rattle.recording_format.specs.RecordingKind.{baseRecording, wideRecording, eitherKind}
 use Rattle.mailbox.specs.declared.State.{State}
 use Rattle.mailbox.specs.declared.Step.{Step}
 use Rattle.mailbox.specs.declared.Made.{Made}
@@ -50,13 +50,16 @@ pub record Demand1 : Type 0 where
   pub tells : Tells
   -- "Nothing unknown ever becomes a default.": a state that is not sound, whatever is wrong in it, is answered 19;
   pub unknown-state : (q : State) (e : Event ℕ) (r : Step) → Gives q e r → (IsSound q → ⊥) → r ≡ asLent q 19
+  -- a first byte of no kind of recording 2 at 0;
+  pub unknown-first : {s out list : List ℕ} {a : Answer} → Replays s out a list → 1 ≤ length s → getD s 0 0 ≢ baseRecording .first → getD s 0 0 ≢ wideRecording .first →
+      (a .refusal ≡ 2) × (a .place ≡ 0)
   -- a byte that is no kind of event, where an event is due after a table and events that are accepted, 11 at its place;
-  pub unknown-event : {s out list ds : List ℕ} {a : Answer} {ls : List Link} {es : List (Event ℕ)} {E p : ℕ} → Replays s out a list →
-      Genuine (recordingBytes ds ls es) out ds ls es → EventsBegun s ds ls E es p → length es < E → p < length s → ((n : ℕ) → KindOf (getD s p 0) n → ⊥) →
-      (a .refusal ≡ 11) × (a .place ≡ p)
+  pub unknown-event : {wide : Bool} {s out list ds : List ℕ} {a : Answer} {ls : List Link} {es : List (Event ℕ)} {E p : ℕ} → Replays s out a list →
+      Genuine wide (recordingBytes wide ds ls es) out ds ls es → EventsBegun wide s ds ls E es p → length es < E → p < length s →
+      ((n : ℕ) → KindOf wide (getD s p 0) n → ⊥) → (a .refusal ≡ 11) × (a .place ≡ p)
   -- a link of an unknown kind is refused at its place, with 6 unless it names no task of the table, which is 4 (in a table that is handed over whole: `table-number`)
-  pub unknown-link : {s out list ds : List ℕ} {a : Answer} {ls : List Link} {L p : ℕ} → Replays s out a list →
-      LinksBegun s ds L ls p → length ls < L → p + linkSize baseRecording ≤ length s → 1 < linkAt s p .kind →
+  pub unknown-link : {wide : Bool} {s out list ds : List ℕ} {a : Answer} {ls : List Link} {L p : ℕ} → Replays s out a list →
+      LinksBegun wide s ds L ls p → length ls < L → p + linkSize (eitherKind wide) ≤ length s → 1 < linkAt s p .kind →
       Earns (LinkBreaks ds ls (linkAt s p)) (a .refusal) × ((a .refusal ≡ 4) ⊎ (a .refusal ≡ 6)) × (a .place ≡ p)
   -- "Each refusal has its number": of a table; of an event given to a sound state, by its phases; and after any calls by the accepted events alone
   pub table-number : (T L : ℕ) (D W R K B : List ℕ) (m : Made) → Makes T L D W R K B m → (n : ℕ) → (m .refusal ≡ n) ↔ TableEarns (firstTasks T D) (firstLinks L W R K B) n
@@ -82,10 +85,10 @@ pub record Demand2 : Type 0 where
   -- "A recording is accepted exactly when its links obey the published rules, its bytes and list room the stated limits, and its events could happen on one
   -- processor where no unfinished task arrives again and the most urgent unfinished task alone may run."
   pub recording : {s out list : List ℕ} {a : Answer} → Replays s out a list →
-      (a .refusal ≡ 0) ↔ ((ds : List ℕ) × ((ls : List Link) × ((es : List (Event ℕ)) × Genuine s out ds ls es)))
-  -- and the bytes fix which tasks, links and events these are
-  pub one-reading : {s out out′ ds ds′ : List ℕ} {ls ls′ : List Link} {es es′ : List (Event ℕ)} → Genuine s out ds ls es → Genuine s out′ ds′ ls′ es′ →
-      (ds ≡ ds′) × (ls ≡ ls′) × (es ≡ es′)
+      (a .refusal ≡ 0) ↔ ((wide : Bool) × ((ds : List ℕ) × ((ls : List Link) × ((es : List (Event ℕ)) × Genuine wide s out ds ls es))))
+  -- and the bytes fix of which kind they are, and which tasks, links and events these are
+  pub one-reading : {wide wide′ : Bool} {s out out′ ds ds′ : List ℕ} {ls ls′ : List Link} {es es′ : List (Event ℕ)} →
+      Genuine wide s out ds ls es → Genuine wide′ s out′ ds′ ls′ es′ → (wide ≡ wide′) × (ds ≡ ds′) × (ls ≡ ls′) × (es ≡ es′)
   -- the same of a table and of single events
   pub table : (T L : ℕ) (D W R K B : List ℕ) (m : Made) → Makes T L D W R K B m → (m .refusal ≡ 0) ↔ Keeps (firstTasks T D) (firstLinks L W R K B)
   pub event : {T : Table ℕ} {es : List (Event ℕ)} {ns : List ℕ} {q : State} → Calls T es ns q → (e : Event ℕ) (r : Step) → Gives q e r →
@@ -103,7 +106,7 @@ pub record Demand2 : Type 0 where
   pub any-number : (q : State) (l : ℕ) (r : Step) → Gives q (read l) r → IsWhole q → IsSound q → r .answer .refusal ≡ 0 →
       r .answer .value ≡ published.number (tableIn q) (boxesIn q) l
   -- an accepted recording is a sequence of calls in which all its events were accepted; its list is their numbers and the untouched rest
-  pub replayed : {s out list ds : List ℕ} {a : Answer} {ls : List Link} {es : List (Event ℕ)} → Replays s out a list → Genuine s out ds ls es →
+  pub replayed : {wide : Bool} {s out list ds : List ℕ} {a : Answer} {ls : List Link} {es : List (Event ℕ)} → Replays s out a list → Genuine wide s out ds ls es →
       (ns : List ℕ) × Calls (station ds ls) es ns (a .state) × Listed ns out list × (a .place ≡ length s)
   -- whoever makes such calls gets these numbers and this state
   pub one-course : {T : Table ℕ} {es : List (Event ℕ)} {ns ns′ : List ℕ} {q q′ : State} → Calls T es ns q → Calls T es ns′ q′ → (ns ≡ ns′) × (q ≡ q′)
@@ -139,32 +142,32 @@ pub record Demand3 : Type 0 where
 
 -- "A power cut: take any accepted recording and keep only its first bytes, at least through E. The answer is that of its whole records (state, counts, list),
 -- with refusal 1 at the first record that isn't whole": b and `after` are the answer and the list of the cut recording
-pub record CutShort (out ds : List ℕ) (ls : List Link) (es : List (Event ℕ)) (m : ℕ) (b : Answer) (after : List ℕ) : Type 0 where
+pub record CutShort (wide : Bool) (out ds : List ℕ) (ls : List Link) (es : List (Event ℕ)) (m : ℕ) (b : Answer) (after : List ℕ) : Type 0 where
   pub whole : List (Event ℕ)
   pub partly : Event ℕ
   pub gone : List (Event ℕ)
   pub all : es ≡ whole ++ (partly ∷ gone)
   -- the first record that isn't whole
-  pub from : b .place ≡ throughCount ds ls + length (eventBytes whole)
-  pub inside : (b .place ≤ m) × (m < b .place + length (eventBytes (partly ∷ [])))
+  pub from : b .place ≡ throughCount wide ds ls + length (eventBytes wide whole)
+  pub inside : (b .place ≤ m) × (m < b .place + length (eventBytes wide (partly ∷ [])))
   pub refusal : b .refusal ≡ 1
   -- the answer of the whole records alone
-  pub as-whole : {c : Answer} {list : List ℕ} → Replays (recordingBytes ds ls whole) out c list →
+  pub as-whole : {c : Answer} {list : List ℕ} → Replays (recordingBytes wide ds ls whole) out c list →
       (c .refusal ≡ 0) × (b .state ≡ c .state) × (fourCounts b ≡ fourCounts c) × (after ≡ list)
 
 pub record WholeRecordings : Type 0 where
   -- "In every answer with a table, arrivals counted task by task equal finishes plus tasks still active."
   pub totals : {s out list : List ℕ} {a : Answer} (x : AtEvents s out a list) → a .arrivals ≡ a .finishes + count (standingIn (a .state) .active) (length (x .ds))
   -- "A power cut"
-  pub power-cut : {s out after ds : List ℕ} {ls : List Link} {es : List (Event ℕ)} {b : Answer} {m : ℕ} → Genuine s out ds ls es →
-      Replays (take m s) out b after → throughCount ds ls ≤ m → m < length s → CutShort out ds ls es m b after
+  pub power-cut : {wide : Bool} {s out after ds : List ℕ} {ls : List Link} {es : List (Event ℕ)} {b : Answer} {m : ℕ} → Genuine wide s out ds ls es →
+      Replays (take m s) out b after → throughCount wide ds ls ≤ m → m < length s → CutShort wide out ds ls es m b after
   -- "unless nothing was lost"
-  pub nothing-lost : {s out list after ds : List ℕ} {ls : List Link} {es : List (Event ℕ)} {a b : Answer} {m : ℕ} → Genuine s out ds ls es →
+  pub nothing-lost : {wide : Bool} {s out list after ds : List ℕ} {ls : List Link} {es : List (Event ℕ)} {a b : Answer} {m : ℕ} → Genuine wide s out ds ls es →
       Replays s out a list → Replays (take m s) out b after → length s ≤ m → (b .refusal ≡ 0) × (b ≡ a) × (after ≡ list)
   -- "On refusal the caller also gets the unread rest, from the place of the refusal to the end, as that part of the lent recording; after acceptance that part
   -- is empty.": what `recording::rest` hands back for the place of the answer
   pub rest : {s out list part : List ℕ} {a : Answer} → Replays s out a list → Rests s (a .place) part → Unread s (a .refusal) (a .place) part
-  -- "A whole recording has at most 60,164 bytes", and document 02's first byte and four bytes a link more
-  pub longest : {s out ds : List ℕ} {ls : List Link} {es : List (Event ℕ)} → Genuine s out ds ls es → length s ≤ 60293
+  -- "The longest recording is then 60,805 bytes"; with 253 it is document 01's 60,164, and document 02's first byte and four bytes a link more
+  pub longest : {wide : Bool} {s out ds : List ℕ} {ls : List Link} {es : List (Event ℕ)} → Genuine wide s out ds ls es → length s ≤ cond wide 60805 60293
   -- the two clauses of the replay allow one answer to the same bytes and list
   pub one-answer : {s out list list′ : List ℕ} {a a′ : Answer} → Replays s out a list → Replays s out a′ list′ → (a ≡ a′) × (list ≡ list′)

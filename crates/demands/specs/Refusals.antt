@@ -41,9 +41,9 @@ pub data LinkBreaks (ds : List Task) (ls : List Link) (l : Link) : ℕ → Type 
 
 -- ---- a table that is handed over whole: its counts first, then the first link at fault
 pub data TableEarns (ds : List Task) (ls : List Link) : ℕ → Type 0 where
-  -- 2: "T is 0 or above 16"
+  -- 2: "T is 0" or above the room of a state, 32
   tasks : (length ds ≡ 0) ⊎ (base .tasks < length ds) → TableEarns ds ls 2
-  -- 3: "L is above 32"
+  -- 3: L is above it, 96
   links : 1 ≤ length ds → length ds ≤ base .tasks → base .links < length ls → TableEarns ds ls 3
   -- 4 to 9 and 20: the links before it keep the rules
   link : {r : ℕ} → length ls ≤ base .links → (before : List Link) (l : Link) (after : List Link) → ls ≡ before ++ (l ∷ after) → Keeps ds before →

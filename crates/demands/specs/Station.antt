@@ -29,7 +29,7 @@ station ds ls = record {
 abbrev pub mostUrgentFirst : Table ℕ → List ℕ
 mostUrgentFirst T = upward 0 (T .tasks)
 
--- "its links obey the published rules", each of them rules 4 to 9 and 20; and "T, 1 to 16", "L, 0 to 32", which is the room of a state
+-- "its links obey the published rules", each of them rules 4 to 9 and 20; and "T, 1 to" 32, "L, 0 to" 96, which is the room of a state
 pub record Keeps (ds : List Task) (ls : List Link) : Type 0 where
   pub tasks : (1 ≤ length ds) × (length ds ≤ base .tasks)
   pub links : length ls ≤ base .links
