@@ -7,10 +7,9 @@ use Prim.Native.Nat.{ℕ, zero, suc, _+_, _-_, _*_, _^_, _≤_, _<_, min}
 use native.Mathlib.Numerals.{add-one}
 use borrow.Author.Tests.{lt-ltb, le-ltb, ne-eqb}
 use lib.Bits.{bitOr}
-use lib.Dec.{lit≤, eqb, eqb·zero-suc, eqb·suc-zero, eqb·suc-suc}
+use lib.Dec.{eqb, eqb·zero-suc, eqb·suc-zero, eqb·suc-suc}
 use lib.ListN.{length, drop, getD, length-append, drop-of-length-le}
 use lib.Seq.{drop-cons}
-use Rattle.recording_format.specs.RecordingKind.{baseRecording}
 use Rattle.recording_text_fields.specs.declared.number.Number.{Number}
 use Rattle.recording_text_fields.specs.declared.number.Numbers.{Numbers}
 use Rattle.recording_text_fields.specs.Pieces.{separator, fields, between, Ends}
@@ -49,10 +48,6 @@ number-large f e h = rw (e, lt-ltb 4294967295 (value f) h)
 pub number-good : (f : List ℕ) → allDigits f ≡ true → value f ≤ 4294967295 → record { fault = 0; value = value f } ≡ fieldNumber f
 unfolding numberFault
 number-good f e h = rw (e, le-ltb 4294967295 (value f) h)
-
--- no table has a task of the last bit's number
-pub last-of-set-free : baseRecording .tasks ≤ lastOfSet
-last-of-set-free = lit≤ tt
 
 -- one number more
 set-more : (set : ℕ) (ns : List ℕ) (n : ℕ) → bitOr (setWith set ns) (2 ^ min n lastOfSet) ≡ setWith set (ns ++ (n ∷ []))

@@ -44,18 +44,22 @@ firstFault (f ∷ fs) = cond (eqb (numberFault f) 0) (firstFault fs) (numberFaul
 unfoldable pub fieldValues : List (List ℕ) → List ℕ
 fieldValues fs = map value fs
 
--- the last bit of a set: no table has a task of this number, so it stands for it and all above
+-- the last bit of a set as it is gathered: no table has a task of this number, so it stands for it and all above
 abbrev pub lastOfSet : ℕ
-lastOfSet = 31
+lastOfSet = 32
 
 -- a set and the tasks of these numbers: bit t is task t
 unfoldable pub setWith : ℕ → List ℕ → ℕ
 setWith set [] = set
 setWith set (n ∷ ns) = setWith (bitOr set (2 ^ min n lastOfSet)) ns
 
--- the set of tasks of these numbers
+-- the set of tasks of these numbers, as it is gathered
 abbrev pub setOf : List ℕ → ℕ
 setOf ns = setWith 0 ns
+
+-- a set as it is handed over: one with the last bit becomes the empty one, which is refused like it
+abbrev pub handedSet : ℕ → ℕ
+handedSet set = cond (ltb set (2 ^ lastOfSet)) set 0
 
 -- numbers as they are gathered: how many there are, the first four, and all as a set
 abbrev pub gathered : List ℕ → Numbers

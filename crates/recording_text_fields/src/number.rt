@@ -5,14 +5,14 @@ ghost use mathlib.Core.List.{List, [], _∷_, _++_};
 ghost use Prim.Native.Nat.{ℕ, _+_, _-_, _*_, _^_, _≤_, _<_, min};
 ghost use lib.ListN.{drop};
 ghost use Rattle.recording_text_fields.specs.Pieces.{fields};
-ghost use Rattle.recording_text_fields.specs.Numeral.{isDigit, fieldNumber, lastOfSet, gathered, noNumbers, numbersWith};
+ghost use Rattle.recording_text_fields.specs.Numeral.{isDigit, fieldNumber, lastOfSet, handedSet, gathered, noNumbers, numbersWith};
 use crate::piece::piece_end;
 
-// One more than the largest number: a number that is no smaller counts as this.
+// One more than the largest number of 32 bits: a number that is no smaller counts as this, and a set that is no smaller is handed over as none.
 const ABOVE: u64 = 4294967296;
 
-// The last bit of a set: no table has a task of this number, so it stands for it and all above.
-const LAST_OF_SET: u32 = 31;
+// The last bit of a set as it is gathered: no table has a task of this number, so it stands for it and all above.
+const LAST_OF_SET: u32 = 32;
 
 // A field as a number, or why it is none.
 pub struct Number {
@@ -28,7 +28,7 @@ pub struct Numbers {
     pub second: u32,
     pub third: u32,
     pub fourth: u32,
-    pub set: u32,
+    pub set: u64,
 }
 
 // Whether a byte is a decimal digit.
@@ -82,10 +82,17 @@ fn bit_number(task: u32) -> u32
 }
 
 // The bit of a task.
-fn bit(task: u32) -> u32
+fn bit(task: u32) -> u64
     ensures { λ r. ⌜ r ≡ 2 ^ min task lastOfSet ⌝ }
 {
-    1u32 << bit_number(task)
+    1u64 << bit_number(task)
+}
+
+// A set as it is handed over: the empty one for one that has the last bit.
+pub fn handed_set(set: u64) -> u32
+    ensures { λ r. ⌜ r ≡ handedSet set ⌝ }
+{
+    if set < ABOVE { set as u32 } else { 0 }
 }
 
 // No numbers yet.

@@ -11,10 +11,25 @@ finish : says (32 ∷ 70 ∷ 9 ∷ 49 ∷ 32 ∷ 32 ∷ 49 ∷ 48 ∷ 49 ∷ 32 
 unfolding pieces filled allDigits valueFrom numberFault firstFault fieldValues setWith sort recordOf fieldsSay
 finish = refl
 
--- `A 0 1 2 3 1 40`: a task named twice, and one above 31
-arrival : says (65 ∷ 32 ∷ 48 ∷ 32 ∷ 49 ∷ 32 ∷ 50 ∷ 32 ∷ 51 ∷ 32 ∷ 49 ∷ 32 ∷ 52 ∷ 48 ∷ []) ≡ saying 65 (1 ∷ 2147483663 ∷ [])
+-- `A 0 1 2 3 1`: a task named twice is named once
+arrival : says (65 ∷ 32 ∷ 48 ∷ 32 ∷ 49 ∷ 32 ∷ 50 ∷ 32 ∷ 51 ∷ 32 ∷ 49 ∷ []) ≡ saying 65 (1 ∷ 15 ∷ [])
 unfolding pieces filled allDigits valueFrom numberFault firstFault fieldValues setWith sort recordOf fieldsSay
 arrival = refl
+
+-- `A 31`: the last task that a table can have
+last-task : says (65 ∷ 32 ∷ 51 ∷ 49 ∷ []) ≡ saying 65 (1 ∷ 2147483648 ∷ [])
+unfolding pieces filled allDigits valueFrom numberFault firstFault fieldValues setWith sort recordOf fieldsSay
+last-task = refl
+
+-- `A 32`: no table has it, so the set is handed over as the empty one
+first-above : says (65 ∷ 32 ∷ 51 ∷ 50 ∷ []) ≡ saying 65 (1 ∷ 0 ∷ [])
+unfolding pieces filled allDigits valueFrom numberFault firstFault fieldValues setWith sort recordOf fieldsSay
+first-above = refl
+
+-- `A 0 40`: so is a set with one such task
+some-above : says (65 ∷ 32 ∷ 48 ∷ 32 ∷ 52 ∷ 48 ∷ []) ≡ saying 65 (1 ∷ 0 ∷ [])
+unfolding pieces filled allDigits valueFrom numberFault firstFault fieldValues setWith sort recordOf fieldsSay
+some-above = refl
 
 -- `L 1 0 1 90`
 link : says (76 ∷ 32 ∷ 49 ∷ 32 ∷ 48 ∷ 32 ∷ 49 ∷ 32 ∷ 57 ∷ 48 ∷ []) ≡ saying 76 (1 ∷ 0 ∷ 1 ∷ 90 ∷ [])
@@ -25,6 +40,21 @@ link = refl
 no-start : says (76 ∷ 32 ∷ 49 ∷ 32 ∷ 50 ∷ 32 ∷ 48 ∷ []) ≡ faulty 4
 unfolding pieces filled allDigits valueFrom numberFault firstFault fieldValues setWith sort recordOf fieldsSay
 no-start = refl
+
+-- `K 254`
+kind : says (75 ∷ 32 ∷ 50 ∷ 53 ∷ 52 ∷ []) ≡ saying 75 (254 ∷ [])
+unfolding pieces filled allDigits valueFrom numberFault firstFault fieldValues setWith sort recordOf fieldsSay
+kind = refl
+
+-- `K 252`: which kinds there are, the writer says
+kind-unknown : says (75 ∷ 32 ∷ 50 ∷ 53 ∷ 50 ∷ []) ≡ saying 75 (252 ∷ [])
+unfolding pieces filled allDigits valueFrom numberFault firstFault fieldValues setWith sort recordOf fieldsSay
+kind-unknown = refl
+
+-- `K 253 254`
+kinds : says (75 ∷ 32 ∷ 50 ∷ 53 ∷ 51 ∷ 32 ∷ 50 ∷ 53 ∷ 52 ∷ []) ≡ faulty 5
+unfolding pieces filled allDigits valueFrom numberFault firstFault fieldValues setWith sort recordOf fieldsSay
+kinds = refl
 
 -- `# T`
 remark : says (35 ∷ 32 ∷ 84 ∷ []) ≡ nothing

@@ -12,7 +12,7 @@ use lib.Seq.{getD-take, getD-drop}
 use Rattle.lists.proofs.Bools.{cond-of, cond-small}
 use Rattle.recording_text_fields.specs.declared.number.Numbers.{Numbers}
 use Rattle.recording_text_fields.specs.Pieces.{separator, fields, between, Ends}
-use Rattle.recording_text_fields.specs.Numeral.{firstFault, fieldValues, gathered, numbersWith}
+use Rattle.recording_text_fields.specs.Numeral.{firstFault, fieldValues, handedSet, gathered, numbersWith}
 use Rattle.recording_text_line.specs.Line.{Says, nothing, faulty, saying, sort, recordOf, fieldsSay, widest}
 use Rattle.recording_text_fields.proofs.Splits.{fields-some, length-between}
 
@@ -50,9 +50,9 @@ wanted-same b w n x y h = go (ltb n w) refl (ltb w n) refl
         rw (e, f, k)
 
 module _ (l : List ℕ) {n : Numbers} (g : n ≡ gathered l) where
-  pub arrival : asWanted 65 (n .count) (n .count) (1 ∷ n .set ∷ []) ≡ recordOf 65 l
+  pub arrival : {s : ℕ} → s ≡ handedSet (n .set) → asWanted 65 (n .count) (n .count) (1 ∷ s ∷ []) ≡ recordOf 65 l
   unfolding recordOf
-  arrival = let k = le-ltb (length l) (length l) (omega arith) in rw (g, k)
+  arrival e = let k = le-ltb (length l) (length l) (omega arith) in rw (e, g, k)
 
   pub start : asWanted 83 1 (n .count) (2 ∷ n .first ∷ []) ≡ recordOf 83 l
   unfolding recordOf
@@ -133,8 +133,8 @@ module _ (s : List ℕ) (a e : ℕ) (w : Ends (separator true) s a e) (h : a < e
 
 -- a record of any sort may have one number
 pub least : (k : ℕ) → 1 ≤ widest k
-least k = cond-of (λ n. 1 ≤ n) (eqb k 1) (omega arith) (cond-of (λ n. 1 ≤ n) (eqb k 2) (omega arith) (omega arith))
+least k = cond-of (λ n. 1 ≤ n) (eqb k 2) (omega arith) (cond-of (λ n. 1 ≤ n) (eqb k 3) (omega arith) (omega arith))
 
 -- and at most four
 pub widest-small : (k : ℕ) → widest k ≤ 4
-widest-small k = cond-small (eqb k 1) (omega arith) (cond-small (eqb k 2) (omega arith) (omega arith))
+widest-small k = cond-small (eqb k 2) (omega arith) (cond-small (eqb k 3) (omega arith) (omega arith))

@@ -9,6 +9,7 @@ ghost use Rattle.recording_text_fields.specs.Pieces.{fields, separator};
 ghost use Rattle.recording_text_fields.specs.Numeral.{gathered};
 ghost use Rattle.recording_text_line.specs.Line.{faulty, saying, recordOf, fieldsSay, says, saidOf, sort, Padded};
 use recording_text_fields::number::Numbers;
+use recording_text_fields::number::handed_set;
 use recording_text_fields::number::numbers_from;
 use recording_text_fields::piece::piece_end;
 use recording_text_fields::piece::separates;
@@ -24,7 +25,7 @@ pub struct Said {
     pub numbers: [u32; NUMBERS],
 }
 
-// The sort of a record by its letter: a task, a link, an event, or 0.
+// The sort of a record by its letter: a task, a link, an event, the kind, or 0.
 pub fn sort_of(letter: u8) -> u8
     ensures { λ r. ⌜ r ≡ sort letter ⌝ }
 {
@@ -35,6 +36,7 @@ pub fn sort_of(letter: u8) -> u8
         b'S' => 3,
         b'R' => 3,
         b'F' => 3,
+        b'K' => 4,
         _ => 0,
     }
 }
@@ -78,7 +80,7 @@ fn record_of(letter: u8, ns: Numbers) -> Said
     ensures padded { λ r. ⌜ Padded (r .letter) (r .size) (r .numbers) ⌝ }
 {
     match letter {
-        b'A' => counted(letter, ns.count, ns.count, 2, [1, ns.set, 0, 0]),
+        b'A' => counted(letter, ns.count, ns.count, 2, [1, handed_set(ns.set), 0, 0]),
         b'S' => counted(letter, 1, ns.count, 2, [2, ns.first, 0, 0]),
         b'R' => counted(letter, 1, ns.count, 2, [3, ns.first, 0, 0]),
         b'F' => counted(letter, 2, ns.count, 3, [4, ns.first, ns.second, 0]),

@@ -4,12 +4,16 @@ use mathlib.Core.Path.{refl, _∙_}
 use native.Mathlib.Omega.{arith}
 use Rattle.recording_text_line.specs.Line.{sort}
 use Rattle.recording_text_line.proofs.Letters as letters
+use borrow.Author.Needs.{needs}
 use Rattle.recording_text_line.proofs.record_of.Statement.{statement}
 use Rattle.recording_text_line.proofs.record_of.Tie as tie
 
+handed-set-requires : tie.Need-handed-set-requires
+handed-set-requires c κs = search needs
+
 counted-requires : tie.Need-counted-requires
 unfolding sort
-counted-requires c κs = record { few = rw (c .match .keys1) (omega arith); rest = refl }
+counted-requires c κs = record { few = rw (c .before .match .keys1) (omega arith); rest = refl }
 
 counted-requires-2 : tie.Need-counted-requires-2
 unfolding sort
@@ -31,7 +35,7 @@ counted-requires-6 : tie.Need-counted-requires-6
 counted-requires-6 c κs = record { few = letters.least (sort (c .before .args .letter)); rest = refl }
 
 returns : tie.Need-returns
-returns c = (λ l g. c .counted .ensures .0 ∙ rw (c .before .match .keys1) (letters.arrival l g), c .counted .ensures .1)
+returns c = (λ l g. c .counted .ensures .0 ∙ rw (c .before .before .match .keys1) (letters.arrival l g (c .before .handed-set .ensures)), c .counted .ensures .1)
 
 returns-2 : tie.Need-returns-2
 returns-2 c = (λ l g. c .counted2 .ensures .0 ∙ rw (c .before .match .keys2) (letters.start l g), c .counted2 .ensures .1)
@@ -54,6 +58,7 @@ pub record-of-spec : {M : Type 1} → statement M
 record-of-spec =
     tie.close
     (tie.spec
+    handed-set-requires
     counted-requires
     counted-requires-2
     counted-requires-3

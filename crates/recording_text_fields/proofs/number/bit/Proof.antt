@@ -1,4 +1,4 @@
--- `recording_text_fields::number::bit` meets its contract: below 32 nothing is shifted out.
+-- `recording_text_fields::number::bit` meets its contract: below 64 nothing is shifted out.
 -- Assumes nothing.
 use mathlib.Core.Path.{ap, _∙_}
 use Prim.Native.Nat.{ℕ, _^_}
@@ -13,13 +13,16 @@ use Rattle.recording_text_fields.proofs.number.bit.Tie as tie
 bit-number-requires : tie.Need-bit-number-requires
 bit-number-requires c κs = search needs
 
+cast-result : tie.Need-cast-result
+cast-result c = search needs
+
 shl-result : tie.Need-shl-result
 shl-result c = omega arith
 
 returns : tie.Need-returns
 returns c =
     let k = c .bit-number .result in
-    shl-exact 1 k 32 (lit< tt) (omega arith) ∙ one-mul (2 ^ k) ∙ ap (λ (n : ℕ). 2 ^ n) (c .bit-number .ensures)
+    shl-exact 1 k 64 (lit< tt) (omega arith) ∙ one-mul (2 ^ k) ∙ ap (λ (n : ℕ). 2 ^ n) (c .bit-number .ensures)
 
 pub bit-spec : {M : Type 1} → statement M
-bit-spec = tie.close (tie.spec bit-number-requires shl-result returns)
+bit-spec = tie.close (tie.spec bit-number-requires cast-result shl-result returns)
