@@ -2,13 +2,14 @@
 ghost use mathlib.Core.Path.{_≡_};
 ghost use Prim.Native.Nat.{_-_};
 ghost use Rattle.recording_text_fields.specs.Pieces.{lines};
-ghost use Rattle.recording_text_place.specs.Place.{bytesOf, allBytes, step, lineAfter, oneOf, ofLink, lineOf};
+ghost use Rattle.recording_text_place.specs.Place.{bytesOf, allBytes, step, lineAfter, oneOf, ofLink, kindOrTask, lineOf};
 use lent_bytes::place::left;
 use mailbox_base::numbers::EVENTS;
-use mailbox_base::numbers::LINKS;
-use mailbox_base::numbers::TASKS;
 use recording_format::LINK_SIZE;
 use recording_format::TASK_PLACE;
+use recording_format::most_links;
+use recording_format::most_tasks;
+use recording_format::set_size;
 use recording_text_fields::piece::piece_end;
 use recording_text_line::line_says;
 use recording_text_line::sort_of;
@@ -19,9 +20,18 @@ const BEFORE_LINKS: usize = TASK_PLACE + 2;
 // And before the events, besides the tasks and the links: E too.
 const BEFORE_EVENTS: usize = BEFORE_LINKS + 2;
 
-// The bytes of a record in a recording, by its letter.
-fn bytes_of(letter: u8) -> usize
-    ensures { λ r. ⌜ r ≡ bytesOf letter ⌝ }
+// A sort that no line has.
+const NO_SORT: u8 = 5;
+
+// What is counted on the way to a record: records, or their bytes in a recording, wide or not.
+pub enum Measure {
+    Records,
+    Bytes(bool),
+}
+
+// The bytes of a task, a link or an event in a recording, by its letter; those of an arrival by the kind too.
+fn bytes_of(wide: bool, letter: u8) -> usize
+    ensures { λ r. ⌜ r ≡ bytesOf wide letter ⌝ }
 {
     match letter {
         b'T' => 4,
@@ -29,38 +39,41 @@ fn bytes_of(letter: u8) -> usize
         b'F' => 6,
         b'S' => 2,
         b'R' => 2,
-        _ => 3,
+        _ => 1 + set_size(wide),
     }
 }
 
-// What a line counts: the bytes of its record, or one; nothing where it has no record of the sort.
-fn counts(bytewise: bool, sort: u8, letter: u8) -> usize
-    ensures { λ r. ⌜ r ≡ step bytewise sort letter ⌝ }
+// What a line counts: one for its record, or its bytes; nothing where it has no record of the sort.
+fn counts(measure: Measure, sort: u8, letter: u8) -> usize
+    ensures { λ r. ⌜ r ≡ step measure sort letter ⌝ }
 {
     if sort_of(letter) != sort {
         return 0;
     }
-    if bytewise { bytes_of(letter) } else { 1 }
+    match measure {
+        Measure::Records => 1,
+        Measure::Bytes(wide) => bytes_of(wide, letter),
+    }
 }
 
 // What is left of a number of bytes behind all records of a sort.
-fn behind(text: &[u8], sort: u8, bytes: usize) -> usize
-    ensures { λ r. ⌜ r ≡ bytes - allBytes sort (lines (now (text .entry))) ⌝ }
+fn behind(text: &[u8], wide: bool, sort: u8, bytes: usize) -> usize
+    ensures { λ r. ⌜ r ≡ bytes - allBytes wide sort (lines (now (text .entry))) ⌝ }
 {
     let mut much = bytes;
     let mut at = 0;
     while at < text.len() {
         let end = piece_end(text, at, false);
         let said = line_says(&text[at..end]);
-        much = left(much, counts(true, sort, said.letter));
+        much = left(much, counts(Measure::Bytes(wide), sort, said.letter));
         at = end + 1;
     }
     much
 }
 
 // The line of the first record of a sort before which so much stands; the line after the last where there is none.
-fn line_after(text: &[u8], bytewise: bool, sort: u8, before: usize) -> usize
-    ensures { λ r. ⌜ r ≡ lineAfter bytewise sort before 1 (lines (now (text .entry))) ⌝ }
+fn line_after(text: &[u8], measure: Measure, sort: u8, before: usize) -> usize
+    ensures { λ r. ⌜ r ≡ lineAfter measure sort before 1 (lines (now (text .entry))) ⌝ }
 {
     let mut much = before;
     let mut line = 1;
@@ -71,7 +84,7 @@ fn line_after(text: &[u8], bytewise: bool, sort: u8, before: usize) -> usize
         if (sort_of(said.letter) == sort) & (much == 0) {
             return line;
         }
-        much = left(much, counts(bytewise, sort, said.letter));
+        much = left(much, counts(measure, sort, said.letter));
         line += 1;
         at = end + 1;
     }
@@ -92,25 +105,33 @@ fn of_link(refusal: u8) -> bool
     one_of(4, 9, refusal) | (refusal == 20)
 }
 
-// The line of a refusal.
-pub fn refusal_line(text: &[u8], refusal: u8, place: usize) -> usize
-    ensures { λ r. ⌜ r ≡ lineOf (now (text .entry)) refusal place ⌝ }
+// The line of refusal 2: at place 0 that of the kind, elsewhere that of the first task past the limit.
+fn kind_or_task(text: &[u8], wide: bool, place: usize) -> usize
+    ensures { λ r. ⌜ r ≡ kindOrTask wide place (lines (now (text .entry))) ⌝ }
+{
+    if place == 0 {
+        return line_after(text, Measure::Records, 4, 0);
+    }
+    line_after(text, Measure::Records, 1, most_tasks(wide))
+}
+
+// The line of a refusal in the text of a recording, wide or not.
+pub fn refusal_line(text: &[u8], wide: bool, refusal: u8, place: usize) -> usize
+    ensures { λ r. ⌜ r ≡ lineOf wide (now (text .entry)) refusal place ⌝ }
 {
     if of_link(refusal) {
-        return line_after(text, true, 2, behind(text, 1, left(place, BEFORE_LINKS)));
+        let past_tasks = behind(text, wide, 1, left(place, BEFORE_LINKS));
+        return line_after(text, Measure::Bytes(wide), 2, past_tasks);
     }
     if one_of(12, 16, refusal) {
-        return line_after(
-            text,
-            true,
-            3,
-            behind(text, 2, behind(text, 1, left(place, BEFORE_EVENTS))),
-        );
+        let past_tasks = behind(text, wide, 1, left(place, BEFORE_EVENTS));
+        let past_links = behind(text, wide, 2, past_tasks);
+        return line_after(text, Measure::Bytes(wide), 3, past_links);
     }
     match refusal {
-        2 => line_after(text, false, 1, TASKS),
-        3 => line_after(text, false, 2, LINKS),
-        10 => line_after(text, false, 3, EVENTS),
-        _ => line_after(text, false, 4, 0),
+        2 => kind_or_task(text, wide, place),
+        3 => line_after(text, Measure::Records, 2, most_links(wide)),
+        10 => line_after(text, Measure::Records, 3, EVENTS),
+        _ => line_after(text, Measure::Records, NO_SORT, 0),
     }
 }

@@ -12,10 +12,10 @@ use Rattle.recording_text_place.proofs.behind.Statement.{statement}
 use Rattle.recording_text_place.proofs.behind.Tie as tie
 
 abbrev Inv-loop : tie.InvT-loop
-Inv-loop text sort bytes much₀ at₀ much at = bytes - allBytes sort (lines text) ≡ much - allBytes sort (lines (drop at text))
+Inv-loop text wide sort bytes much₀ at₀ much at = bytes - allBytes wide sort (lines text) ≡ much - allBytes wide sort (lines (drop at text))
 
 abbrev μ-loop : tie.MeasureT-loop
-μ-loop text sort bytes much₀ at₀ much at = length text - at
+μ-loop text wide sort bytes much₀ at₀ much at = length text - at
 
 loop-holds : tie.Need-loop-holds Inv-loop μ-loop
 loop-holds c = refl
@@ -62,6 +62,7 @@ loop-again c =
     (said .line-says .result)
     (said .line-says .ensures .0)
     (a .sort)
+    (a .wide)
     (l .much)
     (c .before .counts .ensures)
     (c .left .ensures)
@@ -70,7 +71,7 @@ returns : tie.Need-returns Inv-loop μ-loop
 returns c =
     let l = c .before .loop in
     let a = c .before .before .before .args in
-    sym (l .inv ∙ bytes-end (a .sort) (l .much) (a .text .now) (l .at) (c .loop-test .left))
+    sym (l .inv ∙ bytes-end (a .wide) (a .sort) (l .much) (a .text .now) (l .at) (c .loop-test .left))
 
 pub behind-spec : {M : Type 1} → statement M
 behind-spec =

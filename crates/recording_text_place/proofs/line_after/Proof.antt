@@ -12,11 +12,11 @@ use Rattle.recording_text_place.proofs.line_after.Statement.{statement}
 use Rattle.recording_text_place.proofs.line_after.Tie as tie
 
 abbrev Inv-loop : tie.InvT-loop
-Inv-loop text bytewise sort before much₀ line₀ at₀ much line at =
-    (line ≤ at + 1) × (lineAfter bytewise sort before 1 (lines text) ≡ lineAfter bytewise sort much line (lines (drop at text)))
+Inv-loop text measure sort before much₀ line₀ at₀ much line at =
+    (line ≤ at + 1) × (lineAfter measure sort before 1 (lines text) ≡ lineAfter measure sort much line (lines (drop at text)))
 
 abbrev μ-loop : tie.MeasureT-loop
-μ-loop text bytewise sort before much₀ line₀ at₀ much line at = length text - at
+μ-loop text measure sort before much₀ line₀ at₀ much line at = length text - at
 
 loop-holds : tie.Need-loop-holds Inv-loop μ-loop
 loop-holds c = (omega arith, refl)
@@ -56,7 +56,7 @@ returns c =
     (said .line-says .result)
     (said .line-says .ensures .0)
     (a .sort)
-    (a .bytewise)
+    (a .measure)
     (l .much)
     (l .line)
     (sort .sort-of .ensures)
@@ -94,7 +94,7 @@ loop-again c =
           (said .line-says .result)
           (said .line-says .ensures .0)
           (a .sort)
-          (a .bytewise)
+          (a .measure)
           (l .much)
           (l .line)
           (sort .sort-of .ensures)
@@ -107,7 +107,7 @@ returns-2 : tie.Need-returns-2 Inv-loop μ-loop
 returns-2 c =
     let l = c .before .loop in
     let a = c .before .before .before .args in
-    sym (l .inv .1 ∙ line-end (a .bytewise) (a .sort) (l .much) (l .line) (a .text .now) (l .at) (c .loop-test .left))
+    sym (l .inv .1 ∙ line-end (a .measure) (a .sort) (l .much) (l .line) (a .text .now) (l .at) (c .loop-test .left))
 
 pub line-after-spec : {M : Type 1} → statement M
 line-after-spec =

@@ -24,7 +24,7 @@ returns : tie.Need-returns
 returns c =
     let one = c .before .before .before .before in
     let a = one .before .before .args in
-    of-link (lines (a .text .now)) (a .refusal) (a .place) (one .of-link .ensures) (c .before .before .before .if1 .taken) (c .before .before .left .ensures) (c .before .behind .ensures) (c .line-after .ensures)
+    of-link (a .wide) (lines (a .text .now)) (a .refusal) (a .place) (one .of-link .ensures) (c .before .before .before .if1 .taken) (c .before .before .left .ensures) (c .before .behind .ensures) (c .line-after .ensures)
 
 one-of-requires : tie.Need-one-of-requires
 one-of-requires c κs = search needs
@@ -47,6 +47,7 @@ returns-2 c =
     let one = two .before .before in
     let a = one .before .before .args in
     of-event
+    (a .wide)
     (lines (a .text .now))
     (a .refusal)
     (a .place)
@@ -59,6 +60,12 @@ returns-2 c =
     (c .before .behind3 .ensures)
     (c .line-after2 .ensures)
 
+kind-or-task-requires : tie.Need-kind-or-task-requires
+kind-or-task-requires c κs = search needs
+
+most-links-requires : tie.Need-most-links-requires
+most-links-requires c κs = search needs
+
 line-after-requires-3 : tie.Need-line-after-requires-3
 line-after-requires-3 c κs = search needs
 
@@ -68,20 +75,17 @@ line-after-requires-4 c κs = search needs
 line-after-requires-5 : tie.Need-line-after-requires-5
 line-after-requires-5 c κs = search needs
 
-line-after-requires-6 : tie.Need-line-after-requires-6
-line-after-requires-6 c κs = search needs
-
 returns-3 : tie.Need-returns-3
 unfolding refusalLine
-returns-3 c = c .line-after3 .ensures ∙ rw (c .before .match .keys1)
+returns-3 c = c .kind-or-task .ensures ∙ rw (c .before .match .keys1)
 
 returns-4 : tie.Need-returns-4
 unfolding refusalLine
-returns-4 c = c .line-after4 .ensures ∙ rw (c .before .match .keys2)
+returns-4 c = c .line-after3 .ensures ∙ rw (c .before .before .match .keys2, c .before .most-links .ensures)
 
 returns-5 : tie.Need-returns-5
 unfolding refusalLine
-returns-5 c = c .line-after5 .ensures ∙ rw (c .before .match .keys3)
+returns-5 c = c .line-after4 .ensures ∙ rw (c .before .match .keys3)
 
 returns-6 : tie.Need-returns-6
 returns-6 c =
@@ -91,6 +95,7 @@ returns-6 c =
     let a = one .before .before .args in
     let r = c .before .match .rest in
     of-none
+    (a .wide)
     (lines (a .text .now))
     (a .refusal)
     (a .place)
@@ -101,7 +106,7 @@ returns-6 c =
     (r .0 .0 .1)
     (r .0 .1)
     (r .1)
-    (c .line-after6 .ensures)
+    (c .line-after5 .ensures)
 
 pub refusal-line-spec : {M : Type 1} → statement M
 refusal-line-spec =
@@ -118,10 +123,11 @@ refusal-line-spec =
     behind-requires-3
     line-after-requires-2
     returns-2
+    kind-or-task-requires
+    most-links-requires
     line-after-requires-3
     line-after-requires-4
     line-after-requires-5
-    line-after-requires-6
     returns-3
     returns-4
     returns-5
