@@ -5,13 +5,46 @@ use mathlib.Core.List.{[], _∷_}
 use Rattle.recording_text_fields.specs.Pieces.{pieces, filled}
 use Rattle.recording_text_fields.specs.Numeral.{allDigits, valueFrom, numberFault, firstFault, fieldValues, setWith}
 use Rattle.recording_text_line.specs.Line.{sort, recordOf, fieldsSay}
-use Rattle.recording_text.specs.Text.{readable, textFault, recordsOf, joined, stored, answerOf, readOf, eventsOf}
+use Rattle.recording_text.specs.Text.{faultIn, readable, textFault, recordsOf, joined, stored, answerOf, readOf, eventsOf}
 
--- a text of six lines, the last with no line feed: tasks 7 and 0, one link, two events
-whole : readOf (35 ∷ 10 ∷ 76 ∷ 32 ∷ 48 ∷ 32 ∷ 49 ∷ 32 ∷ 48 ∷ 32 ∷ 48 ∷ 10 ∷ 84 ∷ 32 ∷ 55 ∷ 10 ∷ 65 ∷ 32 ∷ 48 ∷ 32 ∷ 49 ∷ 10 ∷ 84 ∷ 32 ∷ 48 ∷ 10 ∷ 70 ∷ 32 ∷ 48 ∷ 32 ∷ 52 ∷ 50 ∷ []) ≡ answerOf 0 0 2 4 5
-unfolding pieces filled allDigits valueFrom numberFault firstFault fieldValues setWith sort recordOf fieldsSay readable textFault recordsOf joined stored readOf
+-- a text of seven lines, the last with no line feed: a remark, the kind, tasks 7 and 0, one link, two events
+whole : readOf (35 ∷ 10 ∷ 75 ∷ 32 ∷ 50 ∷ 53 ∷ 51 ∷ 10 ∷ 76 ∷ 32 ∷ 48 ∷ 32 ∷ 49 ∷ 32 ∷ 48 ∷ 32 ∷ 48 ∷ 10 ∷ 84 ∷ 32 ∷ 55 ∷ 10 ∷ 65 ∷ 32 ∷ 48 ∷ 32 ∷ 49 ∷ 10 ∷ 84 ∷ 32 ∷ 48 ∷ 10 ∷ 70 ∷ 32 ∷ 48 ∷ 32 ∷ 52 ∷ 50 ∷ []) ≡ answerOf 0 0 253 2 4 5
+unfolding pieces filled allDigits valueFrom numberFault firstFault fieldValues setWith sort recordOf fieldsSay faultIn readable textFault recordsOf joined stored readOf
 whole = refl
 
-numbers : eventsOf (35 ∷ 10 ∷ 76 ∷ 32 ∷ 48 ∷ 32 ∷ 49 ∷ 32 ∷ 48 ∷ 32 ∷ 48 ∷ 10 ∷ 84 ∷ 32 ∷ 55 ∷ 10 ∷ 65 ∷ 32 ∷ 48 ∷ 32 ∷ 49 ∷ 10 ∷ 84 ∷ 32 ∷ 48 ∷ 10 ∷ 70 ∷ 32 ∷ 48 ∷ 32 ∷ 52 ∷ 50 ∷ []) ≡ 1 ∷ 3 ∷ 4 ∷ 0 ∷ 42 ∷ []
-unfolding pieces filled allDigits valueFrom numberFault firstFault fieldValues setWith sort recordOf fieldsSay readable textFault recordsOf joined stored readOf
+numbers : eventsOf (35 ∷ 10 ∷ 75 ∷ 32 ∷ 50 ∷ 53 ∷ 51 ∷ 10 ∷ 76 ∷ 32 ∷ 48 ∷ 32 ∷ 49 ∷ 32 ∷ 48 ∷ 32 ∷ 48 ∷ 10 ∷ 84 ∷ 32 ∷ 55 ∷ 10 ∷ 65 ∷ 32 ∷ 48 ∷ 32 ∷ 49 ∷ 10 ∷ 84 ∷ 32 ∷ 48 ∷ 10 ∷ 70 ∷ 32 ∷ 48 ∷ 32 ∷ 52 ∷ 50 ∷ []) ≡ 1 ∷ 3 ∷ 4 ∷ 0 ∷ 42 ∷ []
+unfolding pieces filled allDigits valueFrom numberFault firstFault fieldValues setWith sort recordOf fieldsSay faultIn readable textFault recordsOf joined stored readOf
 numbers = refl
+
+-- the same of the other kind, with task 31 in the place of task 1
+wide : readOf (35 ∷ 10 ∷ 75 ∷ 32 ∷ 50 ∷ 53 ∷ 52 ∷ 10 ∷ 76 ∷ 32 ∷ 48 ∷ 32 ∷ 49 ∷ 32 ∷ 48 ∷ 32 ∷ 48 ∷ 10 ∷ 84 ∷ 32 ∷ 55 ∷ 10 ∷ 65 ∷ 32 ∷ 48 ∷ 32 ∷ 51 ∷ 49 ∷ 10 ∷ 84 ∷ 32 ∷ 48 ∷ 10 ∷ 70 ∷ 32 ∷ 48 ∷ 32 ∷ 52 ∷ 50 ∷ []) ≡ answerOf 0 0 254 2 4 5
+unfolding pieces filled allDigits valueFrom numberFault firstFault fieldValues setWith sort recordOf fieldsSay faultIn readable textFault recordsOf joined stored readOf
+wide = refl
+
+wide-numbers : eventsOf (35 ∷ 10 ∷ 75 ∷ 32 ∷ 50 ∷ 53 ∷ 52 ∷ 10 ∷ 76 ∷ 32 ∷ 48 ∷ 32 ∷ 49 ∷ 32 ∷ 48 ∷ 32 ∷ 48 ∷ 10 ∷ 84 ∷ 32 ∷ 55 ∷ 10 ∷ 65 ∷ 32 ∷ 48 ∷ 32 ∷ 51 ∷ 49 ∷ 10 ∷ 84 ∷ 32 ∷ 48 ∷ 10 ∷ 70 ∷ 32 ∷ 48 ∷ 32 ∷ 52 ∷ 50 ∷ []) ≡ 1 ∷ 2147483649 ∷ 4 ∷ 0 ∷ 42 ∷ []
+unfolding pieces filled allDigits valueFrom numberFault firstFault fieldValues setWith sort recordOf fieldsSay faultIn readable textFault recordsOf joined stored readOf
+wide-numbers = refl
+
+-- `T 7`, `K 253`: the first line that says something does not say the kind
+no-kind : readOf (84 ∷ 32 ∷ 55 ∷ 10 ∷ 75 ∷ 32 ∷ 50 ∷ 53 ∷ 51 ∷ []) ≡ answerOf 6 1 0 0 0 0
+unfolding pieces filled allDigits valueFrom numberFault firstFault fieldValues setWith sort recordOf fieldsSay faultIn readable textFault recordsOf joined stored readOf
+no-kind = refl
+
+-- `K 253`, `T 7`, `K 253`: it is said again
+two-kinds : readOf (75 ∷ 32 ∷ 50 ∷ 53 ∷ 51 ∷ 10 ∷ 84 ∷ 32 ∷ 55 ∷ 10 ∷ 75 ∷ 32 ∷ 50 ∷ 53 ∷ 51 ∷ []) ≡ answerOf 6 3 253 1 0 0
+unfolding pieces filled allDigits valueFrom numberFault firstFault fieldValues setWith sort recordOf fieldsSay faultIn readable textFault recordsOf joined stored readOf
+two-kinds = refl
+
+-- `T x`: a fault of the line itself comes first
+own-fault : readOf (84 ∷ 32 ∷ 120 ∷ []) ≡ answerOf 2 1 0 0 0 0
+unfolding pieces filled allDigits valueFrom numberFault firstFault fieldValues setWith sort recordOf fieldsSay faultIn readable textFault recordsOf joined stored readOf
+own-fault = refl
+
+-- a remark and a blank line: the kind is missed at the line after the last
+nothing-said : readOf (35 ∷ 10 ∷ 10 ∷ []) ≡ answerOf 6 3 0 0 0 0
+unfolding pieces filled allDigits valueFrom numberFault firstFault fieldValues setWith sort recordOf fieldsSay faultIn readable textFault recordsOf joined stored readOf
+nothing-said = refl
+
+empty : readOf [] ≡ answerOf 6 1 0 0 0 0
+unfolding pieces filled allDigits valueFrom numberFault firstFault fieldValues setWith sort recordOf fieldsSay faultIn readable textFault recordsOf joined stored readOf
+empty = refl

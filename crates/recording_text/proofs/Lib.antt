@@ -1,4 +1,5 @@
 -- Laws that the proofs cite, and worked examples.
 pub mod Stores
+pub mod Known
 pub mod Texts
 pub mod Examples

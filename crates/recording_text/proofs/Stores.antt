@@ -31,7 +31,7 @@ paste-behind old x ns n =
     rw (a, b)
 
 -- the records of one line more
-records-more :
+pub records-more :
     (k : ℕ) (ls : List (List ℕ)) (l : List ℕ) → recordsOf k (ls ++ (l ∷ [])) ≡ recordsOf k ls ++ cond (eqb (sort (says l .letter)) k) (says l .numbers ∷ []) []
 unfolding recordsOf
 records-more k [] l = go (eqb (sort (says l .letter)) k)

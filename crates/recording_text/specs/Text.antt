@@ -1,25 +1,39 @@
 -- What a text says.
 -- Assumes nothing.
-use mathlib.Core.Bool.{Bool, cond, _&&_}
+use mathlib.Core.Bool.{Bool, true, false, cond, _&&_, _||_}
 use mathlib.Core.List.{List, [], _∷_, _++_}
 use Prim.Native.Nat.{ℕ, suc, _+_, _*_, _≤_}
 use lib.Dec.{eqb, ltb}
-use lib.ListN.{length, take, drop}
+use lib.ListN.{length, take, drop, getD}
+use Rattle.recording_format.specs.RecordingKind.{wideRecording}
 use Rattle.recording_text.specs.declared.Read.{Read}
 use Rattle.recording_text_line.specs.declared.Said.{Said}
 use Rattle.recording_text.specs.declared.Kept.{Kept}
+use Rattle.recording_text.specs.declared.Kind.{Kind}
 use Rattle.recording_text_fields.specs.Pieces.{lines}
-use Rattle.recording_text_line.specs.Line.{says, sort, widest}
+use Rattle.recording_text_line.specs.Line.{Says, says, sort, widest}
+
+-- whether a record of a sort may stand where the kind is known, or not yet: the kind, 4, comes first and once; a line with no record, 0, may stand anywhere
+abbrev pub inPlace : Bool → ℕ → Bool
+inPlace known k = cond known (ltb k 4) (eqb k 0 || eqb k 4)
+
+-- the fault of what a line says there, 0 for none: its own, or 6 where it may not stand there
+unfoldable pub faultIn : Bool → Says → ℕ
+faultIn known s = cond (eqb (s .fault) 0) (cond (inPlace known (sort (s .letter))) 0 6) (s .fault)
+
+-- whether the kind is known after it
+abbrev pub knownAfter : Bool → Says → Bool
+knownAfter known s = known || eqb (sort (s .letter)) 4
 
 -- the lines before the first that cannot be read
-unfoldable pub readable : List (List ℕ) → List (List ℕ)
-readable [] = []
-readable (l ∷ ls) = cond (eqb (says l .fault) 0) (l ∷ readable ls) []
+unfoldable pub readable : Bool → List (List ℕ) → List (List ℕ)
+readable known [] = []
+readable known (l ∷ ls) = cond (eqb (faultIn known (says l)) 0) (l ∷ readable (knownAfter known (says l)) ls) []
 
--- why the first line that cannot be read cannot be read; 0 where there is none
-unfoldable pub textFault : List (List ℕ) → ℕ
-textFault [] = 0
-textFault (l ∷ ls) = cond (eqb (says l .fault) 0) (textFault ls) (says l .fault)
+-- why the first line that cannot be read cannot be read; at the end it is 6 where the kind is not known, else 0
+unfoldable pub textFault : Bool → List (List ℕ) → ℕ
+textFault known [] = cond known 0 6
+textFault known (l ∷ ls) = cond (eqb (faultIn known (says l)) 0) (textFault (knownAfter known (says l)) ls) (faultIn known (says l))
 
 -- the records of one sort
 unfoldable pub recordsOf : ℕ → List (List ℕ) → List (List ℕ)
@@ -39,33 +53,55 @@ stored k most ls = joined (take most (recordsOf k ls))
 unfoldable pub over : List ℕ → List ℕ → List ℕ
 over ns old = ns ++ drop (length ns) old
 
--- the first so many records of one sort in a text, of the lines before the first that cannot be read
+-- the lines of a text before the first that cannot be read: the kind is not known at its beginning
+abbrev pub readableOf : List ℕ → List (List ℕ)
+readableOf text = readable false (lines text)
+
+-- the first so many records of one sort in them
 abbrev pub storedOf : ℕ → ℕ → List ℕ → List ℕ
-storedOf k most text = stored k most (readable (lines text))
+storedOf k most text = stored k most (readableOf text)
 
--- what is stored of tasks: the defaults of the first 17
+-- the number of the kind; 0 where it is not said
+abbrev pub kindOf : List ℕ → ℕ
+kindOf text = getD (storedOf 4 1 text) 0 0
+
+-- so many tasks, links and events are stored: one more than a recording of the wide kind may have
+abbrev pub mostTasks : ℕ
+mostTasks = wideRecording .tasks + 1
+
+abbrev pub mostLinks : ℕ
+mostLinks = wideRecording .links + 1
+
+abbrev pub mostEvents : ℕ
+mostEvents = wideRecording .events + 1
+
+-- what is stored of tasks: their defaults
 abbrev pub defaultsOf : List ℕ → List ℕ
-defaultsOf text = storedOf 1 17 text
+defaultsOf text = storedOf 1 mostTasks text
 
--- of links: writer, reader, kind and start value of the first 33
+-- of links: writer, reader, kind and start value
 abbrev pub linksOf : List ℕ → List ℕ
-linksOf text = storedOf 2 33 text
+linksOf text = storedOf 2 mostLinks text
 
--- of events: kind and numbers of the first 10001
+-- of events: kind and numbers
 abbrev pub eventsOf : List ℕ → List ℕ
-eventsOf text = storedOf 3 10001 text
+eventsOf text = storedOf 3 mostEvents text
+
+-- why a text cannot be read, 0 where it can
+abbrev pub faultOf : List ℕ → ℕ
+faultOf text = textFault false (lines text)
 
 -- the line at fault, from 1; 0 where there is none
-abbrev pub faultLine : List (List ℕ) → ℕ
-faultLine ls = cond (eqb (textFault ls) 0) 0 (suc (length (readable ls)))
+abbrev pub faultLine : List ℕ → ℕ
+faultLine text = cond (eqb (faultOf text) 0) 0 (suc (length (readableOf text)))
 
--- an answer: the fault and its line, and how many numbers are stored
-abbrev pub answerOf : ℕ → ℕ → ℕ → ℕ → ℕ → Read
-answerOf fault line tasks links events = record { fault = fault; line = line; tasks = tasks; links = links; events = events }
+-- an answer: the fault and its line, the number of the kind, and how many numbers are stored
+abbrev pub answerOf : ℕ → ℕ → ℕ → ℕ → ℕ → ℕ → Read
+answerOf fault line kind tasks links events = record { fault = fault; line = line; kind = kind; tasks = tasks; links = links; events = events }
 
 -- the answer to a text
 unfoldable pub readOf : List ℕ → Read
-readOf text = answerOf (textFault (lines text)) (faultLine (lines text)) (length (defaultsOf text)) (length (linksOf text)) (length (eventsOf text))
+readOf text = answerOf (faultOf text) (faultLine text) (kindOf text) (length (defaultsOf text)) (length (linksOf text)) (length (eventsOf text))
 
 -- nothing is stored
 abbrev pub noneKept : Kept
@@ -80,8 +116,16 @@ pub record RoomFor (said : Said) (k most room : ℕ) (kept : Kept) : Type 0 wher
   pub size : said .size ≤ widest (sort (said .letter))
   pub stored : kept .numbers ≤ widest k * kept .records
   pub whole : widest k * most ≤ room
-  pub small : most ≤ 10001
+  pub small : most ≤ mostEvents
 
 -- one record more is stored
 abbrev pub andRecord : Said → Kept → Kept
 andRecord said kept = record { records = kept .records + 1; numbers = kept .numbers + said .size }
+
+-- the kind is not known
+abbrev pub noKind : Kind
+noKind = record { known = false; number = 0 }
+
+-- the kind as it is known after a line
+abbrev pub kindAfter : Kind → Said → Kind
+kindAfter kind said = cond (eqb (sort (said .letter)) 4) (record { known = true; number = getD (said .numbers) 0 0 }) kind

@@ -4,29 +4,45 @@ ghost use mathlib.Core.Bool.{cond};
 ghost use Prim.Native.Nat.{_+_, _≤_};
 ghost use lib.ListN.{length};
 ghost use lib.Seq.{paste};
-ghost use Rattle.recording_text.specs.Text.{readOf, answerOf, noneKept, takes, andRecord, RoomFor, defaultsOf, linksOf, eventsOf, over};
+ghost use Rattle.recording_text.specs.Text.{readOf, answerOf, noneKept, takes, andRecord, RoomFor, defaultsOf, linksOf, eventsOf, over, inPlace, faultIn, noKind, kindAfter};
+ghost use Rattle.recording_text_line.specs.Line.{saidOf};
 ghost use Rattle.recording_text_place.specs.Place.{lineOf};
 use recording_text_fields::piece::piece_end;
 use recording_text_line::Said;
 use recording_text_line::line_says;
 use recording_text_line::sort_of;
 
-// The room for the defaults of tasks: for one task more than a recording may have.
-pub const TASKS: usize = 17;
+// So many tasks, links and events are stored: one more than a recording of the wide kind may have, so that the writer sees that there are too many.
+const MOST_TASKS: usize = 33;
 
-// That for links, four numbers each: for one more.
-pub const LINKS: usize = 132;
+const MOST_LINKS: usize = 97;
 
-// That for events, of two or three numbers: for one more.
-pub const EVENTS: usize = 30003;
+const MOST_EVENTS: usize = 10001;
 
-// What a text is read as: why it cannot be read, 0 where it can, and in which line, from 1; how many numbers were stored.
+// The room for the defaults of tasks,
+pub const TASKS: usize = MOST_TASKS;
+
+// that for links, four numbers each,
+pub const LINKS: usize = 4 * MOST_LINKS;
+
+// and that for events, of two or three numbers.
+pub const EVENTS: usize = 3 * MOST_EVENTS;
+
+// What a text is read as: why it cannot be read, 0 where it can, and in which line, from 1; the number of the kind, 0 where no line before that
+// says it; how many numbers were stored.
 pub struct Read {
     pub fault: u8,
     pub line: usize,
+    pub kind: u32,
     pub tasks: usize,
     pub links: usize,
     pub events: usize,
+}
+
+// What is known of the kind: whether a line has said it, and its number, 0 before.
+pub struct Kind {
+    pub known: bool,
+    pub number: u32,
 }
 
 // What is stored of one sort: so many records, and so many numbers.
@@ -81,20 +97,69 @@ fn none_kept() -> Kept
     }
 }
 
-// The answer: the fault and its line, and how many numbers are stored.
-fn answer(fault: u8, line: usize, task: Kept, link: Kept, event: Kept) -> Read
-    ensures { λ r. ⌜ r ≡ answerOf fault line (task .numbers) (link .numbers) (event .numbers) ⌝ }
+// The kind is not known yet.
+fn no_kind() -> Kind
+    ensures { λ r. ⌜ r ≡ noKind ⌝ }
+{
+    Kind {
+        known: false,
+        number: 0,
+    }
+}
+
+// Whether a record of a sort may stand where the kind is known, or not yet: the kind comes first and once; a line with no record may stand anywhere.
+fn in_place(known: bool, sort: u8) -> bool
+    ensures { λ r. ⌜ r ≡ inPlace known sort ⌝ }
+{
+    if known {
+        return sort < 4;
+    }
+    (sort == 0) | (sort == 4)
+}
+
+// The fault of what a line says there, 0 for none: its own, or 6 where it may not stand there.
+fn fault_in(known: bool, said: Said) -> u8
+    ensures { λ r. ⌜ r ≡ faultIn known (saidOf said) ⌝ }
+{
+    if said.fault != 0 {
+        return said.fault;
+    }
+    if in_place(known, sort_of(said.letter)) {
+        0
+    } else {
+        6
+    }
+}
+
+// The kind as it is known after a line.
+fn kind_after(kind: Kind, said: Said) -> Kind
+    ensures { λ r. ⌜ r ≡ kindAfter kind said ⌝ }
+{
+    if sort_of(said.letter) != 4 {
+        return kind;
+    }
+    let numbers = said.numbers;
+    Kind {
+        known: true,
+        number: numbers[0],
+    }
+}
+
+// The answer: the fault and its line, the number of the kind, and how many numbers are stored.
+fn answer(fault: u8, line: usize, kind: Kind, task: Kept, link: Kept, event: Kept) -> Read
+    ensures { λ r. ⌜ r ≡ answerOf fault line (kind .number) (task .numbers) (link .numbers) (event .numbers) ⌝ }
 {
     Read {
         fault,
         line,
+        kind: kind.number,
         tasks: task.numbers,
         links: link.numbers,
         events: event.numbers,
     }
 }
 
-// Reads a text: its tasks, links and events up to the first line that cannot be read, each sort at the start of its own list.
+// Reads a text: the kind, the tasks, links and events up to the first line that cannot be read, each of these sorts at the start of its own list.
 pub fn read_text(
     text: &[u8],
     defaults: &mut [u32; TASKS],
@@ -106,6 +171,7 @@ pub fn read_text(
     ensures links { λ r. ⌜ now (links .exit) ≡ over (linksOf (now (text .entry))) (now (links .entry)) ⌝ }
     ensures events { λ r. ⌜ now (events .exit) ≡ over (eventsOf (now (text .entry))) (now (events .entry)) ⌝ }
 {
+    let mut kind = no_kind();
     let mut task = none_kept();
     let mut link = none_kept();
     let mut event = none_kept();
@@ -115,20 +181,25 @@ pub fn read_text(
         let end = piece_end(text, at, false);
         let said = line_says(&text[at..end]);
         line += 1;
-        if said.fault != 0 {
-            return answer(said.fault, line, task, link, event);
+        let fault = fault_in(kind.known, said);
+        if fault != 0 {
+            return answer(fault, line, kind, task, link, event);
         }
-        task = keep(said, 1, 17, defaults, task);
-        link = keep(said, 2, 33, links, link);
-        event = keep(said, 3, 10001, events, event);
+        kind = kind_after(kind, said);
+        task = keep(said, 1, MOST_TASKS, defaults, task);
+        link = keep(said, 2, MOST_LINKS, links, link);
+        event = keep(said, 3, MOST_EVENTS, events, event);
         at = end + 1;
     }
-    answer(0, 0, task, link, event)
+    if !kind.known {
+        return answer(6, line + 1, kind, task, link, event);
+    }
+    answer(0, 0, kind, task, link, event)
 }
 
-// The line of a refusal of the writer, in the text of the recording: that of the record at fault, or the line after the last.
-pub fn line_of(text: &[u8], refusal: u8, place: usize) -> usize
-    ensures { λ r. ⌜ r ≡ lineOf (now (text .entry)) refusal place ⌝ }
+// The line of a refusal of the writer, in the text of a recording, wide or not: that of the record at fault, or the line after the last.
+pub fn line_of(text: &[u8], wide: bool, refusal: u8, place: usize) -> usize
+    ensures { λ r. ⌜ r ≡ lineOf wide (now (text .entry)) refusal place ⌝ }
 {
-    recording_text_place::refusal_line(text, refusal, place)
+    recording_text_place::refusal_line(text, wide, refusal, place)
 }

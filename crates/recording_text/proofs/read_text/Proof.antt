@@ -4,24 +4,31 @@ use mathlib.Core.Path.{_≡_, refl, sym, ap, _∙_}
 use mathlib.Core.List.{List, [], _∷_, _++_}
 use Prim.Native.Nat.{ℕ, _-_}
 use native.Mathlib.Omega.{arith}
-use borrow.Author.Tests.{ne-eqb}
+use borrow.Author.Tests.{not-true, not-false, ne-eqb}
 use lib.ListN.{length}
+use Rattle.recording_text.specs.declared.Kind.{Kind}
 use Rattle.recording_text_fields.specs.Pieces.{between}
-use Rattle.recording_text_line.specs.Line.{Says, says}
+use Rattle.recording_text_line.specs.Line.{says}
+use Rattle.recording_text.specs.Text.{faultIn, mostTasks, mostLinks, mostEvents}
 use Rattle.recording_text.proofs.Stores.{Held, held-none, held-more}
+use Rattle.recording_text.proofs.Known.{Told, told-none, known-more, told-more}
 use Rattle.recording_text.proofs.Texts.{Before, before-none, before-more, stops, ends, list-held, answered}
 use borrow.Author.Needs.{needs}
 use Rattle.recording_text.proofs.read_text.Statement.{statement}
 use Rattle.recording_text.proofs.read_text.Tie as tie
 
 abbrev Inv-loop : tie.InvT-loop
-Inv-loop text defaults₀ links₀ events₀ task₀ link₀ event₀ line₀ at₀ defaults links events task link event line at =
+Inv-loop text defaults₀ links₀ events₀ kind₀ task₀ link₀ event₀ line₀ at₀ defaults links events kind task link event line at =
     (done : List (List ℕ))
-    × (Before text line at done × (Held 1 17 done defaults₀ defaults task × (Held 2 33 done links₀ links link × Held 3 10001 done events₀ events event)))
+    × (Before text line at done (kind .known)
+    × (Told done kind × (Held 1 mostTasks done defaults₀ defaults task × (Held 2 mostLinks done links₀ links link × Held 3 mostEvents done events₀ events event))))
 
 abbrev μ-loop : tie.MeasureT-loop
-μ-loop text defaults₀ links₀ events₀ task₀ link₀ event₀ line₀ at₀ defaults links events task link event line at =
+μ-loop text defaults₀ links₀ events₀ kind₀ task₀ link₀ event₀ line₀ at₀ defaults links events kind task link event line at =
     length text - at
+
+no-kind-requires : tie.Need-no-kind-requires Inv-loop μ-loop
+no-kind-requires c κs = search needs
 
 none-kept-requires : tie.Need-none-kept-requires Inv-loop μ-loop
 none-kept-requires c κs = search needs
@@ -34,11 +41,15 @@ none-kept-requires-3 c κs = search needs
 
 loop-holds : tie.Need-loop-holds Inv-loop μ-loop
 loop-holds c =
-    let a = c .before .before .before .before .args in (
+    let kind = c .before .before .before .no-kind in
+    let a = c .before .before .before .before .before .args in (
       [],
       (
-        before-none (a .text .now),
-        (held-none 1 17 (a .defaults .now) (c .before .before .none-kept .ensures), (held-none 2 33 (a .links .now) (c .before .none-kept2 .ensures), held-none 3 10001 (a .events .now) (c .none-kept3 .ensures))),
+        before-none (a .text .now) (ap (λ (k : Kind). k .known) (kind .ensures)),
+        (
+          told-none (kind .ensures),
+          (held-none 1 mostTasks (a .defaults .now) (c .before .before .none-kept .ensures), (held-none 2 mostLinks (a .links .now) (c .before .none-kept2 .ensures), held-none 3 mostEvents (a .events .now) (c .none-kept3 .ensures))),
+        ),
       ),
     )
 
@@ -62,94 +73,128 @@ add-line c =
     let test = c .before .before .before in
     omega (arith, test .loop-test .taken, test .before .loop .inv .1 .0 .near)
 
+fault-in-requires : tie.Need-fault-in-requires Inv-loop μ-loop
+fault-in-requires c κs = search needs
+
 answer-requires : tie.Need-answer-requires Inv-loop μ-loop
 answer-requires c κs = search needs
 
 returns : tie.Need-returns Inv-loop μ-loop
 returns c =
-    let said = c .before .before .before in
+    let fault = c .before .before in
+    let said = fault .before in
     let piece = said .before .before in
     let l = piece .before .before .loop in
-    let a = piece .before .before .before .before .before .before .before .args in
-    let text = a .text .now in
-    let done = l .inv .0 in
-    let b = l .inv .1 .0 in
-    let held = l .inv .1 .1 in
-    let f = ap (λ (y : Says). y .fault) (said .line-says .ensures .0) in
-    let s = stops text b (piece .piece-end .ensures .0 (piece .before .loop-test .taken)) (λ z. c .before .if1 .taken (f ∙ z)) in
-    let n = ne-eqb (said .line-says .result .fault) 0 (c .before .if1 .taken) in (
-      answered text (s .0) (s .1 ∙ sym f) (rw n (omega (arith, b .many))) (held .0 .numbers) (held .1 .0 .numbers) (held .1 .1 .numbers) (c .answer .ensures),
-      (list-held text (s .0) 1 17 (held .0), (list-held text (s .0) 2 33 (held .1 .0), list-held text (s .0) 3 10001 (held .1 .1))),
+    let text = piece .before .before .before .before .before .before .before .before .args .text .now in
+    let told = l .inv .1 .1 .0 in
+    let held = l .inv .1 .1 .1 in
+    let f = fault .fault-in .ensures ∙ ap (faultIn (l .kind .known)) (said .line-says .ensures .0) in
+    let s = stops text (l .inv .1 .0) (piece .piece-end .ensures .0 (piece .before .loop-test .taken)) f (c .before .if1 .taken) in
+    let n = ne-eqb (fault .fault-in .result) 0 (c .before .if1 .taken) in (
+      answered text (s .0) (s .1) (rw n (omega (arith, l .inv .1 .0 .many))) (told .number) (held .0 .numbers) (held .1 .0 .numbers) (held .1 .1 .numbers) (c .answer .ensures),
+      (list-held text (s .0) 1 mostTasks (held .0), (list-held text (s .0) 2 mostLinks (held .1 .0), list-held text (s .0) 3 mostEvents (held .1 .1))),
     )
+
+kind-after-requires : tie.Need-kind-after-requires Inv-loop μ-loop
+kind-after-requires c κs = search needs
 
 keep-requires : tie.Need-keep-requires Inv-loop μ-loop
 keep-requires c κs =
-    let said = c .before .before .before in
-    let l = said .before .before .before .before .loop in
-    record { size = said .line-says .ensures .1 .0 .few; stored = l .inv .1 .1 .0 .few; whole = search needs; small = omega arith }
-
-keep-requires-2 : tie.Need-keep-requires-2 Inv-loop μ-loop
-keep-requires-2 c κs =
-    let said = c .before .before .before .before .before in
+    let said = c .before .before .before .before in
     let l = said .before .before .before .before .loop in
     record { size = said .line-says .ensures .1 .0 .few; stored = l .inv .1 .1 .1 .0 .few; whole = search needs; small = omega arith }
 
+keep-requires-2 : tie.Need-keep-requires-2 Inv-loop μ-loop
+keep-requires-2 c κs =
+    let said = c .before .before .before .before .before .before in
+    let l = said .before .before .before .before .loop in
+    record { size = said .line-says .ensures .1 .0 .few; stored = l .inv .1 .1 .1 .1 .0 .few; whole = search needs; small = omega arith }
+
 keep-requires-3 : tie.Need-keep-requires-3 Inv-loop μ-loop
 keep-requires-3 c κs =
-    let said = c .before .before .before .before .before .before .before in
+    let said = c .before .before .before .before .before .before .before .before in
     let l = said .before .before .before .before .loop in
-    record { size = said .line-says .ensures .1 .0 .few; stored = l .inv .1 .1 .1 .1 .few; whole = search needs; small = omega arith }
+    record { size = said .line-says .ensures .1 .0 .few; stored = l .inv .1 .1 .1 .1 .1 .few; whole = search needs; small = omega arith }
 
 add-at : tie.Need-add-at Inv-loop μ-loop
 add-at c =
-    let piece = c .before .before .before .before .before .before .before .before .before .before in
-    omega (arith, piece .piece-end .ensures .0 (piece .before .loop-test .taken) .within, piece .before .before .before .before .before .before)
+    let piece = c .before .before .before .before .before .before .before .before .before .before .before in
+    omega (arith, piece .piece-end .ensures .0 (piece .before .loop-test .taken) .within, piece .before .before .before .before .before .before .before)
 
 loop-less : tie.Need-loop-less Inv-loop μ-loop
-loop-less c = omega (arith, c .before .before .before .before .before .before .before .before .before .before .piece-end .ensures .0 (c .before .before .before .before .before .before .before .before .before .before .before .loop-test .taken) .after, c .before .before .before .before .before .before .before .before .before .before .before .loop-test .taken)
+loop-less c =
+    let piece = c .before .before .before .before .before .before .before .before .before .before .before in
+    omega (arith, piece .piece-end .ensures .0 (piece .before .loop-test .taken) .after, piece .before .loop-test .taken)
 
 loop-again : tie.Need-loop-again Inv-loop μ-loop
 loop-again c =
-    let no = c .before .before .before .before .before .before in
-    let said = no .before .before in
+    let kind = c .before .before .before .before .before .before in
+    let no = kind .before in
+    let fault = no .before in
+    let said = fault .before in
     let piece = said .before .before in
     let l = piece .before .before .loop in
-    let a = piece .before .before .before .before .before .before .before .args in
+    let a = piece .before .before .before .before .before .before .before .before .args in
     let text = a .text .now in
     let done = l .inv .0 in
-    let held = l .inv .1 .1 in
+    let told = l .inv .1 .1 .0 in
+    let held = l .inv .1 .1 .1 in
     let line = between (l .at) (piece .piece-end .result) text in
     let x = said .line-says .result in
     let q = said .line-says .ensures .0 in
-    let small = said .line-says .ensures .1 .0 .few in
+    let padded = said .line-says .ensures .1 .0 in
     let four = said .line-says .ensures .1 .1 in
-    let z : says line .fault ≡ 0 = sym (ap (λ (y : Says). y .fault) q) ∙ no .if1 .left in (
+    let z : faultIn (l .kind .known) (says line) ≡ 0 = sym (fault .fault-in .ensures ∙ ap (faultIn (l .kind .known)) q) ∙ no .if1 .left in
+    let k = kind .kind-after .ensures in (
       done ++ (line ∷ []),
       (
-        before-more text (l .inv .1 .0) (piece .piece-end .ensures .0 (piece .before .loop-test .taken)) z,
+        before-more text (l .inv .1 .0) (piece .piece-end .ensures .0 (piece .before .loop-test .taken)) (piece .before .loop-test .taken) z (known-more told line x q padded z k),
         (
-          held-more 1 17 done (a .defaults .now) (held .0) line x q small four (c .before .before .before .before .keep .ensures .0) (c .before .before .before .before .keep .ensures .1),
+          told-more told line x q padded z k,
           (
-            held-more 2 33 done (a .links .now) (held .1 .0) line x q small four (c .before .before .keep2 .ensures .0) (c .before .before .keep2 .ensures .1),
-            held-more 3 10001 done (a .events .now) (held .1 .1) line x q small four (c .keep3 .ensures .0) (c .keep3 .ensures .1),
+            held-more 1 mostTasks done (a .defaults .now) (held .0) line x q (padded .few) four (c .before .before .before .before .keep .ensures .0) (c .before .before .before .before .keep .ensures .1),
+            (
+              held-more 2 mostLinks done (a .links .now) (held .1 .0) line x q (padded .few) four (c .before .before .keep2 .ensures .0) (c .before .before .keep2 .ensures .1),
+              held-more 3 mostEvents done (a .events .now) (held .1 .1) line x q (padded .few) four (c .keep3 .ensures .0) (c .keep3 .ensures .1),
+            ),
           ),
         ),
       ),
     )
+
+add-answer : tie.Need-add-answer Inv-loop μ-loop
+add-answer c = omega (arith, c .before .before .before .loop .inv .1 .0 .near)
 
 answer-requires-2 : tie.Need-answer-requires-2 Inv-loop μ-loop
 answer-requires-2 c κs = search needs
 
 returns-2 : tie.Need-returns-2 Inv-loop μ-loop
 returns-2 c =
-    let at-loop = c .before .before in
+    let at-loop = c .before .before .before .before in
     let l = at-loop .loop in
-    let a = at-loop .before .before .before .before .before .args in
-    let text = a .text .now in
-    let held = l .inv .1 .1 in
-    let s = ends text (l .inv .1 .0) (c .before .loop-test .left) in (
-      answered text (s .0) (s .1) refl (held .0 .numbers) (held .1 .0 .numbers) (held .1 .1 .numbers) (c .answer2 .ensures),
-      (list-held text (s .0) 1 17 (held .0), (list-held text (s .0) 2 33 (held .1 .0), list-held text (s .0) 3 10001 (held .1 .1))),
+    let text = at-loop .before .before .before .before .before .before .args .text .now in
+    let told = l .inv .1 .1 .0 in
+    let held = l .inv .1 .1 .1 in
+    let known = not-true (l .kind .known) (c .before .if2 .taken) in
+    let s = ends text (l .inv .1 .0) (c .before .before .before .loop-test .left) in (
+      answered text (s .0) (s .1 ∙ rw known) (omega (arith, l .inv .1 .0 .many)) (told .number) (held .0 .numbers) (held .1 .0 .numbers) (held .1 .1 .numbers) (c .answer2 .ensures),
+      (list-held text (s .0) 1 mostTasks (held .0), (list-held text (s .0) 2 mostLinks (held .1 .0), list-held text (s .0) 3 mostEvents (held .1 .1))),
+    )
+
+answer-requires-3 : tie.Need-answer-requires-3 Inv-loop μ-loop
+answer-requires-3 c κs = search needs
+
+returns-3 : tie.Need-returns-3 Inv-loop μ-loop
+returns-3 c =
+    let at-loop = c .before .before .before .before in
+    let l = at-loop .loop in
+    let text = at-loop .before .before .before .before .before .before .args .text .now in
+    let told = l .inv .1 .1 .0 in
+    let held = l .inv .1 .1 .1 in
+    let known = not-false (l .kind .known) (c .before .if2 .left) in
+    let s = ends text (l .inv .1 .0) (c .before .before .before .loop-test .left) in (
+      answered text (s .0) (s .1 ∙ rw known) refl (told .number) (held .0 .numbers) (held .1 .0 .numbers) (held .1 .1 .numbers) (c .answer3 .ensures),
+      (list-held text (s .0) 1 mostTasks (held .0), (list-held text (s .0) 2 mostLinks (held .1 .0), list-held text (s .0) 3 mostEvents (held .1 .1))),
     )
 
 pub read-text-spec : {M : Type 1} → statement M
@@ -158,6 +203,7 @@ read-text-spec =
     (tie.spec
     Inv-loop
     μ-loop
+    no-kind-requires
     none-kept-requires
     none-kept-requires-2
     none-kept-requires-3
@@ -168,13 +214,18 @@ read-text-spec =
     part-line-says-end
     line-says-requires
     add-line
+    fault-in-requires
     answer-requires
     returns
+    kind-after-requires
     keep-requires
     keep-requires-2
     keep-requires-3
     add-at
     loop-less
     loop-again
+    add-answer
     answer-requires-2
-    returns-2)
+    returns-2
+    answer-requires-3
+    returns-3)

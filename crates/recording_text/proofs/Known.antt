@@ -1,0 +1,71 @@
+-- The kind as it is known after lines that can be read, one by one.
+-- Assumes nothing.
+use mathlib.Core.Path.{_≡_, refl, sym, ap, _∙_}
+use mathlib.Core.Bool.{Bool, true, false, cond, true≢false, or-true, or-false}
+use mathlib.Core.List.{List, [], _∷_, _++_, append-nil}
+use Prim.Native.Nat.{ℕ, zero, suc}
+use native.Mathlib.Omega.{arith}
+use borrow.Author.Tests.{eqb-true, eqb-false}
+use lib.Dec.{eqb}
+use lib.ListN.{take, getD}
+use lib.Seq.{getD-take}
+use Rattle.lists.proofs.Bools.{else-zero}
+use Rattle.recording_text_line.specs.declared.Said.{Said}
+use Rattle.recording_text.specs.declared.Kind.{Kind}
+use Rattle.recording_text_line.specs.Line.{Says, says, saidOf, sort, Padded}
+use Rattle.recording_text.specs.Text.{inPlace, faultIn, knownAfter, recordsOf, joined, stored, noKind, kindAfter}
+use Rattle.recording_text.proofs.Stores.{records-more}
+
+-- a line without a fault stands where it may
+stands : (known : Bool) (s : Says) → faultIn known s ≡ 0 → inPlace known (sort (s .letter)) ≡ true
+unfolding faultIn
+stands known s z = go (eqb (s .fault) 0) refl z
+  where
+    go : (b : Bool) → eqb (s .fault) 0 ≡ b → cond b (cond (inPlace known (sort (s .letter))) 0 6) (s .fault) ≡ 0 → inPlace known (sort (s .letter)) ≡ true
+    go true e f = else-zero (inPlace known (sort (s .letter))) 6 0 (λ q. omega arith) f .0
+    go false e f = absurd (eqb-false (s .fault) 0 e f)
+
+-- so the kind is said where it is not known
+first-only : (known : Bool) (s : Says) → faultIn known s ≡ 0 → sort (s .letter) ≡ 4 → known ≡ false
+first-only false s z k = refl
+first-only true s z k = let p : inPlace true 4 ≡ true = rw k at (stands true s z) in absurd (true≢false (sym p))
+
+-- the first of the numbers, whether there is one or not
+first-number : {letter : ℕ} (size : ℕ) (ns : List ℕ) → Padded letter size ns → getD (take size ns) 0 0 ≡ getD ns 0 0
+first-number zero ns p = sym (ap (λ (l : List ℕ). getD l 0 0) (p .rest))
+first-number (suc n) ns p = getD-take (suc n) ns 0 0 (omega arith)
+
+-- what is known of the kind after these lines is what they say of it
+pub record Told (done : List (List ℕ)) (kind : Kind) : Type 0 where
+  pub none : kind .known ≡ false → recordsOf 4 done ≡ []
+  pub number : kind .number ≡ getD (stored 4 1 done) 0 0
+
+pub told-none : {kind : Kind} → kind ≡ noKind → Told [] kind
+unfolding recordsOf joined stored
+told-none e = rw e (record { none = λ q. refl; number = refl })
+
+-- a line more
+module _ {done : List (List ℕ)} {kind : Kind} (told : Told done kind) (l : List ℕ) (said : Said) (q : saidOf said ≡ says l) (padded : Padded (said .letter) (said .size) (said .numbers)) (z : faultIn (kind .known) (says l) ≡ 0) {next : Kind} (e : next ≡ kindAfter kind said) where
+  here : eqb (sort (said .letter)) 4 ≡ eqb (sort (says l .letter)) 4
+  here = ap (λ (s : Says). eqb (sort (s .letter)) 4) q
+
+  pub known-more : next .known ≡ knownAfter (kind .known) (says l)
+  known-more = go (eqb (sort (said .letter)) 4) refl
+    where
+      go : (b : Bool) → eqb (sort (said .letter)) 4 ≡ b → next .known ≡ knownAfter (kind .known) (says l)
+      go true t = rw (e, ← here, t, or-true (kind .known))
+      go false t = rw (e, ← here, t, or-false (kind .known))
+
+  pub told-more : Told (done ++ (l ∷ [])) next
+  unfolding joined stored
+  told-more = go (eqb (sort (said .letter)) 4) refl
+    where
+      go : (b : Bool) → eqb (sort (said .letter)) 4 ≡ b → Told (done ++ (l ∷ [])) next
+      go true t =
+          let k : sort (says l .letter) ≡ 4 = eqb-true (sort (says l .letter)) 4 (sym here ∙ t) in
+          let r : recordsOf 4 (done ++ (l ∷ [])) ≡ says l .numbers ∷ [] = records-more 4 done l ∙ rw (← here, t, told .none (first-only (kind .known) (says l) z k)) in
+          let n : says l .numbers ≡ take (said .size) (said .numbers) = sym (ap (λ (s : Says). s .numbers) q) in
+          rw (e, t) (record { none = λ f. absurd (true≢false f); number = rw (r, append-nil (says l .numbers), n) (sym (first-number (said .size) (said .numbers) padded)) })
+      go false t =
+          let r : recordsOf 4 (done ++ (l ∷ [])) ≡ recordsOf 4 done = records-more 4 done l ∙ rw (← here, t, append-nil (recordsOf 4 done)) in
+          rw (e, t) (record { none = λ f. r ∙ told .none f; number = rw r (told .number) })
