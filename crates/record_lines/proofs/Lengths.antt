@@ -6,23 +6,24 @@ use native.Mathlib.Omega.{arith}
 use lib.Dec.{eqb}
 use lib.ListN.{length}
 use Rattle.text_line.proofs.Lengths.{end, piece, word, numeral, fits}
-use Rattle.record_lines.specs.Words.{text-line, text-unknown, text-no-number, text-too-large, text-too-few, text-too-many, text-no-reason, text-refused, text-at, text-too-long}
+use Rattle.record_lines.specs.Words.{text-line, text-unknown, text-no-number, text-too-large, text-too-few, text-too-many, text-kind, text-no-reason, text-refused, text-at, text-too-long}
 use Rattle.record_lines.specs.Lines.{reason, faultLine, refusedLine, tooLongLine}
 
 -- the words of a reason
 reason-long : (fault : ℕ) → length (reason fault) ≤ 50
 unfolding reason
-reason-long fault = go (eqb fault 1) (eqb fault 2) (eqb fault 3) (eqb fault 4) (eqb fault 5)
+reason-long fault = go (eqb fault 1) (eqb fault 2) (eqb fault 3) (eqb fault 4) (eqb fault 5) (eqb fault 6)
   where
     go :
-        (a b c d e : Bool) →
-        length (cond a text-unknown (cond b text-no-number (cond c text-too-large (cond d text-too-few (cond e text-too-many text-no-reason))))) ≤ 50
-    go true b c d e = omega arith
-    go false true c d e = omega arith
-    go false false true d e = omega arith
-    go false false false true e = omega arith
-    go false false false false true = omega arith
-    go false false false false false = omega arith
+        (a b c d e f : Bool) →
+        length (cond a text-unknown (cond b text-no-number (cond c text-too-large (cond d text-too-few (cond e text-too-many (cond f text-kind text-no-reason)))))) ≤ 50
+    go true b c d e f = omega arith
+    go false true c d e f = omega arith
+    go false false true d e f = omega arith
+    go false false false true e f = omega arith
+    go false false false false true f = omega arith
+    go false false false false false true = omega arith
+    go false false false false false false = omega arith
 
 pub fault-fits : (line fault : ℕ) → length (faultLine line fault) ≤ 320
 fault-fits line fault = fits 320 (word text-line (numeral line (piece (reason fault) (reason-long fault) end))) (omega arith)

@@ -6,7 +6,7 @@ use Prim.Native.Nat.{ℕ}
 use lib.Dec.{eqb}
 use Rattle.text_line.specs.Numeral.{number}
 use Rattle.text_line.specs.Shown.{lineOf}
-use Rattle.record_lines.specs.Words.{text-line, text-unknown, text-no-number, text-too-large, text-too-few, text-too-many, text-no-reason, text-refused, text-at, text-too-long}
+use Rattle.record_lines.specs.Words.{text-line, text-unknown, text-no-number, text-too-large, text-too-few, text-too-many, text-kind, text-no-reason, text-refused, text-at, text-too-long}
 
 -- why a line cannot be read, in words; another number is no reason
 unfoldable pub reason : ℕ → List ℕ
@@ -15,7 +15,8 @@ reason fault =
     (cond (eqb fault 2) text-no-number
     (cond (eqb fault 3) text-too-large
     (cond (eqb fault 4) text-too-few
-    (cond (eqb fault 5) text-too-many text-no-reason))))
+    (cond (eqb fault 5) text-too-many
+    (cond (eqb fault 6) text-kind text-no-reason)))))
 
 -- `line N: REASON`
 abbrev pub faultLine : ℕ → ℕ → List ℕ

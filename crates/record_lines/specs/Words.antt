@@ -7,9 +7,9 @@ use Prim.Native.Nat.{ℕ}
 abbrev pub text-line : List ℕ
 text-line = 108 ∷ 105 ∷ 110 ∷ 101 ∷ []
 
--- `: the first word is none of T, L, A, S, R and F`
+-- `: the first word is none of K, T, L, A, S, R and F`
 abbrev pub text-unknown : List ℕ
-text-unknown = 58 ∷ 32 ∷ 116 ∷ 104 ∷ 101 ∷ 32 ∷ 102 ∷ 105 ∷ 114 ∷ 115 ∷ 116 ∷ 32 ∷ 119 ∷ 111 ∷ 114 ∷ 100 ∷ 32 ∷ 105 ∷ 115 ∷ 32 ∷ 110 ∷ 111 ∷ 110 ∷ 101 ∷ 32 ∷ 111 ∷ 102 ∷ 32 ∷ 84 ∷ 44 ∷ 32 ∷ 76 ∷ 44 ∷ 32 ∷ 65 ∷ 44 ∷ 32 ∷ 83 ∷ 44 ∷ 32 ∷ 82 ∷ 32 ∷ 97 ∷ 110 ∷ 100 ∷ 32 ∷ 70 ∷ []
+text-unknown = 58 ∷ 32 ∷ 116 ∷ 104 ∷ 101 ∷ 32 ∷ 102 ∷ 105 ∷ 114 ∷ 115 ∷ 116 ∷ 32 ∷ 119 ∷ 111 ∷ 114 ∷ 100 ∷ 32 ∷ 105 ∷ 115 ∷ 32 ∷ 110 ∷ 111 ∷ 110 ∷ 101 ∷ 32 ∷ 111 ∷ 102 ∷ 32 ∷ 75 ∷ 44 ∷ 32 ∷ 84 ∷ 44 ∷ 32 ∷ 76 ∷ 44 ∷ 32 ∷ 65 ∷ 44 ∷ 32 ∷ 83 ∷ 44 ∷ 32 ∷ 82 ∷ 32 ∷ 97 ∷ 110 ∷ 100 ∷ 32 ∷ 70 ∷ []
 
 -- `: not a number`
 abbrev pub text-no-number : List ℕ
@@ -26,6 +26,10 @@ text-too-few = 58 ∷ 32 ∷ 116 ∷ 111 ∷ 111 ∷ 32 ∷ 102 ∷ 101 ∷ 119 
 -- `: too many numbers`
 abbrev pub text-too-many : List ℕ
 text-too-many = 58 ∷ 32 ∷ 116 ∷ 111 ∷ 111 ∷ 32 ∷ 109 ∷ 97 ∷ 110 ∷ 121 ∷ 32 ∷ 110 ∷ 117 ∷ 109 ∷ 98 ∷ 101 ∷ 114 ∷ 115 ∷ []
+
+-- `: the kind, K, must stand first and only there`
+abbrev pub text-kind : List ℕ
+text-kind = 58 ∷ 32 ∷ 116 ∷ 104 ∷ 101 ∷ 32 ∷ 107 ∷ 105 ∷ 110 ∷ 100 ∷ 44 ∷ 32 ∷ 75 ∷ 44 ∷ 32 ∷ 109 ∷ 117 ∷ 115 ∷ 116 ∷ 32 ∷ 115 ∷ 116 ∷ 97 ∷ 110 ∷ 100 ∷ 32 ∷ 102 ∷ 105 ∷ 114 ∷ 115 ∷ 116 ∷ 32 ∷ 97 ∷ 110 ∷ 100 ∷ 32 ∷ 111 ∷ 110 ∷ 108 ∷ 121 ∷ 32 ∷ 116 ∷ 104 ∷ 101 ∷ 114 ∷ 101 ∷ []
 
 -- `: cannot be read`
 abbrev pub text-no-reason : List ℕ

@@ -9,11 +9,12 @@ fn with_reason(line: Line, fault: u8) -> Line
     ensures { λ r. ⌜ shown r ≡ joined (shown line) (reason fault) ⌝ }
 {
     match fault {
-        1 => line.text(b": the first word is none of T, L, A, S, R and F"),
+        1 => line.text(b": the first word is none of K, T, L, A, S, R and F"),
         2 => line.text(b": not a number"),
         3 => line.text(b": a number above 4294967295"),
         4 => line.text(b": too few numbers"),
         5 => line.text(b": too many numbers"),
+        6 => line.text(b": the kind, K, must stand first and only there"),
         _ => line.text(b": cannot be read"),
     }
 }

@@ -42,6 +42,12 @@ slice-aggregate-text-6 c = search needs
 text-requires-6 : tie.Need-text-requires-6
 text-requires-6 c κs = search needs
 
+slice-aggregate-text-7 : tie.Need-slice-aggregate-text-7
+slice-aggregate-text-7 c = search needs
+
+text-requires-7 : tie.Need-text-requires-7
+text-requires-7 c κs = search needs
+
 returns : tie.Need-returns
 unfolding reason
 returns c = rw (c .before .before .match .keys1) (c .text .ensures .1)
@@ -64,9 +70,13 @@ returns-5 c = rw (c .before .before .match .keys5) (c .text5 .ensures .1)
 
 returns-6 : tie.Need-returns-6
 unfolding reason
-returns-6 c =
+returns-6 c = rw (c .before .before .match .keys6) (c .text6 .ensures .1)
+
+returns-7 : tie.Need-returns-7
+unfolding reason
+returns-7 c =
     let r = c .before .before .match .rest in
-    rw (ne-eqb _ _ (r .0 .0 .0 .0 .1), ne-eqb _ _ (r .0 .0 .0 .1), ne-eqb _ _ (r .0 .0 .1), ne-eqb _ _ (r .0 .1), ne-eqb _ _ (r .1)) (c .text6 .ensures .1)
+    rw (ne-eqb _ _ (r .0 .0 .0 .0 .0 .1), ne-eqb _ _ (r .0 .0 .0 .0 .1), ne-eqb _ _ (r .0 .0 .0 .1), ne-eqb _ _ (r .0 .0 .1), ne-eqb _ _ (r .0 .1), ne-eqb _ _ (r .1)) (c .text7 .ensures .1)
 
 pub with-reason-spec : {M : Type 1} → statement M
 with-reason-spec =
@@ -84,9 +94,12 @@ with-reason-spec =
     text-requires-5
     slice-aggregate-text-6
     text-requires-6
+    slice-aggregate-text-7
+    text-requires-7
     returns
     returns-2
     returns-3
     returns-4
     returns-5
-    returns-6)
+    returns-6
+    returns-7)
