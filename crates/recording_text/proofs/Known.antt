@@ -1,19 +1,19 @@
--- The kind as it is known after lines that can be read, one by one.
+-- The kind as it is known after lines that can be read, one by one; a text that can be read says it once.
 -- Assumes nothing.
 use mathlib.Core.Path.{_≡_, refl, sym, ap, _∙_}
 use mathlib.Core.Bool.{Bool, true, false, cond, true≢false, or-true, or-false}
 use mathlib.Core.List.{List, [], _∷_, _++_, append-nil}
-use Prim.Native.Nat.{ℕ, zero, suc}
+use Prim.Native.Nat.{ℕ, zero, suc, _<_}
 use native.Mathlib.Omega.{arith}
-use borrow.Author.Tests.{eqb-true, eqb-false}
+use borrow.Author.Tests.{ltb-true, eqb-true, eqb-false, ne-eqb}
 use lib.Dec.{eqb}
-use lib.ListN.{take, getD}
+use lib.ListN.{length, take, getD}
 use lib.Seq.{getD-take}
 use Rattle.lists.proofs.Bools.{else-zero}
 use Rattle.recording_text_line.specs.declared.Said.{Said}
 use Rattle.recording_text.specs.declared.Kind.{Kind}
 use Rattle.recording_text_line.specs.Line.{Says, says, saidOf, sort, Padded}
-use Rattle.recording_text.specs.Text.{inPlace, faultIn, knownAfter, recordsOf, joined, stored, noKind, kindAfter}
+use Rattle.recording_text.specs.Text.{inPlace, faultIn, knownAfter, readable, textFault, recordsOf, joined, stored, noKind, kindAfter}
 use Rattle.recording_text.proofs.Stores.{records-more}
 
 -- a line without a fault stands where it may
@@ -69,3 +69,31 @@ module _ {done : List (List ℕ)} {kind : Kind} (told : Told done kind) (l : Lis
       go false t =
           let r : recordsOf 4 (done ++ (l ∷ [])) ≡ recordsOf 4 done = records-more 4 done l ∙ rw (← here, t, append-nil (recordsOf 4 done)) in
           rw (e, t) (record { none = λ f. r ∙ told .none f; number = rw r (told .number) })
+
+-- after the kind is known no line that can be read says it
+none-after : (ls : List (List ℕ)) → recordsOf 4 (readable true ls) ≡ []
+unfolding readable recordsOf
+none-after [] = refl
+none-after (l ∷ ls) = go (eqb (faultIn true (says l)) 0) refl (none-after ls)
+  where
+    go : (b : Bool) → eqb (faultIn true (says l)) 0 ≡ b → recordsOf 4 (readable true ls) ≡ [] → recordsOf 4 (cond b (l ∷ readable true ls) []) ≡ []
+    go true e r =
+        let k : sort (says l .letter) < 4 = ltb-true (sort (says l .letter)) 4 (stands true (says l) (eqb-true (faultIn true (says l)) 0 e)) in
+        rw (ne-eqb (sort (says l .letter)) 4 (λ q. omega arith)) r
+    go false e r = refl
+
+-- so a text that can be read says it in just one line
+pub kind-once : (ls : List (List ℕ)) → textFault false ls ≡ 0 → length (recordsOf 4 (readable false ls)) ≡ 1
+unfolding readable textFault recordsOf
+kind-once [] z = absurd (omega arith)
+kind-once (l ∷ ls) z = go (eqb (faultIn false (says l)) 0) refl z (kind-once ls)
+  where
+    said : (t : Bool) → eqb (sort (says l .letter)) 4 ≡ t → textFault t ls ≡ 0 → (textFault false ls ≡ 0 → length (recordsOf 4 (readable false ls)) ≡ 1) → length (recordsOf 4 (l ∷ readable t ls)) ≡ 1
+    said true h f r = rw (h, none-after ls)
+    said false h f r = rw h (r f)
+
+    go :
+        (b : Bool) → eqb (faultIn false (says l)) 0 ≡ b → cond b (textFault (knownAfter false (says l)) ls) (faultIn false (says l)) ≡ 0 →
+        (textFault false ls ≡ 0 → length (recordsOf 4 (readable false ls)) ≡ 1) → length (recordsOf 4 (cond b (l ∷ readable (knownAfter false (says l)) ls) [])) ≡ 1
+    go true e f r = said (eqb (sort (says l .letter)) 4) refl f r
+    go false e f r = absurd (eqb-false (faultIn false (says l)) 0 e f)

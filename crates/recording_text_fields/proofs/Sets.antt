@@ -1,16 +1,18 @@
--- The set that an arrival hands over: the empty one stands for no set that some table accepts.
+-- The set that an arrival hands over: it is judged as the set itself, and the empty one stands for no set that a table accepts.
 -- Assumes nothing.
 use mathlib.Core.Path.{_≡_, refl, sym, _∙_}
 use mathlib.Core.Bool.{Bool, true, false, true≢false, _||_, or-true, or-false}
 use mathlib.Core.List.{List, [], _∷_}
 use Prim.Native.Nat.{ℕ, _^_, _≤_, _<_, min}
+use native.Mathlib.Nat.{le-trans}
 use native.Mathlib.Omega.{arith}
-use borrow.Author.Tests.{leb-true, leb-false, lt-ltb, le-ltb, ne-eqb}
+use borrow.Author.Tests.{ltb-false, leb-true, leb-false, lt-ltb, le-ltb, le-leb, ne-eqb}
 use lib.Bits.{bitOr, or-lt, or-add-and, and-le-l, and-le-r}
-use lib.Dec.{lit≤, lit<, eqb, eqb·suc-zero, leb}
+use lib.Dec.{lit≤, lit<, eqb, eqb·suc-zero, leb, ltb}
 use lib.ListN.{length}
-use lib.Pow.{pow-pos, pow-lt}
+use lib.Pow.{pow-pos, pow-mono, pow-lt}
 use Rattle.lists.proofs.Bools.{or-left, or-right}
+use Rattle.protocol_state.specs.Judge.{judgedArrival}
 use Rattle.recording_format.specs.RecordingKind.{eitherKind}
 use Rattle.recording_text_fields.specs.Numeral.{lastOfSet, setWith, setOf, handedSet}
 
@@ -86,3 +88,15 @@ empty-exactly ns = go (someAbove ns) refl
     go : (b : Bool) → someAbove ns ≡ b → eqb (handedSet (setOf ns)) 0 ≡ (eqb (length ns) 0 || b)
     go true e = rw (le-ltb (setOf ns) (2 ^ lastOfSet) (set-above 0 ns e), or-true (eqb (length ns) 0))
     go false e = rw (whole-set ns e, or-false (eqb (length ns) 0)) (set-empty ns)
+
+-- it is judged as the set itself would be, by every table of either kind
+pub judged-as-itself : (wide : Bool) (set tasks : ℕ) (phase : ℕ → ℕ) → tasks ≤ eitherKind wide .tasks → judgedArrival (handedSet set) tasks phase ≡ judgedArrival set tasks phase
+unfolding judgedArrival
+judged-as-itself wide set tasks phase few = go (ltb set (2 ^ lastOfSet)) refl
+  where
+    go : (b : Bool) → ltb set (2 ^ lastOfSet) ≡ b → judgedArrival (handedSet set) tasks phase ≡ judgedArrival set tasks phase
+    go true e = rw e
+    go false e =
+        let m : 2 ^ tasks ≤ 2 ^ lastOfSet = pow-mono (le-trans few (last-of-set-free wide)) in
+        let h : leb (2 ^ tasks) set ≡ true = le-leb (2 ^ tasks) set (le-trans m (ltb-false set (2 ^ lastOfSet) e)) in
+        rw (e, h, or-true (eqb set 0))
