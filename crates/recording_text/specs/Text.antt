@@ -65,13 +65,15 @@ storedOf k most text = stored k most (readableOf text)
 abbrev pub kindOf : List ℕ → ℕ
 kindOf text = getD (storedOf 4 1 text) 0 0
 
--- so many tasks, links and events are stored: one more than a recording of the wide kind may have
+-- so many tasks are stored: one more than the wide kind may have, so that the writer sees too many
 abbrev pub mostTasks : ℕ
 mostTasks = wideRecording .tasks + 1
 
+-- so many links
 abbrev pub mostLinks : ℕ
 mostLinks = wideRecording .links + 1
 
+-- and so many events
 abbrev pub mostEvents : ℕ
 mostEvents = wideRecording .events + 1
 
