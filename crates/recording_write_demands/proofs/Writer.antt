@@ -1,7 +1,8 @@
--- The sentences of request 2026-01 hold.
+-- The sentences of request 2026-01 hold, and of 2026-06 those of the writer.
 -- Assumes nothing.
-use mathlib.Core.Path.{_≡_, sym, ap, _∙_}
-use mathlib.Core.Logic.{_≢_, _↔_}
+use mathlib.Core.Path.{_≡_, sym, ap, subst, _∙_}
+use mathlib.Core.Logic.{_≢_, _↔_, _⊎_, inl, inr}
+use mathlib.Core.Bool.{Bool}
 use mathlib.Core.List.{List, _++_}
 use Prim.Native.Nat.{ℕ, _≤_, _<_}
 use native.Mathlib.Omega.{arith}
@@ -9,72 +10,94 @@ use lib.ListN.{length, take, drop, take-append-drop}
 use Rattle.protocol.specs.Event.{Event}
 use Rattle.protocol.specs.History.{reads}
 use Rattle.byte_format.specs.Play.{Verdict}
-use Rattle.recording_format.specs.RecordingKind.{baseRecording}
+use Rattle.recording_format.specs.RecordingKind.{baseRecording, wideRecording, eitherKind}
 use Rattle.recording_format.specs.Link.{Link}
 use Rattle.recording_format.specs.Words.{linksSaid, eventsSaid, linkWords, eventWords}
 use Rattle.recording_format.specs.Writing.{bytesAsWritten, InBytes}
 use Rattle.recording_core.specs.Playing.{Playing}
 use Rattle.recording.specs.declared.Answer.{Answer}
 use Rattle.recording_demands.specs.Ensured.{Replays}
+use Rattle.recording_demands.proofs.Demands.{answer-by}
 use Rattle.recording_write.specs.declared.Written.{Written}
 use Rattle.demands.specs.Recordings.{Genuine}
 use Rattle.demands.proofs.Genuine.{exactly, accepted-calls}
 use Rattle.recording_write_demands.specs.Ensured.{Writes, RecordingOf}
 use Rattle.recording_write_demands.specs.Writer.{Writer}
 use Rattle.recording_write_demands.proofs.Contract.{learnt-ensured, ensured-learnt}
-use Rattle.recording_write_demands.proofs.Demands.{room-past, what-is-written-is-read, written-length, written-within, rest-untouched, refused-untouched, short-buffer, shorter-refused, recording-written, same-fault, accepted-written-again}
+use Rattle.recording_write_demands.proofs.Demands.{WritesAs, writes-as, told-kind, unknown-kind, unknown-untouched, written-kind, room-past, what-is-written-is-read, written-length, written-within, rest-untouched, refused-untouched, short-buffer, shorter-refused, recording-written, same-fault, accepted-written-again}
 
-module _ {ds lw ew old new : List ℕ} {a : Written} (said : Writes ds lw ew old a new) where
-  written : (a .refusal ≡ 0) ↔ ((s : List ℕ) × (RecordingOf ds lw ew s × (length s ≤ length old)))
+module _ (wide : Bool) {ds lw ew old new : List ℕ} {a : Written} (told : Writes (eitherKind wide .first) ds lw ew old a new) where
+  said : WritesAs wide ds lw ew old a new
+  said = writes-as wide told
+
+  written : (a .refusal ≡ 0) ↔ ((s : List ℕ) × (RecordingOf wide ds lw ew s × (length s ≤ length old)))
   written = (
     λ z. (take (a .place) new, (what-is-written-is-read said z, omega (arith, written-length said z, written-within said z))),
     λ r. recording-written said (r .1 .0) (r .1 .1) .0,
   )
 
-  bytes : {s : List ℕ} → RecordingOf ds lw ew s → length s ≤ length old → (a .place ≡ length s) × (new ≡ s ++ drop (length s) old)
+  bytes : {s : List ℕ} → RecordingOf wide ds lw ew s → length s ≤ length old → (a .place ≡ length s) × (new ≡ s ++ drop (length s) old)
   bytes {s} r h =
       let w = recording-written said r h in
       let rest : drop (length s) new ≡ drop (length s) old = ap (λ (n : ℕ). drop n new) (sym (w .1)) ∙ rest-untouched said (w .0) ∙ ap (λ (n : ℕ). drop n old) (w .1) in
       (w .1, sym (take-append-drop (length s) new) ∙ ap (λ (x : List ℕ). x ++ drop (length s) new) (w .2) ∙ ap (λ (x : List ℕ). s ++ x) rest)
 
-  as-the-reader : {out list : List ℕ} {b : Answer} → InBytes baseRecording ds (linksSaid lw) (eventsSaid ew) → reads (eventsSaid ew .whole) ≤ length out
-      → Replays (bytesAsWritten baseRecording ds lw ew) out b list → b .refusal ≢ 0 → (a .refusal ≡ b .refusal) × (a .place ≡ b .place)
+  as-the-reader : {out list : List ℕ} {b : Answer} → InBytes (eitherKind wide) ds (linksSaid lw) (eventsSaid ew) → reads (eventsSaid ew .whole) ≤ length out
+      → Replays (bytesAsWritten (eitherKind wide) ds lw ew) out b list → b .refusal ≢ 0 → (a .refusal ≡ b .refusal) × (a .place ≡ b .place)
   as-the-reader {out} {list} {b} fit room read n =
-      let r : b .refusal ≡ _ = ap (λ (x : Verdict Playing). x .refusal) (read .answer) in
-      let p : b .place ≡ _ = ap (λ (x : Verdict Playing). x .place) (read .answer) in
+      let by-kind = answer-by read wide (written-kind wide ds lw ew) in
+      let r : b .refusal ≡ _ = ap (λ (x : Verdict Playing). x .refusal) by-kind in
+      let p : b .place ≡ _ = ap (λ (x : Verdict Playing). x .place) by-kind in
       rw (r, p) (same-fault said out fit (room-past (eventsSaid ew .whole) room) (rw r at n))
 
-  short : (a .refusal ≡ 18) ↔ ((s : List ℕ) × (RecordingOf ds lw ew s × ((length old < length s) × (a .place ≡ length s))))
+  short : (a .refusal ≡ 18) ↔ ((s : List ℕ) × (RecordingOf wide ds lw ew s × ((length old < length s) × (a .place ≡ length s))))
   short = (
     λ z. let w = short-buffer said z in (w .0, (w .1, (w .3, w .2))),
     λ r. shorter-refused said (r .1 .0) (r .1 .1 .0) .0,
   )
 
   read-back : {out list : List ℕ} {b : Answer} → a .refusal ≡ 0 → reads (eventsSaid ew .whole) ≤ length out → Replays (take (a .place) new) out b list
-      → (b .refusal ≡ 0) × (b .place ≡ a .place) × Genuine (take (a .place) new) out ds (linksSaid lw .whole) (eventsSaid ew .whole)
+      → (b .refusal ≡ 0) × (b .place ≡ a .place) × Genuine wide (take (a .place) new) out ds (linksSaid lw .whole) (eventsSaid ew .whole)
   read-back {out} z room read =
       let g = what-is-written-is-read said z .genuine out room in
-      (exactly read .1 (ds, (linksSaid lw .whole, (eventsSaid ew .whole, g))), accepted-calls read g .3 ∙ written-length said z, g)
+      (exactly read .1 (wide, (ds, (linksSaid lw .whole, (eventsSaid ew .whole, g)))), accepted-calls read g .3 ∙ written-length said z, g)
 
 again : {s out list : List ℕ} {b : Answer} → Replays s out b list → b .refusal ≡ 0
-    → (ds : List ℕ) × (ls : List Link) × (es : List (Event ℕ)) × Genuine s out ds ls es ×
-    ((old new : List ℕ) (a : Written) → Writes ds (linkWords ls) (eventWords es) old a new → length s ≤ length old →
+    → (wide : Bool) × (ds : List ℕ) × (ls : List Link) × (es : List (Event ℕ)) × Genuine wide s out ds ls es ×
+    ((old new : List ℕ) (a : Written) → Writes (eitherKind wide .first) ds (linkWords ls) (eventWords es) old a new → length s ≤ length old →
     (a .refusal ≡ 0) × (a .place ≡ length s) × (take (length s) new ≡ s))
 again read z =
     let g = exactly read .0 z in
-    (g .0, g .1 .0, g .1 .1 .0, g .1 .1 .1, λ old new a said h. accepted-written-again (g .1 .1 .1) said h)
+    (g .0, g .1 .0, g .1 .1 .0, g .1 .1 .1 .0, g .1 .1 .1 .1, λ old new a said h. accepted-written-again (g .1 .1 .1 .1) (writes-as (g .0) said) h)
+
+-- whatever it is told
+module _ {told : ℕ} {ds lw ew old new : List ℕ} {a : Written} (said : Writes told ds lw ew old a new) where
+  untouched : a .refusal ≢ 0 → new ≡ old
+  untouched n = go (told-kind told)
+    where
+      go : ((wide : Bool) × (told ≡ eitherKind wide .first)) ⊎ ((told ≢ baseRecording .first) × (told ≢ wideRecording .first)) → new ≡ old
+      go (inl (wide, e)) = refused-untouched (writes-as wide (subst (λ (k : ℕ). Writes k ds lw ew old a new) e said)) n
+      go (inr (b, w)) = unknown-untouched said b w
+
+  rest : a .refusal ≡ 0 → drop (a .place) new ≡ drop (a .place) old
+  rest z = go (told-kind told)
+    where
+      go : ((wide : Bool) × (told ≡ eitherKind wide .first)) ⊎ ((told ≢ baseRecording .first) × (told ≢ wideRecording .first)) → drop (a .place) new ≡ drop (a .place) old
+      go (inl (wide, e)) = rest-untouched (writes-as wide (subst (λ (k : ℕ). Writes k ds lw ew old a new) e said)) z
+      go (inr (b, w)) = ap (drop (a .place)) (unknown-untouched said b w)
 
 pub writer : Writer
 writer = record {
   asks = λ κs lent. tt;
   tells = λ κs lent a left. (learnt-ensured κs lent a left, ensured-learnt κs lent a left);
+  unknown-kind = unknown-kind;
   written = written;
-  bytes = λ said r h. bytes said r h;
-  as-the-reader = λ said fit room read n. as-the-reader said fit room read n;
+  bytes = λ wide said r h. bytes wide said r h;
+  as-the-reader = λ wide said fit room read n. as-the-reader wide said fit room read n;
   short = short;
-  read-back = λ said z room read. read-back said z room read;
+  read-back = λ wide said z room read. read-back wide said z room read;
   again = again;
-  untouched = refused-untouched;
-  rest = rest-untouched;
+  untouched = untouched;
+  rest = rest;
   one-answer = λ said said′. (said .answer ∙ sym (said′ .answer), said .buffer ∙ sym (said′ .buffer));
 }

@@ -1,8 +1,9 @@
--- The sentences of request 2026-01, a field for each, over what the contracts of `recording_write::write` and `recording::replay` ensure: `Writes` and `Replays`.
+-- The sentences of request 2026-01, and of 2026-06 "the writer is told which to write", a field for each, over what the contracts of `recording_write::write` and `recording::replay` ensure: `Writes` and `Replays`.
 -- A reader of the three demands goes on here; proofs/Writer.antt has `writer`.
 -- Assumes nothing.
 use mathlib.Core.Path.{_≡_}
 use mathlib.Core.Logic.{_≢_, _↔_}
+use mathlib.Core.Bool.{Bool}
 use mathlib.Core.List.{List, _++_}
 use Prim.Native.Nat.{ℕ, _≤_, _<_}
 use lib.ListN.{length, take, drop}
@@ -12,7 +13,7 @@ use denote.Triple.Clauses.{AtExit}
 use borrow.Fn.Kinds.{Dens, resT, endedOf}
 use Rattle.protocol.specs.Event.{Event}
 use Rattle.protocol.specs.History.{reads}
-use Rattle.recording_format.specs.RecordingKind.{baseRecording}
+use Rattle.recording_format.specs.RecordingKind.{baseRecording, wideRecording, eitherKind}
 use Rattle.recording_format.specs.Link.{Link}
 use Rattle.recording_format.specs.Words.{linksSaid, eventsSaid, linkWords, eventWords}
 use Rattle.recording_format.specs.Writing.{bytesAsWritten, InBytes}
@@ -28,31 +29,35 @@ pub record Writer : Type 0 where
   -- the contract in the source asks nothing, and tells this and no more
   pub asks : (κs : Lfts 4) (lent : Dens κs of-write.ps) → on-write.Asked κs lent
   pub tells : (κs : Lfts 4) (lent : Dens κs of-write.ps) (a : resT of-write.r κs .Denot) (left : AtExit (endedOf 4 of-write.ps of-write.r) κs) →
-      on-write.Learnt κs lent a left ↔ Writes (now (lent .0)) (now (lent .1 .0)) (now (lent .1 .1 .0)) (now (lent .1 .1 .1 .0)) a (now (left .1 .1 .1 .0))
+      on-write.Learnt κs lent a left ↔
+      Writes (lent .0) (now (lent .1 .0)) (now (lent .1 .1 .0)) (now (lent .1 .1 .1 .0)) (now (lent .1 .1 .1 .1 .0)) a (now (left .1 .1 .1 .1 .0))
+  -- "the writer is told which to write": by the first byte of the kind; a number that is that of no kind is 2 at 0
+  pub unknown-kind : {told : ℕ} {ds lw ew old new : List ℕ} {a : Written} → Writes told ds lw ew old a new → told ≢ baseRecording .first → told ≢ wideRecording .first →
+      (a .refusal ≡ 2) × (a .place ≡ 0)
   -- "Stations should write too: from a table, links and events to bytes in a lent buffer.": accepted exactly when what is handed over is a recording and there
   -- is room for it, which then stands at the start of the buffer
-  pub written : {ds lw ew old new : List ℕ} {a : Written} → Writes ds lw ew old a new →
-      (a .refusal ≡ 0) ↔ ((s : List ℕ) × (RecordingOf ds lw ew s × (length s ≤ length old)))
-  pub bytes : {ds lw ew old new s : List ℕ} {a : Written} → Writes ds lw ew old a new → RecordingOf ds lw ew s → length s ≤ length old →
+  pub written : (wide : Bool) {ds lw ew old new : List ℕ} {a : Written} → Writes (eitherKind wide .first) ds lw ew old a new →
+      (a .refusal ≡ 0) ↔ ((s : List ℕ) × (RecordingOf wide ds lw ew s × (length s ≤ length old)))
+  pub bytes : (wide : Bool) {ds lw ew old new s : List ℕ} {a : Written} → Writes (eitherKind wide .first) ds lw ew old a new → RecordingOf wide ds lw ew s → length s ≤ length old →
       (a .place ≡ length s) × (new ≡ s ++ drop (length s) old)
   -- "It refuses with the same numbers as the reader .. Places are where the reader would find that fault": the reader of the bytes as written, where each number
   -- fits its bytes, and there is room for the numbers
-  pub as-the-reader : {ds lw ew old new out list : List ℕ} {a : Written} {b : Answer} → Writes ds lw ew old a new → InBytes baseRecording ds (linksSaid lw) (eventsSaid ew) →
-      reads (eventsSaid ew .whole) ≤ length out → Replays (bytesAsWritten baseRecording ds lw ew) out b list → b .refusal ≢ 0 → (a .refusal ≡ b .refusal) × (a .place ≡ b .place)
+  pub as-the-reader : (wide : Bool) {ds lw ew old new out list : List ℕ} {a : Written} {b : Answer} → Writes (eitherKind wide .first) ds lw ew old a new → InBytes (eitherKind wide) ds (linksSaid lw) (eventsSaid ew) →
+      reads (eventsSaid ew .whole) ≤ length out → Replays (bytesAsWritten (eitherKind wide) ds lw ew) out b list → b .refusal ≢ 0 → (a .refusal ≡ b .refusal) × (a .place ≡ b .place)
   -- "and with 18 when the buffer is too short for the whole"; "18 is tried last, with the whole length as place"
-  pub short : {ds lw ew old new : List ℕ} {a : Written} → Writes ds lw ew old a new →
-      (a .refusal ≡ 18) ↔ ((s : List ℕ) × (RecordingOf ds lw ew s × ((length old < length s) × (a .place ≡ length s))))
+  pub short : (wide : Bool) {ds lw ew old new : List ℕ} {a : Written} → Writes (eitherKind wide .first) ds lw ew old a new →
+      (a .refusal ≡ 18) ↔ ((s : List ℕ) × (RecordingOf wide ds lw ew s × ((length old < length s) × (a .place ≡ length s))))
   -- "What it writes the reader accepts, given room for the numbers, as the same table, links and events,"
-  pub read-back : {ds lw ew old new out list : List ℕ} {a : Written} {b : Answer} → Writes ds lw ew old a new → a .refusal ≡ 0 →
+  pub read-back : (wide : Bool) {ds lw ew old new out list : List ℕ} {a : Written} {b : Answer} → Writes (eitherKind wide .first) ds lw ew old a new → a .refusal ≡ 0 →
       reads (eventsSaid ew .whole) ≤ length out → Replays (take (a .place) new) out b list →
-      (b .refusal ≡ 0) × (b .place ≡ a .place) × Genuine (take (a .place) new) out ds (linksSaid lw .whole) (eventsSaid ew .whole)
+      (b .refusal ≡ 0) × (b .place ≡ a .place) × Genuine wide (take (a .place) new) out ds (linksSaid lw .whole) (eventsSaid ew .whole)
   -- "and any accepted recording written again gives the same bytes."
   pub again : {s out list : List ℕ} {b : Answer} → Replays s out b list → b .refusal ≡ 0 →
-      (ds : List ℕ) × (ls : List Link) × (es : List (Event ℕ)) × Genuine s out ds ls es ×
-      ((old new : List ℕ) (a : Written) → Writes ds (linkWords ls) (eventWords es) old a new → length s ≤ length old →
+      (wide : Bool) × (ds : List ℕ) × (ls : List Link) × (es : List (Event ℕ)) × Genuine wide s out ds ls es ×
+      ((old new : List ℕ) (a : Written) → Writes (eitherKind wide .first) ds (linkWords ls) (eventWords es) old a new → length s ≤ length old →
       (a .refusal ≡ 0) × (a .place ≡ length s) × (take (length s) new ≡ s))
   -- document 01: "A call that writes into a lent byte buffer leaves it untouched when it refuses, and never touches bytes past what it wrote."
-  pub untouched : {ds lw ew old new : List ℕ} {a : Written} → Writes ds lw ew old a new → a .refusal ≢ 0 → new ≡ old
-  pub rest : {ds lw ew old new : List ℕ} {a : Written} → Writes ds lw ew old a new → a .refusal ≡ 0 → drop (a .place) new ≡ drop (a .place) old
+  pub untouched : {told : ℕ} {ds lw ew old new : List ℕ} {a : Written} → Writes told ds lw ew old a new → a .refusal ≢ 0 → new ≡ old
+  pub rest : {told : ℕ} {ds lw ew old new : List ℕ} {a : Written} → Writes told ds lw ew old a new → a .refusal ≡ 0 → drop (a .place) new ≡ drop (a .place) old
   -- "two answers allowed for one input are equal"
-  pub one-answer : {ds lw ew old new new′ : List ℕ} {a a′ : Written} → Writes ds lw ew old a new → Writes ds lw ew old a′ new′ → (a ≡ a′) × (new ≡ new′)
+  pub one-answer : {told : ℕ} {ds lw ew old new new′ : List ℕ} {a a′ : Written} → Writes told ds lw ew old a new → Writes told ds lw ew old a′ new′ → (a ≡ a′) × (new ≡ new′)
