@@ -15,7 +15,7 @@ use mailbox_sound::is_sound;
 // One event given to a state: 19 where the state isn't sound, then 11 for an unknown kind, then 12 to 16, else it is done. A refusal leaves
 // both arrays as they were lent.
 #[no_mangle]
-pub extern "C" fn parnusild_event(
+pub extern "C" fn parnusild_event_32_96(
     kind: u8,
     which: u32,
     value: u32,

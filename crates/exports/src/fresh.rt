@@ -14,7 +14,7 @@ use mailbox_layout::VALUES;
 
 // The fresh state of a table: the refusal that the table earns, 0 for none, and its fresh state, else that of a single task.
 #[no_mangle]
-pub extern "C" fn parnusild_fresh(
+pub extern "C" fn parnusild_fresh_32_96(
     table_tasks: usize,
     table_links: usize,
     table_defaults: &[u32; TASKS],

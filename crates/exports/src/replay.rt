@@ -12,7 +12,7 @@ const COUNTS: usize = 4;
 // The answer to a whole recording: the refusal, its place, the four counts and the state after the last accepted event; the numbers
 // read stand first in the lent list. Each entry of the lent recording is a byte: `bytes` hands that fact on, as the replay's does.
 #[no_mangle]
-pub extern "C" fn parnusild_replay(
+pub extern "C" fn parnusild_replay_32_96(
     bytes: &[u8],
     numbers: &mut [u32],
     place: &mut usize,

@@ -25,7 +25,7 @@ use Rattle.mailbox_call.specs.Calls.{Call, known, unknown, called, callReply}
 use Rattle.host_demands.specs.Hosts.{HostGives, HostReplays, HostWrites, HostRests, HostAsksNothing, HostTells, HostSays, anArrival, aStart, aRead, aFinish, Holds, hostAnswer, lastOf, Hosts}
 
 host-asks : HostAsksNothing
-host-asks = record { fresh = λ κs lent. tt; event = λ κs lent. tt; replay = λ κs lent. tt; write = λ κs lent. tt; rest = λ κs lent. tt }
+host-asks = record { fresh = λ κs lent. tt; event = λ κs lent. tt; replay = λ κs lent. tt; write = λ κs lent. tt; rest = λ κs lent. tt; sizes = λ κs lent. tt }
 
 host-tells : HostTells
 host-tells = record {
@@ -34,6 +34,7 @@ host-tells = record {
   replay = λ κs lent r left learnt. learnt;
   write = λ κs lent r left learnt. learnt;
   rest = λ κs lent n left learnt. learnt;
+  sizes = λ κs lent u left learnt. learnt;
 }
 
 -- the code's reading of the three numbers
@@ -93,7 +94,7 @@ replay-is {s} {out} {cs} (R, b) p h = record {
   bytes = b;
 }
 
-write-is : {ds lw ew old new : List ℕ} {r m : ℕ} → HostWrites ds lw ew old r m new → Writes ds lw ew old (record { refusal = r; place = m }) new
+write-is : {told : ℕ} {ds lw ew old new : List ℕ} {r m : ℕ} → HostWrites told ds lw ew old r m new → Writes told ds lw ew old (record { refusal = r; place = m }) new
 write-is (W, n) = record { answer = λ i. record { refusal = W .refusal i; place = W .place i }; buffer = W .bytes; numbers = n }
 
 -- a part from a place on is as many of the last bytes

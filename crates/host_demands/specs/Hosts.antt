@@ -3,7 +3,7 @@
 -- Assumes nothing.
 use mathlib.Core.Path.{_≡_}
 use mathlib.Core.Logic.{_≢_}
-use mathlib.Core.List.{List}
+use mathlib.Core.List.{List, [], _∷_}
 use Prim.Native.Nat.{ℕ, _-_, _≤_}
 use lib.ListN.{length, drop}
 use contract.Lifetimes.{Lfts}
@@ -30,36 +30,42 @@ use Rattle.mailbox_call.specs.Calls.{called, callReply}
 use Rattle.exports.specs.Made.{madeAs}
 use Rattle.exports.specs.Replayed.{Replayed}
 use Rattle.exports.specs.Wrote.{Wrote}
-use Rattle.exports.proofs.fresh.parnusild_fresh.Kinds as of-fresh
-use Rattle.exports.proofs.fresh.parnusild_fresh.Reads as on-fresh
-use Rattle.exports.proofs.event.parnusild_event.Kinds as of-event
-use Rattle.exports.proofs.event.parnusild_event.Reads as on-event
-use Rattle.exports.proofs.replay.parnusild_replay.Kinds as of-replay
-use Rattle.exports.proofs.replay.parnusild_replay.Reads as on-replay
-use Rattle.exports.proofs.write.parnusild_write.Kinds as of-write
-use Rattle.exports.proofs.write.parnusild_write.Reads as on-write
-use Rattle.exports.proofs.rest.parnusild_rest.Kinds as of-rest
-use Rattle.exports.proofs.rest.parnusild_rest.Reads as on-rest
+use Rattle.exports.proofs.fresh.parnusild_fresh_32_96.Kinds as of-fresh
+use Rattle.exports.proofs.fresh.parnusild_fresh_32_96.Reads as on-fresh
+use Rattle.exports.proofs.event.parnusild_event_32_96.Kinds as of-event
+use Rattle.exports.proofs.event.parnusild_event_32_96.Reads as on-event
+use Rattle.exports.proofs.replay.parnusild_replay_32_96.Kinds as of-replay
+use Rattle.exports.proofs.replay.parnusild_replay_32_96.Reads as on-replay
+use Rattle.exports.proofs.write.parnusild_write_32_96.Kinds as of-write
+use Rattle.exports.proofs.write.parnusild_write_32_96.Reads as on-write
+use Rattle.exports.proofs.rest.parnusild_rest_32_96.Kinds as of-rest
+use Rattle.exports.proofs.rest.parnusild_rest_32_96.Reads as on-rest
+use Rattle.exports.proofs.sizes.parnusild_sizes.Kinds as of-sizes
+use Rattle.exports.proofs.sizes.parnusild_sizes.Reads as on-sizes
 
 -- ---- what the contracts in the source say
 
--- `parnusild_fresh`, lent a table: it answers r and leaves the state q
+-- `parnusild_fresh_32_96`, lent a table: it answers r and leaves the state q
 abbrev pub HostMakes : ℕ → ℕ → List ℕ → List ℕ → List ℕ → List ℕ → List ℕ → ℕ → Saved → Type 0
 HostMakes T L D W R K B r q = madeAs r q ≡ made base (firstTasks T D) (firstLinks L W R K B)
 
--- `parnusild_event`, lent the state q: it answers r and the number v, and leaves the state q′
+-- `parnusild_event_32_96`, lent the state q: it answers r and the number v, and leaves the state q′
 abbrev pub HostGives : Saved → ℕ → ℕ → ℕ → ℕ → ℕ → Saved → Type 0
 HostGives q kind which value r v q′ = reply q′ r v ≡ callReply q (called kind which value)
 
--- `parnusild_replay`, lent the bytes s and the list out: it answers r at the place m, with the counts cs, and leaves the state q and `list`
+-- `parnusild_replay_32_96`, lent the bytes s and the list out: it answers r at the place m, with the counts cs, and leaves the state q and `list`
 abbrev pub HostReplays : List ℕ → List ℕ → ℕ → ℕ → List ℕ → Saved → List ℕ → Type 0
 HostReplays s out r m cs q list = Replayed s out r m cs q list × Bytes s
 
--- `parnusild_write`, lent the defaults ds, the numbers lw of links and ew of events, and a buffer that held `old`: it answers r at the place m and leaves `new`
-abbrev pub HostWrites : List ℕ → List ℕ → List ℕ → List ℕ → ℕ → ℕ → List ℕ → Type 0
-HostWrites ds lw ew old r m new = Wrote ds lw ew old r m new × (Words ds × (Words lw × Words ew))
+-- `parnusild_write_32_96`, told a kind and lent the defaults ds, the numbers lw of links and ew of events, and a buffer that held `old`: it answers r at the place m and leaves `new`
+abbrev pub HostWrites : ℕ → List ℕ → List ℕ → List ℕ → List ℕ → ℕ → ℕ → List ℕ → Type 0
+HostWrites told ds lw ew old r m new = Wrote told ds lw ew old r m new × (Words ds × (Words lw × Words ew))
 
--- `parnusild_rest`, lent the bytes s: it answers n to the place m
+-- `parnusild_sizes` leaves these: so many tasks, links, bytes of control and numbers of values
+abbrev pub HostSizes : List ℕ → Type 0
+HostSizes sizes = sizes ≡ 32 ∷ 96 ∷ 608 ∷ 448 ∷ []
+
+-- `parnusild_rest_32_96`, lent the bytes s: it answers n to the place m
 abbrev pub HostRests : List ℕ → ℕ → ℕ → Type 0
 HostRests s m n = n ≡ length (drop m s)
 
@@ -70,6 +76,7 @@ pub record HostAsksNothing : Type 0 where
   pub replay : (κs : Lfts 8) (lent : Dens κs of-replay.ps) → on-replay.Asked κs lent
   pub write : (κs : Lfts 5) (lent : Dens κs of-write.ps) → on-write.Asked κs lent
   pub rest : (κs : Lfts 1) (lent : Dens κs of-rest.ps) → on-rest.Asked κs lent
+  pub sizes : (κs : Lfts 1) (lent : Dens κs of-sizes.ps) → on-sizes.Asked κs lent
 
 -- a lent number, a lent list
 abbrev pub Number : Type 0
@@ -117,13 +124,16 @@ pub record HostTells : Type 0 where
       HostReplays (now (lent .0)) (now (lent .1 .0)) r (now (left .1 .1 .0)) (now (left .1 .1 .1 .0)) (stateIn (left .1 .1 .1 .1)) (now (left .1 .0))
   pub write : (κs : Lfts 5) (lent : Dens κs of-write.ps) (r : resT of-write.r κs .Denot) (left : AtExit (endedOf 5 of-write.ps of-write.r) κs) →
       on-write.Learnt κs lent r left →
-      HostWrites (now (lent .0)) (now (lent .1 .0)) (now (lent .1 .1 .0)) (now (lent .1 .1 .1 .0)) r (now (left .1 .1 .1 .1 .0)) (now (left .1 .1 .1 .0))
+      HostWrites (lent .0) (now (lent .1 .0)) (now (lent .1 .1 .0)) (now (lent .1 .1 .1 .0)) (now (lent .1 .1 .1 .1 .0)) r (now (left .1 .1 .1 .1 .1 .0))
+      (now (left .1 .1 .1 .1 .0))
   pub rest : (κs : Lfts 1) (lent : Dens κs of-rest.ps) (n : resT of-rest.r κs .Denot) (left : AtExit (endedOf 1 of-rest.ps of-rest.r) κs) →
       on-rest.Learnt κs lent n left → HostRests (now (lent .0)) (lent .1 .0) n
+  pub sizes : (κs : Lfts 1) (lent : Dens κs of-sizes.ps) (u : resT of-sizes.r κs .Denot) (left : AtExit (endedOf 1 of-sizes.ps of-sizes.r) κs) →
+      on-sizes.Learnt κs lent u left → HostSizes (now (left .0))
 
 -- ---- and these are the calls that the demands speak of
 
--- the event that the three numbers of `parnusild_event` say; a kind with no line here is none
+-- the event that the three numbers of `parnusild_event_32_96` say; a kind with no line here is none
 pub data HostSays : ℕ → ℕ → ℕ → Event ℕ → Type 0 where
   anArrival : {set value : ℕ} → HostSays 1 set value (arrival set)
   aStart : {t value : ℕ} → HostSays 2 t value (start t)
@@ -148,20 +158,20 @@ pub record Hosts : Type 0 where
   pub asks : HostAsksNothing
   -- what the sentences below take of a call is what its contract in the source tells
   pub tells : HostTells
-  -- a table handed to `parnusild_fresh` makes what it makes by `State::fresh`
+  -- a table handed to `parnusild_fresh_32_96` makes what it makes by `State::fresh`
   pub fresh : (T L : ℕ) (D W R K B : List ℕ) (r : ℕ) (q : Saved) → HostMakes T L D W R K B r q →
       (p : State) → Holds p q → Makes T L D W R K B (record { refusal = r; state = p })
-  -- an event, kinds 1 to 4, is given to the state by `parnusild_event` as by `State::event`
+  -- an event, kinds 1 to 4, is given to the state by `parnusild_event_32_96` as by `State::event`
   pub event : (q q′ : Saved) (kind which value r v : ℕ) → HostGives q kind which value r v q′ →
       (e : Event ℕ) → HostSays kind which value e → (p p′ : State) → Holds p q → Holds p′ q′ → Gives p e (record { state = p′; answer = record { refusal = r; value = v } })
   -- "Nothing unknown ever becomes a default.": any other kind is 11 of a sound state and 19 of another, the state as it was, and no number
   pub unknown : (q q′ : Saved) (kind which value r v : ℕ) → HostGives q kind which value r v q′ →
       ((e : Event ℕ) → HostSays kind which value e → ⊥) →
       (StandsSound base q → reply q′ r v ≡ reply q 11 0) × ((StandsSound base q → ⊥) → reply q′ r v ≡ reply q 19 0)
-  -- what `parnusild_replay` answers and leaves is what `recording::replay` does
+  -- what `parnusild_replay_32_96` answers and leaves is what `recording::replay` does
   pub replay : {s out cs list : List ℕ} {r m : ℕ} {q : Saved} → HostReplays s out r m cs q list →
       (p : State) → Holds p q → Replays s out (hostAnswer r m cs p) list
-  -- what `parnusild_write` answers and leaves is what `recording_write::write` does
-  pub write : {ds lw ew old new : List ℕ} {r m : ℕ} → HostWrites ds lw ew old r m new → Writes ds lw ew old (record { refusal = r; place = m }) new
-  -- "On refusal the caller also gets the unread rest": so many bytes, the last of the recording, as `parnusild_rest` answers to a replay's place
+  -- what `parnusild_write_32_96` answers and leaves is what `recording_write::write` does
+  pub write : {told : ℕ} {ds lw ew old new : List ℕ} {r m : ℕ} → HostWrites told ds lw ew old r m new → Writes told ds lw ew old (record { refusal = r; place = m }) new
+  -- "On refusal the caller also gets the unread rest": so many bytes, the last of the recording, as `parnusild_rest_32_96` answers to a replay's place
   pub rest : {s out list : List ℕ} {a : Answer} {n : ℕ} → Replays s out a list → HostRests s (a .place) n → (n ≤ length s) × Unread s (a .refusal) (a .place) (lastOf n s)

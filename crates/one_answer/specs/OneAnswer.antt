@@ -93,16 +93,16 @@ use Rattle.recording_text.proofs.line_of.Kinds as of-line-of
 use Rattle.recording_text.proofs.line_of.Reads as on-line-of
 use Rattle.recording_make.proofs.make_recording.Kinds as of-make-recording
 use Rattle.recording_make.proofs.make_recording.Reads as on-make-recording
-use Rattle.exports.proofs.fresh.parnusild_fresh.Kinds as of-host-fresh
-use Rattle.exports.proofs.fresh.parnusild_fresh.Reads as on-host-fresh
-use Rattle.exports.proofs.event.parnusild_event.Kinds as of-host-event
-use Rattle.exports.proofs.event.parnusild_event.Reads as on-host-event
-use Rattle.exports.proofs.replay.parnusild_replay.Kinds as of-host-replay
-use Rattle.exports.proofs.replay.parnusild_replay.Reads as on-host-replay
-use Rattle.exports.proofs.write.parnusild_write.Kinds as of-host-write
-use Rattle.exports.proofs.write.parnusild_write.Reads as on-host-write
-use Rattle.exports.proofs.rest.parnusild_rest.Kinds as of-host-rest
-use Rattle.exports.proofs.rest.parnusild_rest.Reads as on-host-rest
+use Rattle.exports.proofs.fresh.parnusild_fresh_32_96.Kinds as of-host-fresh
+use Rattle.exports.proofs.fresh.parnusild_fresh_32_96.Reads as on-host-fresh
+use Rattle.exports.proofs.event.parnusild_event_32_96.Kinds as of-host-event
+use Rattle.exports.proofs.event.parnusild_event_32_96.Reads as on-host-event
+use Rattle.exports.proofs.replay.parnusild_replay_32_96.Kinds as of-host-replay
+use Rattle.exports.proofs.replay.parnusild_replay_32_96.Reads as on-host-replay
+use Rattle.exports.proofs.write.parnusild_write_32_96.Kinds as of-host-write
+use Rattle.exports.proofs.write.parnusild_write_32_96.Reads as on-host-write
+use Rattle.exports.proofs.rest.parnusild_rest_32_96.Kinds as of-host-rest
+use Rattle.exports.proofs.rest.parnusild_rest_32_96.Reads as on-host-rest
 use Rattle.one_answer.specs.Walker.{WalksFrom, WalksTo, WalksLeft}
 
 -- whatever the contract `Learnt` allows for the same arguments, the caller sees the same: of the result, and of what the references then hold that were lent

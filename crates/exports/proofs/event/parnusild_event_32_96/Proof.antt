@@ -1,11 +1,11 @@
--- `exports::event::parnusild_event` meets its contract: no event, to an unsound state or a sound one; or an event given.
+-- `exports::event::parnusild_event_32_96` meets its contract: no event, to an unsound state or a sound one; or an event given.
 -- Assumes nothing.
 use mathlib.Core.Path.{refl}
 use Rattle.mailbox_layout.specs.Layout.{stateOf}
 use Rattle.exports.proofs.Ways.{answered-unsound, answered-none, answered-event}
 use borrow.Author.Needs.{needs}
-use Rattle.exports.proofs.event.parnusild_event.Statement.{statement}
-use Rattle.exports.proofs.event.parnusild_event.Tie as tie
+use Rattle.exports.proofs.event.parnusild_event_32_96.Statement.{statement}
+use Rattle.exports.proofs.event.parnusild_event_32_96.Tie as tie
 
 ask-requires : tie.Need-ask-requires
 ask-requires c κs = search needs
@@ -47,8 +47,8 @@ returns-3 c =
     let q = stateOf (a .tasks) (a .links) (a .control .now) (a .values .now) in
     (answered-event q (a .kind) (a .which) (a .value) (k .ask .result) (k .ask .ensures) (known .call .given .1) (c .give .ensures .0), c .give .ensures .1)
 
-pub parnusild-event-spec : {M : Type 1} → statement M
-parnusild-event-spec =
+pub parnusild-event-32-96-spec : {M : Type 1} → statement M
+parnusild-event-32-96-spec =
     tie.close
     (tie.spec
     ask-requires

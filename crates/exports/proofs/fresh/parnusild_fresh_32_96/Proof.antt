@@ -1,9 +1,9 @@
--- `exports::fresh::parnusild_fresh` meets its contract: the state that is made is put into the parts.
+-- `exports::fresh::parnusild_fresh_32_96` meets its contract: the state that is made is put into the parts.
 -- Assumes nothing.
 use Rattle.exports.proofs.Fills.{made-filled}
 use borrow.Author.Needs.{needs}
-use Rattle.exports.proofs.fresh.parnusild_fresh.Statement.{statement}
-use Rattle.exports.proofs.fresh.parnusild_fresh.Tie as tie
+use Rattle.exports.proofs.fresh.parnusild_fresh_32_96.Statement.{statement}
+use Rattle.exports.proofs.fresh.parnusild_fresh_32_96.Tie as tie
 
 fresh-requires : tie.Need-fresh-requires
 fresh-requires c κs = search needs
@@ -16,5 +16,5 @@ returns c =
     let m = c .before .before .before .before .before in
     made-filled (m .fresh .result) (m .fresh .ensures .0 .answer) (c .put-state .ensures)
 
-pub parnusild-fresh-spec : {M : Type 1} → statement M
-parnusild-fresh-spec = tie.close (tie.spec fresh-requires put-state-requires returns)
+pub parnusild-fresh-32-96-spec : {M : Type 1} → statement M
+parnusild-fresh-32-96-spec = tie.close (tie.spec fresh-requires put-state-requires returns)

@@ -1,9 +1,9 @@
--- `exports::replay::parnusild_replay` meets its contract: the state that the replay ends in is put into the parts.
+-- `exports::replay::parnusild_replay_32_96` meets its contract: the state that the replay ends in is put into the parts.
 -- Assumes nothing.
 use Rattle.exports.proofs.Fills.{replay-filled}
 use borrow.Author.Needs.{needs}
-use Rattle.exports.proofs.replay.parnusild_replay.Statement.{statement}
-use Rattle.exports.proofs.replay.parnusild_replay.Tie as tie
+use Rattle.exports.proofs.replay.parnusild_replay_32_96.Statement.{statement}
+use Rattle.exports.proofs.replay.parnusild_replay_32_96.Tie as tie
 
 replay-requires : tie.Need-replay-requires
 replay-requires c κs = search needs
@@ -19,5 +19,5 @@ returns c =
     let d = c .before .before .before .before .before .before .before .before in
     (replay-filled _ _ (d .replay .result) (d .replay .ensures .0) (c .put-state .ensures), d .replay .ensures .1 .1)
 
-pub parnusild-replay-spec : {M : Type 1} → statement M
-parnusild-replay-spec = tie.close (tie.spec replay-requires put-state-requires same-length returns)
+pub parnusild-replay-32-96-spec : {M : Type 1} → statement M
+parnusild-replay-32-96-spec = tie.close (tie.spec replay-requires put-state-requires same-length returns)

@@ -1,0 +1,21 @@
+// How large the parts of a state are in this library.
+ghost use mathlib.Core.Path.{_≡_};
+ghost use mathlib.Core.List.{[], _∷_};
+ghost use Rattle.protocol_state.specs.Saved.{base};
+ghost use Rattle.mailbox_layout.specs.Layout.{controlSize, valueSize};
+use mailbox_base::numbers::LINKS;
+use mailbox_base::numbers::TASKS;
+use mailbox_layout::CONTROL;
+use mailbox_layout::VALUES;
+
+// How many sizes there are.
+const SIZES: usize = 4;
+
+// The room of a state, so many tasks and links; the bytes of its control, and the numbers of its values. This call alone has no room in its
+// name: a host may ask any library for it.
+#[no_mangle]
+pub extern "C" fn parnusild_sizes(sizes: &mut [usize; SIZES])
+    ensures { λ _. ⌜ now (sizes .exit) ≡ base .tasks ∷ base .links ∷ controlSize ∷ valueSize ∷ [] ⌝ }
+{
+    *sizes = [TASKS, LINKS, CONTROL, VALUES];
+}
