@@ -6,13 +6,9 @@ use Prim.Native.Nat.{ℕ}
 use borrow.Author.Tests.{eq-eqb, ne-eqb}
 use lib.ListN.{length, take, drop}
 use lib.Seq.{take-append-seam}
-use Rattle.protocol_state.specs.Saved.{base}
-use Rattle.recording_format.specs.RecordingKind.{baseRecording}
-use Rattle.recording_format.specs.Words.{linksSaid, eventsSaid}
-use Rattle.recording_format.specs.Writing.{writing, bufferAfter}
-use Rattle.recording_core.specs.Playing.{stateCore}
+use Rattle.recording_write.specs.Answers.{replyTo, bufferTo}
 use Rattle.recording_text.specs.declared.Read.{Read}
-use Rattle.recording_text.specs.Text.{readOf, over, defaultsOf, linksOf, eventsOf}
+use Rattle.recording_text.specs.Text.{readOf, over, kindOf, defaultsOf, linksOf, eventsOf}
 use Rattle.recording_make.specs.declared.Made.{Made}
 use Rattle.recording_make.specs.Made.{unread, makeReply, madeOf, bufferOf}
 
@@ -46,15 +42,17 @@ module _ (text : List ℕ) (r : Read) (e : r ≡ readOf text) where
     unfolding bufferOf
     buffer-unread old = rw (← e, ne-eqb (r .fault) 0 n)
 
-  -- a text that can be read, whose numbers are lent to the writer
-  module _ (z : r .fault ≡ 0) {ds ls es : List ℕ} (d : ds ≡ defaultsOf text) (l : ls ≡ linksOf text) (v : es ≡ eventsOf text) where
-    pub made-written :
-        (room : ℕ) {x : Made} →
-        x ≡ makeReply text (writing baseRecording (stateCore base) ds (linksSaid ls) (eventsSaid es) room) → x ≡ madeOf text room
-    unfolding madeOf
-    made-written room h = h ∙ rw (← e, eq-eqb (r .fault) 0 z, d, l, v)
+  -- the kind that the answer says is the text's
+  kind-is : r .kind ≡ kindOf text
+  unfolding readOf
+  kind-is = ap (λ (x : Read). x .kind) e
 
-    pub buffer-written :
-        (old : List ℕ) {out : List ℕ} → out ≡ bufferAfter baseRecording (stateCore base) ds (linksSaid ls) (eventsSaid es) old → out ≡ bufferOf text old
+  -- a text that can be read, whose kind is told and whose numbers are lent to the writer
+  module _ (z : r .fault ≡ 0) {ds ls es : List ℕ} (d : ds ≡ defaultsOf text) (l : ls ≡ linksOf text) (v : es ≡ eventsOf text) where
+    pub made-written : (room : ℕ) {x : Made} → x ≡ makeReply (r .kind) text (replyTo (r .kind) ds ls es room) → x ≡ madeOf text room
+    unfolding madeOf
+    made-written room h = h ∙ rw (← e, eq-eqb (r .fault) 0 z, kind-is, d, l, v)
+
+    pub buffer-written : (old : List ℕ) {out : List ℕ} → out ≡ bufferTo (r .kind) ds ls es old → out ≡ bufferOf text old
     unfolding bufferOf
-    buffer-written old h = h ∙ rw (← e, eq-eqb (r .fault) 0 z, d, l, v)
+    buffer-written old h = h ∙ rw (← e, eq-eqb (r .fault) 0 z, kind-is, d, l, v)

@@ -8,6 +8,7 @@ use recording_text::LINKS;
 use recording_text::TASKS;
 use recording_text::line_of;
 use recording_text::read_text;
+use recording_write::WIDE_KIND;
 use recording_write::write;
 
 // What making came to: why the text cannot be read, 0 where it can; the line at fault, from 1, 0 where there is none; the writer's refusal, 0
@@ -19,31 +20,32 @@ pub struct Made {
     pub place: usize,
 }
 
-// The line of a refusal of the writer, 0 for none.
-fn line_told(text: &[u8], refusal: u8, place: usize) -> usize
-    ensures { λ r. ⌜ r ≡ lineTold (now (text .entry)) refusal place ⌝ }
+// The line of a refusal of the writer that was told a kind, 0 for none.
+fn line_told(kind: u32, text: &[u8], refusal: u8, place: usize) -> usize
+    ensures { λ r. ⌜ r ≡ lineTold kind (now (text .entry)) refusal place ⌝ }
 {
     if refusal == 0 {
         return 0;
     }
-    line_of(text, refusal, place)
+    line_of(text, kind == WIDE_KIND, refusal, place)
 }
 
-// The recording of the numbers of a text, written at the start of a lent buffer.
+// The recording of the kind and the numbers of a text, written at the start of a lent buffer.
 fn make_written(
+    kind: u32,
     text: &[u8],
     defaults: &[u32],
     links: &[u32],
     events: &[u32],
     out: &mut [u8],
 ) -> Made
-    ensures answer { λ r. ⌜ r ≡ makeReply (now (text .entry)) (replyTo (now (defaults .entry)) (now (links .entry)) (now (events .entry)) (length (now (out .entry)))) ⌝ }
-    ensures buffer { λ r. ⌜ now (out .exit) ≡ bufferTo (now (defaults .entry)) (now (links .entry)) (now (events .entry)) (now (out .entry)) ⌝ }
+    ensures answer { λ r. ⌜ r ≡ makeReply kind (now (text .entry)) (replyTo kind (now (defaults .entry)) (now (links .entry)) (now (events .entry)) (length (now (out .entry)))) ⌝ }
+    ensures buffer { λ r. ⌜ now (out .exit) ≡ bufferTo kind (now (defaults .entry)) (now (links .entry)) (now (events .entry)) (now (out .entry)) ⌝ }
 {
-    let written = write(defaults, links, events, out);
+    let written = write(kind, defaults, links, events, out);
     Made {
         fault: 0,
-        line: line_told(text, written.refusal, written.place),
+        line: line_told(kind, text, written.refusal, written.place),
         refusal: written.refusal,
         place: written.place,
     }
@@ -70,6 +72,7 @@ pub fn make_recording(text: &[u8], out: &mut [u8]) -> Made
     let links_end = read.links;
     let events_end = read.events;
     make_written(
+        read.kind,
         text,
         &defaults[..tasks_end],
         &links[..links_end],
