@@ -143,6 +143,7 @@ one-answer = record {
   replay = λ κs lent a b left left′ x y. let e = reply-parts (x .1 .0) (y .1 .0) (same (x .0) (y .0)) in λ i. (e .0 i, e .1 i);
   rest = λ κs lent a b left left′ x y. same x y;
   read-event = λ κs lent a b left left′ x y. one-next a b (same x y);
+  event-in = λ κs lent a b left left′ x y. one-next a b (same x y);
   kind-of = λ κs lent a b left left′ x y. one-found a b (same (x 0) (y 0));
   refused = λ κs lent a b left left′ x y. one-next a b (same x y);
   number-of = λ κs lent a b left left′ x y. same x y;
@@ -165,4 +166,5 @@ one-answer = record {
   host-write = λ κs lent a b left left′ x y. let p = x .0 in let q = y .0 in
       λ i. (same (p .refusal) (q .refusal) i, (same (p .place) (q .place) i, same (p .bytes) (q .bytes) i));
   host-rest = λ κs lent a b left left′ x y. same x y;
+  host-sizes = λ κs lent a b left left′ x y. same x y;
 }

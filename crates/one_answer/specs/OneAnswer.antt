@@ -71,6 +71,8 @@ use Rattle.recording.proofs.rest.Kinds as of-rest
 use Rattle.recording.proofs.rest.Reads as on-rest
 use Rattle.recording_event.proofs.read_event.Kinds as of-read-event
 use Rattle.recording_event.proofs.read_event.Reads as on-read-event
+use Rattle.recording_event.proofs.event_in.Kinds as of-event-in
+use Rattle.recording_event.proofs.event_in.Reads as on-event-in
 use Rattle.recording_event.proofs.kind_of.Kinds as of-kind-of
 use Rattle.recording_event.proofs.kind_of.Reads as on-kind-of
 use Rattle.recording_event.proofs.refused.Kinds as of-refused
@@ -103,6 +105,8 @@ use Rattle.exports.proofs.write.parnusild_write_32_96.Kinds as of-host-write
 use Rattle.exports.proofs.write.parnusild_write_32_96.Reads as on-host-write
 use Rattle.exports.proofs.rest.parnusild_rest_32_96.Kinds as of-host-rest
 use Rattle.exports.proofs.rest.parnusild_rest_32_96.Reads as on-host-rest
+use Rattle.exports.proofs.sizes.parnusild_sizes.Kinds as of-host-sizes
+use Rattle.exports.proofs.sizes.parnusild_sizes.Reads as on-host-sizes
 use Rattle.one_answer.specs.Walker.{WalksFrom, WalksTo, WalksLeft}
 
 -- whatever the contract `Learnt` allows for the same arguments, the caller sees the same: of the result, and of what the references then hold that were lent
@@ -139,6 +143,7 @@ pub record OneAnswer : Type 0 where
   pub rest : One 1 of-rest.ps of-rest.r on-rest.Learnt (List ℕ) (λ κs part left. now part)
   -- `recording_event`
   pub read-event : One 1 of-read-event.ps of-read-event.r on-read-event.Learnt Next (λ κs n left. n)
+  pub event-in : One 1 of-event-in.ps of-event-in.r on-event-in.Learnt Next (λ κs n left. n)
   pub kind-of : One 0 of-kind-of.ps of-kind-of.r on-kind-of.Learnt Found (λ κs f left. f)
   pub refused : One 0 of-refused.ps of-refused.r on-refused.Learnt Next (λ κs n left. n)
   pub number-of : One 0 of-number-of.ps of-number-of.r on-number-of.Learnt ℕ (λ κs n left. n)
@@ -150,7 +155,7 @@ pub record OneAnswer : Type 0 where
   pub walk-rest : (w : Walker) (part part′ : RefT (List ℕ)) → WalksLeft w part → WalksLeft w part′ → now part ≡ now part′
   pub event-at : One 1 of-event-at.ps of-event-at.r on-event-at.Learnt Next (λ κs n left. n)
   -- `recording_write`: the answer, and the lent buffer
-  pub write : One 4 of-write.ps of-write.r on-write.Learnt (writer.Written × List ℕ) (λ κs a left. (a, now (left .1 .1 .1 .0)))
+  pub write : One 4 of-write.ps of-write.r on-write.Learnt (writer.Written × List ℕ) (λ κs a left. (a, now (left .1 .1 .1 .1 .0)))
   -- `settings`: the answer, and the lent buffer
   pub migrate : One 1 of-migrate.ps of-migrate.r on-migrate.Learnt Migration (λ κs m left. m)
   pub write-back : One 1 of-write-back.ps of-write-back.r on-write-back.Learnt (settings.Written × List ℕ) (λ κs a left. (a, now (left .1 .1 .0)))
@@ -163,5 +168,6 @@ pub record OneAnswer : Type 0 where
   pub host-fresh : One 9 of-host-fresh.ps of-host-fresh.r on-host-fresh.Learnt (ℕ × Saved) (λ κs r left. (r, stateIn (left .1 .1 .1 .1 .1 .1 .1)))
   pub host-event : One 3 of-host-event.ps of-host-event.r on-host-event.Learnt (ℕ × (ℕ × Saved)) (λ κs r left. (r, (now (left .1 .1 .1 .0), stateWith 0 0 (left .1 .1 .1 .1 .1 .1))))
   pub host-replay : One 8 of-host-replay.ps of-host-replay.r on-host-replay.Learnt (ℕ × (ℕ × (List ℕ × (Saved × List ℕ)))) (λ κs r left. (r, (now (left .1 .1 .0), (now (left .1 .1 .1 .0), (stateIn (left .1 .1 .1 .1), now (left .1 .0))))))
-  pub host-write : One 5 of-host-write.ps of-host-write.r on-host-write.Learnt (ℕ × (ℕ × List ℕ)) (λ κs r left. (r, (now (left .1 .1 .1 .1 .0), now (left .1 .1 .1 .0))))
+  pub host-write : One 5 of-host-write.ps of-host-write.r on-host-write.Learnt (ℕ × (ℕ × List ℕ)) (λ κs r left. (r, (now (left .1 .1 .1 .1 .1 .0), now (left .1 .1 .1 .1 .0))))
   pub host-rest : One 1 of-host-rest.ps of-host-rest.r on-host-rest.Learnt ℕ (λ κs n left. n)
+  pub host-sizes : One 1 of-host-sizes.ps of-host-sizes.r on-host-sizes.Learnt (List ℕ) (λ κs u left. now (left .0))

@@ -16,7 +16,7 @@ use contract.Monad.{Fun, fact}
 use denote.Ref.{RefT, now}
 use denote.Triple.Entry.{Args, Res}
 use denote.Triple.Clauses.{AtExit}
-use Rattle.recording_format.specs.RecordingKind.{baseRecording}
+use Rattle.recording_format.specs.RecordingKind.{kindIn}
 use Rattle.recording_format.specs.Event.{eventAt}
 use Rattle.recording_event.specs.Next.{gotOf}
 use Rattle.recording_event.specs.declared.Next.{Next}
@@ -32,7 +32,7 @@ WalksFrom bytes at w = (w .bytes ≡ bytes) × (w .at ≡ at)
 
 -- `next`: the event record at the walker's place
 abbrev pub WalksTo : Walker → Next → Type 0
-WalksTo w n = gotOf n ≡ eventAt baseRecording (now (w .bytes)) (w .at)
+WalksTo w n = gotOf n ≡ eventAt (kindIn (now (w .bytes))) (now (w .bytes)) (w .at)
 
 -- `rest`: the part from the walker's place on
 abbrev pub WalksLeft : Walker → RefT (List ℕ) → Type 0

@@ -12,7 +12,7 @@ use Rattle.recording_text.specs.declared.Read.{Read}
 use Rattle.recording_text.specs.declared.Kept.{Kept}
 use Rattle.recording_text_fields.specs.Pieces.{separator, lines, between, Ends}
 use Rattle.recording_text_line.specs.Line.{says}
-use Rattle.recording_text.specs.Text.{faultIn, knownAfter, readable, textFault, stored, over, readableOf, storedOf, mostTasks, mostLinks, mostEvents, defaultsOf, linksOf, eventsOf, faultOf, answerOf, readOf}
+use Rattle.recording_text.specs.Text.{faultIn, knownAfter, readable, textFault, stored, over, readableOf, storedOf, tasksKept, linksKept, eventsKept, defaultsOf, linksOf, eventsOf, faultOf, answerOf, readOf}
 use Rattle.recording_text_place.proofs.Places.{lines-past}
 use Rattle.recording_text.proofs.Stores.{Held}
 
@@ -86,7 +86,7 @@ module _ (text : List ℕ) {done : List (List ℕ)} (r : readableOf text ≡ don
 
   pub answered :
       {f n k t l e : ℕ} {x : Read} → faultOf text ≡ f → n ≡ cond (eqb f 0) 0 (suc (length done)) → k ≡ getD (stored 4 1 done) 0 0 →
-      t ≡ length (stored 1 mostTasks done) → l ≡ length (stored 2 mostLinks done) → e ≡ length (stored 3 mostEvents done) → x ≡ answerOf f n k t l e → x ≡ readOf text
+      t ≡ length (stored 1 tasksKept done) → l ≡ length (stored 2 linksKept done) → e ≡ length (stored 3 eventsKept done) → x ≡ answerOf f n k t l e → x ≡ readOf text
   unfolding readOf
   answered f n k t l e x = x ∙ rw (f, r, n, k, t, l, e)
 

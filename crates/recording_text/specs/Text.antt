@@ -66,28 +66,28 @@ abbrev pub kindOf : List ℕ → ℕ
 kindOf text = getD (storedOf 4 1 text) 0 0
 
 -- so many tasks are stored: one more than the wide kind may have, so that the writer sees too many
-abbrev pub mostTasks : ℕ
-mostTasks = wideRecording .tasks + 1
+abbrev pub tasksKept : ℕ
+tasksKept = wideRecording .tasks + 1
 
 -- so many links
-abbrev pub mostLinks : ℕ
-mostLinks = wideRecording .links + 1
+abbrev pub linksKept : ℕ
+linksKept = wideRecording .links + 1
 
 -- and so many events
-abbrev pub mostEvents : ℕ
-mostEvents = wideRecording .events + 1
+abbrev pub eventsKept : ℕ
+eventsKept = wideRecording .events + 1
 
 -- what is stored of tasks: their defaults
 abbrev pub defaultsOf : List ℕ → List ℕ
-defaultsOf text = storedOf 1 mostTasks text
+defaultsOf text = storedOf 1 tasksKept text
 
 -- of links: writer, reader, kind and start value
 abbrev pub linksOf : List ℕ → List ℕ
-linksOf text = storedOf 2 mostLinks text
+linksOf text = storedOf 2 linksKept text
 
 -- of events: kind and numbers
 abbrev pub eventsOf : List ℕ → List ℕ
-eventsOf text = storedOf 3 mostEvents text
+eventsOf text = storedOf 3 eventsKept text
 
 -- why a text cannot be read, 0 where it can
 abbrev pub faultOf : List ℕ → ℕ
@@ -118,7 +118,7 @@ pub record RoomFor (said : Said) (k most room : ℕ) (kept : Kept) : Type 0 wher
   pub size : said .size ≤ widest (sort (said .letter))
   pub stored : kept .numbers ≤ widest k * kept .records
   pub whole : widest k * most ≤ room
-  pub small : most ≤ mostEvents
+  pub small : most ≤ eventsKept
 
 -- one record more is stored
 abbrev pub andRecord : Said → Kept → Kept

@@ -9,7 +9,7 @@ use lib.ListN.{length}
 use Rattle.recording_text.specs.declared.Kind.{Kind}
 use Rattle.recording_text_fields.specs.Pieces.{between}
 use Rattle.recording_text_line.specs.Line.{says}
-use Rattle.recording_text.specs.Text.{faultIn, mostTasks, mostLinks, mostEvents}
+use Rattle.recording_text.specs.Text.{faultIn, tasksKept, linksKept, eventsKept}
 use Rattle.recording_text.proofs.Stores.{Held, held-none, held-more}
 use Rattle.recording_text.proofs.Known.{Told, told-none, known-more, told-more}
 use Rattle.recording_text.proofs.Texts.{Before, before-none, before-more, stops, ends, list-held, answered}
@@ -21,7 +21,7 @@ abbrev Inv-loop : tie.InvT-loop
 Inv-loop text defaults₀ links₀ events₀ kind₀ task₀ link₀ event₀ line₀ at₀ defaults links events kind task link event line at =
     (done : List (List ℕ))
     × (Before text line at done (kind .known)
-    × (Told done kind × (Held 1 mostTasks done defaults₀ defaults task × (Held 2 mostLinks done links₀ links link × Held 3 mostEvents done events₀ events event))))
+    × (Told done kind × (Held 1 tasksKept done defaults₀ defaults task × (Held 2 linksKept done links₀ links link × Held 3 eventsKept done events₀ events event))))
 
 abbrev μ-loop : tie.MeasureT-loop
 μ-loop text defaults₀ links₀ events₀ kind₀ task₀ link₀ event₀ line₀ at₀ defaults links events kind task link event line at =
@@ -48,7 +48,7 @@ loop-holds c =
         before-none (a .text .now) (ap (λ (k : Kind). k .known) (kind .ensures)),
         (
           told-none (kind .ensures),
-          (held-none 1 mostTasks (a .defaults .now) (c .before .before .none-kept .ensures), (held-none 2 mostLinks (a .links .now) (c .before .none-kept2 .ensures), held-none 3 mostEvents (a .events .now) (c .none-kept3 .ensures))),
+          (held-none 1 tasksKept (a .defaults .now) (c .before .before .none-kept .ensures), (held-none 2 linksKept (a .links .now) (c .before .none-kept2 .ensures), held-none 3 eventsKept (a .events .now) (c .none-kept3 .ensures))),
         ),
       ),
     )
@@ -92,7 +92,7 @@ returns c =
     let s = stops text (l .inv .1 .0) (piece .piece-end .ensures .0 (piece .before .loop-test .taken)) f (c .before .if1 .taken) in
     let n = ne-eqb (fault .fault-in .result) 0 (c .before .if1 .taken) in (
       answered text (s .0) (s .1) (rw n (omega (arith, l .inv .1 .0 .many))) (told .number) (held .0 .numbers) (held .1 .0 .numbers) (held .1 .1 .numbers) (c .answer .ensures),
-      (list-held text (s .0) 1 mostTasks (held .0), (list-held text (s .0) 2 mostLinks (held .1 .0), list-held text (s .0) 3 mostEvents (held .1 .1))),
+      (list-held text (s .0) 1 tasksKept (held .0), (list-held text (s .0) 2 linksKept (held .1 .0), list-held text (s .0) 3 eventsKept (held .1 .1))),
     )
 
 kind-after-requires : tie.Need-kind-after-requires Inv-loop μ-loop
@@ -152,10 +152,10 @@ loop-again c =
         (
           told-more told line x q padded z k,
           (
-            held-more 1 mostTasks done (a .defaults .now) (held .0) line x q (padded .few) four (c .before .before .before .before .keep .ensures .0) (c .before .before .before .before .keep .ensures .1),
+            held-more 1 tasksKept done (a .defaults .now) (held .0) line x q (padded .few) four (c .before .before .before .before .keep .ensures .0) (c .before .before .before .before .keep .ensures .1),
             (
-              held-more 2 mostLinks done (a .links .now) (held .1 .0) line x q (padded .few) four (c .before .before .keep2 .ensures .0) (c .before .before .keep2 .ensures .1),
-              held-more 3 mostEvents done (a .events .now) (held .1 .1) line x q (padded .few) four (c .keep3 .ensures .0) (c .keep3 .ensures .1),
+              held-more 2 linksKept done (a .links .now) (held .1 .0) line x q (padded .few) four (c .before .before .keep2 .ensures .0) (c .before .before .keep2 .ensures .1),
+              held-more 3 eventsKept done (a .events .now) (held .1 .1) line x q (padded .few) four (c .keep3 .ensures .0) (c .keep3 .ensures .1),
             ),
           ),
         ),
@@ -178,7 +178,7 @@ returns-2 c =
     let known = not-true (l .kind .known) (c .before .if2 .taken) in
     let s = ends text (l .inv .1 .0) (c .before .before .before .loop-test .left) in (
       answered text (s .0) (s .1 ∙ rw known) (omega (arith, l .inv .1 .0 .many)) (told .number) (held .0 .numbers) (held .1 .0 .numbers) (held .1 .1 .numbers) (c .answer2 .ensures),
-      (list-held text (s .0) 1 mostTasks (held .0), (list-held text (s .0) 2 mostLinks (held .1 .0), list-held text (s .0) 3 mostEvents (held .1 .1))),
+      (list-held text (s .0) 1 tasksKept (held .0), (list-held text (s .0) 2 linksKept (held .1 .0), list-held text (s .0) 3 eventsKept (held .1 .1))),
     )
 
 answer-requires-3 : tie.Need-answer-requires-3 Inv-loop μ-loop
@@ -194,7 +194,7 @@ returns-3 c =
     let known = not-false (l .kind .known) (c .before .if2 .left) in
     let s = ends text (l .inv .1 .0) (c .before .before .before .loop-test .left) in (
       answered text (s .0) (s .1 ∙ rw known) refl (told .number) (held .0 .numbers) (held .1 .0 .numbers) (held .1 .1 .numbers) (c .answer3 .ensures),
-      (list-held text (s .0) 1 mostTasks (held .0), (list-held text (s .0) 2 mostLinks (held .1 .0), list-held text (s .0) 3 mostEvents (held .1 .1))),
+      (list-held text (s .0) 1 tasksKept (held .0), (list-held text (s .0) 2 linksKept (held .1 .0), list-held text (s .0) 3 eventsKept (held .1 .1))),
     )
 
 pub read-text-spec : {M : Type 1} → statement M
