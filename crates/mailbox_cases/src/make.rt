@@ -18,8 +18,41 @@ use mailbox_layout::WRITER;
 use mailbox_layout::put_control;
 use mailbox_layout::put_value;
 
-// Task 1 has 100, as in the long example; tasks 4 to 15 have their own number.
-const DEFAULTS: [u32; TASKS] = [0, 100, 0, 0, 4, 5, 6, 7, 8, 9, 10, 11, 12, 13, 14, 15];
+// Task 1 has 100, as in the long example; tasks 4 to 31 have their own number.
+const DEFAULTS: [u32; TASKS] = [
+    0,
+    100,
+    0,
+    0,
+    4,
+    5,
+    6,
+    7,
+    8,
+    9,
+    10,
+    11,
+    12,
+    13,
+    14,
+    15,
+    16,
+    17,
+    18,
+    19,
+    20,
+    21,
+    22,
+    23,
+    24,
+    25,
+    26,
+    27,
+    28,
+    29,
+    30,
+    31,
+];
 
 // What `State::fresh` takes. Slots that no link has filled hold 77, so that a copy of too much is seen.
 pub struct Table {
