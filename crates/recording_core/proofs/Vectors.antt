@@ -1,5 +1,5 @@
 -- The cases that document 01 marks to be shown of the definitions, and document 02's (another first byte, a direct link with a start value, a task that reads its
--- own last output), as one table under one claim: bytes, and the whole answer, which is refusal, place, state, counts and list.
+-- own last output, both sides of what the two kinds of recording differ in), as one table under one claim: bytes, and the whole answer, which is refusal, place, state, counts and list.
 -- Assumes nothing.
 use mathlib.Core.Path.{_≡_, refl}
 use mathlib.Core.List.{List, [], _∷_, _++_, map}
@@ -19,7 +19,7 @@ use Rattle.byte_format.specs.Section.{countAt, section}
 use Rattle.recording_format.specs.Link.{Link, linkFault}
 use Rattle.recording_format.specs.Event.{encodeEvent}
 use Rattle.byte_format.specs.Kinded.{firstByte}
-use Rattle.recording_format.specs.RecordingKind.{baseRecording}
+use Rattle.recording_format.specs.RecordingKind.{baseRecording, wideRecording, kindIn}
 use Rattle.recording_format.specs.Recording.{encodeRecording, sectionsThen, tableThen, eventsFrom, recording}
 use Rattle.recording_core.specs.Playing.{Playing, coreOf, judgedIn, steppedIn}
 
@@ -29,7 +29,7 @@ filledUp n x xs = xs ++ replicate (n - length xs) x
 
 -- the answer to these bytes, with room for eight numbers, each 7 at first
 abbrev answer : List ℕ → Verdict Playing
-answer s = recording baseRecording (coreOf base (replicate 8 7)) s
+answer s = recording (kindIn s) (coreOf base (replicate 8 7)) s
 
 -- refusal r, 0 for none, at p, with this state and these counts: arrivals, starts, reads and finishes; and with these numbers read
 abbrev replied : ℕ → ℕ → Saved → ℕ → ℕ → ℕ → ℕ → List ℕ → Verdict Playing
@@ -154,6 +154,36 @@ filtered = record {
 abbrev least : List ℕ
 least = 253 ∷ 1 ∷ 0 ∷ 0 ∷ 0 ∷ 0 ∷ 0 ∷ 0 ∷ 0 ∷ []
 
+-- a recording that begins with this byte, of one task and no links: a link count in its place, or one event and these bytes of its record
+abbrev counting : ℕ → ℕ → List ℕ
+counting first L = first ∷ 1 ∷ 0 ∷ 0 ∷ 0 ∷ 0 ∷ L ∷ []
+
+abbrev eventful : ℕ → List ℕ → List ℕ
+eventful first bytes = counting first 0 ++ (1 ∷ 0 ∷ bytes)
+
+-- a recording of the wide kind, of so many tasks and no links
+abbrev wide : ℕ → List (Event ℕ) → List ℕ
+wide T es = encodeRecording wideRecording (replicate T 0) [] es
+
+-- so many tasks after the first arrival of the last, and of one alone
+abbrev lastArrived : ℕ → Saved
+lastArrived T = record {
+  tasks = T;
+  links = 0;
+  defaults = replicate (base .tasks) 0;
+  phase = filledUp (base .tasks) 0 (replicate (T - 1) 0 ++ (1 ∷ []));
+  newest = filledUp (base .tasks) 1 (replicate (T - 1) 1 ++ (2 ∷ []));
+  previous = replicate (base .tasks) 1;
+  seen = filledUp (base .tasks) 0 (replicate (T - 1) 0 ++ (1 ∷ []));
+  cells = replicate (base .tasks * positions) 0;
+  writer = replicate (base .links) 0;
+  reader = replicate (base .links) 0;
+  kind = replicate (base .links) 0;
+  startValue = replicate (base .links) 0;
+  pointer = replicate (base .links) 0;
+  mark = replicate (base .links) 0;
+}
+
 abbrev cases : List (List ℕ)
 cases =
     -- empty input
@@ -166,6 +196,27 @@ cases =
     ∷ (least ++ (0 ∷ []))
     -- T is 17
     ∷ (253 ∷ 17 ∷ [])
+    -- the wide kind: the least, T is 17, whose tasks are missing, 32 and 33
+    ∷ wide 1 []
+    ∷ (254 ∷ 17 ∷ [])
+    ∷ (254 ∷ 32 ∷ [])
+    ∷ (254 ∷ 33 ∷ [])
+    -- and the byte after it
+    ∷ (255 ∷ 1 ∷ [])
+    -- L is 32, whose links are missing, 33, and of the wide kind 33, 96 and 97
+    ∷ counting 253 32
+    ∷ counting 253 33
+    ∷ counting 254 33
+    ∷ counting 254 96
+    ∷ counting 254 97
+    -- an arrival with a set of two bytes, of four
+    ∷ eventful 253 (1 ∷ 1 ∷ 0 ∷ [])
+    ∷ eventful 253 (1 ∷ 1 ∷ 0 ∷ 0 ∷ 0 ∷ [])
+    ∷ eventful 254 (1 ∷ 1 ∷ 0 ∷ [])
+    ∷ eventful 254 (1 ∷ 1 ∷ 0 ∷ 0 ∷ 0 ∷ [])
+    -- the arrival of task 31, where there is one
+    ∷ wide 32 (arrival 2147483648 ∷ [])
+    ∷ wide 31 (arrival 2147483648 ∷ [])
     -- a ninth link to a reader behind
     ∷ nine
     -- link 1 to 0, direct and delayed
@@ -199,6 +250,22 @@ pub marked-cases : map answer cases ≡
     ∷ untouched 0 9 alone
     ∷ untouched 17 9 alone
     ∷ untouched 2 1 alone
+    ∷ untouched 0 9 alone
+    ∷ untouched 1 2 alone
+    ∷ untouched 1 2 alone
+    ∷ untouched 2 1 alone
+    ∷ untouched 2 0 alone
+    ∷ untouched 1 7 alone
+    ∷ untouched 3 6 alone
+    ∷ untouched 1 7 alone
+    ∷ untouched 1 7 alone
+    ∷ untouched 3 6 alone
+    ∷ replied 0 12 (lastArrived 1) 1 0 0 0 []
+    ∷ replied 17 12 (lastArrived 1) 1 0 0 0 []
+    ∷ untouched 1 9 alone
+    ∷ replied 0 14 (lastArrived 1) 1 0 0 0 []
+    ∷ replied 0 138 (lastArrived 32) 1 0 0 0 []
+    ∷ untouched 12 129 (fresh 31 0 [] [] [])
     ∷ untouched 9 99 alone
     ∷ untouched 7 11 alone
     ∷ untouched 0 20 (fresh 2 1 (1 ∷ []) (0 ∷ []) (1 ∷ []))
