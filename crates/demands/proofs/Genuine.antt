@@ -9,7 +9,7 @@ use native.Mathlib.Omega.{arith}
 use lib.ListN.{length, replicate, length-replicate}
 use Rattle.protocol.specs.Event.{Event}
 use Rattle.protocol.specs.Table.{Table}
-use Rattle.protocol.specs.History.{reads, past}
+use Rattle.protocol.specs.History.{counts, reads, past}
 use Rattle.protocol.specs.Schedule.{policyOf, AllPossible}
 use Rattle.protocol_state.specs.Saved.{base}
 use Rattle.byte_format.specs.Play.{Verdict, verdict}
@@ -31,7 +31,7 @@ use Rattle.recording_demands.specs.Ensured.{Replays}
 use Rattle.recording_demands.proofs.Demands.{answer-by, accepted-only, accepted-all}
 use Rattle.demands.specs.Station.{station}
 use Rattle.demands.specs.Calls.{Calls}
-use Rattle.demands.specs.Recordings.{Genuine, Listed}
+use Rattle.demands.specs.Recordings.{Genuine, fourCounts, Listed}
 use Rattle.demands.proofs.Tables.{fresh-station}
 use Rattle.demands.proofs.Orders.{past-reads, happen-possible, possible-happen}
 use Rattle.demands.proofs.Replays.{Went, went}
@@ -121,10 +121,24 @@ module _ {s out list : List ℕ} {a : Answer} {r p : ℕ} {ds : List ℕ} {ls : 
   listed-there = subst (λ (x : List ℕ). Listed (w .ns) out x) (sym (ap (λ (x : Verdict Playing). x .state .list) e)) (w .listed)
 
 -- a recording that is accepted
-pub accepted-calls : {wide : Bool} {s out list ds : List ℕ} {a : Answer} {ls : List Link} {es : List (Event ℕ)} → Replays s out a list → Genuine wide s out ds ls es
-    → (ns : List ℕ) × Calls (station ds ls) es ns (a .state) × Listed ns out list × (a .place ≡ length s)
-accepted-calls {wide} {s} {out} {list} {ds} {a} {ls} {es} said g =
-    let k = genuine-kept g in
-    let e = answer-by said wide (one-kind g) ∙ recorded-accepted (eitherKind wide) (coreOf base out) s ds ls es k refl in
-    let w = went out ds ls es (recorded-judged (eitherKind wide) base (kind-room wide) (coreOf base out) s ds ls es k) (k .played .allowed) in
-    (w .ns, calls-there said e w, listed-there said e w, ap (λ (x : Verdict Playing). x .place) e)
+module _ {wide : Bool} {s out list ds : List ℕ} {a : Answer} {ls : List Link} {es : List (Event ℕ)} (said : Replays s out a list) (g : Genuine wide s out ds ls es) where
+  accepted-reply : replied a list ≡ verdict 0 (length s) (stateAfter (coreOf base out) ds ls es)
+  accepted-reply = answer-by said wide (one-kind g) ∙ recorded-accepted (eitherKind wide) (coreOf base out) s ds ls es (genuine-kept g) refl
+
+  accepted-went : Went out ds ls es (stateAfter (coreOf base out) ds ls es)
+  accepted-went =
+      let k = genuine-kept g in
+      went out ds ls es (recorded-judged (eitherKind wide) base (kind-room wide) (coreOf base out) s ds ls es k) (k .played .allowed)
+
+  pub accepted-calls : (ns : List ℕ) × Calls (station ds ls) es ns (a .state) × Listed ns out list × (a .place ≡ length s)
+  accepted-calls = (
+    accepted-went .ns,
+    calls-there said accepted-reply accepted-went,
+    listed-there said accepted-reply accepted-went,
+    ap (λ (x : Verdict Playing). x .place) accepted-reply,
+  )
+
+  pub accepted-counts : fourCounts a ≡ counts (station ds ls) (past [] es)
+  accepted-counts =
+      ap (λ (x : Verdict Playing). x .state .counts) accepted-reply ∙ accepted-went .right .counts
+      ∙ ap (λ (T : Table ℕ). counts T (past [] es)) (accepted-went .same)

@@ -29,4 +29,5 @@ pub mod Cuts
 pub mod Contract
 pub mod Demands
 pub mod SelfLinks
+pub mod TwoKinds
 pub mod Example

@@ -18,3 +18,5 @@ pub mod Contracts
 pub mod Demands
 -- request 2026-04
 pub mod SelfLinks
+-- request 2026-06
+pub mod TwoKinds

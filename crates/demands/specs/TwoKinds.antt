@@ -1,0 +1,46 @@
+-- The sentences of request 2026-06, a field for each, that no field of the demands says already: those of the limits, and of what both kinds of recording share.
+-- proofs/TwoKinds.antt has `two-kinds`. The kinds themselves are in recording_format/specs/RecordingKind, the room of a state is `base`.
+-- Assumes nothing.
+use mathlib.Core.Path.{_≡_}
+use mathlib.Core.Bool.{Bool, true, false}
+use mathlib.Core.List.{List, _∷_}
+use Prim.Native.Nat.{ℕ, _≤_, _<_}
+use lib.ListN.{length, getD}
+use Rattle.protocol.specs.Event.{Event}
+use Rattle.protocol_state.specs.Saved.{base}
+use Rattle.protocol_state.specs.Records.{Task}
+use Rattle.byte_format.specs.Play.{verdict}
+use Rattle.recording_format.specs.RecordingKind.{baseRecording, wideRecording, eitherKind}
+use Rattle.recording_format.specs.Link.{Link}
+use Rattle.recording_format.specs.Recording.{recording, taskPlace}
+use Rattle.recording_format.specs.Outcome.{Begins}
+use Rattle.recording_core.specs.Playing.{coreOf}
+use Rattle.recording.specs.Answers.{replied}
+use Rattle.recording.specs.declared.Answer.{Answer}
+use Rattle.recording_demands.specs.Ensured.{Replays}
+use Rattle.demands.specs.Recordings.{recordingBytes, Genuine, TasksBegun, fourCounts, Listed}
+
+-- the answers a and a′ and the lists that they left say the same of the events: numbers read, state and counts
+pub record SaysTheSame (out list : List ℕ) (a : Answer) (out′ list′ : List ℕ) (a′ : Answer) : Type 0 where
+  pub ns : List ℕ
+  pub listed : Listed ns out list × Listed ns out′ list′
+  pub state : a .state ≡ a′ .state
+  pub counted : fourCounts a ≡ fourCounts a′
+
+pub record TwoKinds : Type 0 where
+  -- "T goes to 32", "with the old limits": more tasks than the kind allows are 2 at T, whatever room the state has
+  pub many-tasks : {s out list : List ℕ} {a : Answer} → Replays s out a list → (wide : Bool) → Begins (eitherKind wide) s →
+      eitherKind wide .tasks < getD s taskPlace 0 → (a .refusal ≡ 2) × (a .place ≡ taskPlace)
+  -- "L to 96": more links than the kind allows are 3 at L
+  pub many-links : {wide : Bool} {s out list ds : List ℕ} {a : Answer} {p : ℕ} → Replays s out a list → TasksBegun wide s (length ds) ds p →
+      eitherKind wide .links < getD s p 0 → (a .refusal ≡ 3) × (a .place ≡ p)
+  -- "a reader from before refuses them with 2": the definition by which it judged, with the old kind alone
+  pub reader-before : (s out : List ℕ) → recording baseRecording (coreOf base out) (wideRecording .first ∷ s) ≡ verdict 2 0 (coreOf base out .single)
+  -- "The new reader still takes 253": of every recording that begins so the answer is the one of that definition
+  pub still-taken : {s out list : List ℕ} {a : Answer} → Replays s out a list → Begins baseRecording s → replied a list ≡ recording baseRecording (coreOf base out) s
+  -- what a recording of 253 holds one of 254 can hold
+  pub widened : {s out : List ℕ} {ds : List Task} {ls : List Link} {es : List (Event ℕ)} → Genuine false s out ds ls es →
+      Genuine true (recordingBytes true ds ls es) out ds ls es
+  -- and recordings of the same tasks, links and events say the same, whatever their kinds
+  pub same-answer : {wide wide′ : Bool} {s s′ out out′ list list′ : List ℕ} {a a′ : Answer} {ds : List Task} {ls : List Link} {es : List (Event ℕ)} →
+      Genuine wide s out ds ls es → Genuine wide′ s′ out′ ds ls es → Replays s out a list → Replays s′ out′ a′ list′ → SaysTheSame out list a out′ list′ a′
