@@ -11,7 +11,7 @@ use lib.ListN.{length}
 use Rattle.protocol.specs.Event.{Event, arrival, start, read, finish}
 use Rattle.protocol.specs.Table.{Table}
 use Rattle.protocol_state.specs.Records.{Task, Link, linkOf, firstTasks, firstLinks, aheadOf}
-use Rattle.protocol_state.specs.Saved.{Saved, base, aheadIn, table}
+use Rattle.protocol_state.specs.Saved.{Saved, stateRoom, aheadIn, table}
 use Rattle.protocol_state.specs.Fresh.{freshOf, judgedLists}
 use Rattle.protocol_state.specs.Fresh as state
 use Rattle.protocol_state.specs.Give.{Reply, Progress, note, afterEvent, givenTo}
@@ -41,22 +41,22 @@ pub record Come (T : Table ℕ) (es : List (Event ℕ)) (ns : List ℕ) (q : Sta
   pub begin : Saved
   pub same : table (aheadIn begin) begin ≡ T
   pub os : List ℕ
-  pub reached : Reached (aheadIn begin) base begin (stands q (past [] es) os)
+  pub reached : Reached (aheadIn begin) stateRoom begin (stands q (past [] es) os)
   pub turns : ns ≡ turned os
 
 -- an accepted call is one event more
 after-accepted : (q : State) (h : List (Event ℕ)) (os : List ℕ) (e : Event ℕ) (r : Step) → Gives q e r → r .answer .refusal ≡ 0
-    → afterEvent (aheadIn (saved q)) base (stands q h os) e ≡ stands (r .state) (e ∷ h) (note e (r .answer .value) os)
+    → afterEvent (aheadIn (saved q)) stateRoom (stands q h os) e ≡ stands (r .state) (e ∷ h) (note e (r .answer .value) os)
 unfolding afterEvent
 after-accepted q h os e r call z =
-    let i : eqb (givenTo base (saved q) e .refusal) 0 ≡ true = eq-eqb _ 0 (ap (λ (x : Reply). x .refusal) (sym (call .answer)) ∙ z) in
+    let i : eqb (givenTo stateRoom (saved q) e .refusal) 0 ≡ true = eq-eqb _ 0 (ap (λ (x : Reply). x .refusal) (sym (call .answer)) ∙ z) in
     rw i (ap (λ (x : Reply). record { state = x .state; history = e ∷ h; numbers = note e (x .value) os }) (sym (call .answer)))
 
 -- a refused one hands the state back
 pub same-state : (q : State) (e : Event ℕ) (r : Step) → Gives q e r → r .answer .refusal ≢ 0 → r .state ≡ q
 same-state q e r call n =
     saved-same (r .state) q (call .whole) (call .lent)
-    (ap (λ (x : Reply). x .state) (call .answer) ∙ refused-same (aheadIn (saved q)) base (saved q) e (λ z. n (ap (λ (x : Reply). x .refusal) (call .answer) ∙ z)) .0)
+    (ap (λ (x : Reply). x .state) (call .answer) ∙ refused-same (aheadIn (saved q)) stateRoom (saved q) e (λ z. n (ap (λ (x : Reply). x .refusal) (call .answer) ∙ z)) .0)
 
 -- the number of a read, in either order
 noted : (e : Event ℕ) (r : Step) (os : List ℕ) → turned os ++ numbersOf e r ≡ turned (note e (r .answer .value) os)
@@ -68,20 +68,20 @@ noted (finish t v) r os = append-nil (turned os)
 
 -- a table that was accepted keeps the rules, and its state is the fresh one
 pub made-is : (T L : ℕ) (D W R K B : List ℕ) (m : Made) → Makes T L D W R K B m → m .refusal ≡ 0
-    → (judgedLists base (firstTasks T D) (firstLinks L W R K B) ≡ 0) × (saved (m .state) ≡ freshOf base (firstTasks T D) (firstLinks L W R K B))
+    → (judgedLists stateRoom (firstTasks T D) (firstLinks L W R K B) ≡ 0) × (saved (m .state) ≡ freshOf stateRoom (firstTasks T D) (firstLinks L W R K B))
 made-is T L D W R K B m said ok =
-    let i = made-fresh base (firstTasks T D) (firstLinks L W R K B) (ap (λ (x : state.Made). x .refusal) (sym (said .answer)) ∙ ok) in
+    let i = made-fresh stateRoom (firstTasks T D) (firstLinks L W R K B) (ap (λ (x : state.Made). x .refusal) (sym (said .answer)) ∙ ok) in
     (i .0, ap (λ (x : state.Made). x .state) (said .answer) ∙ i .1)
 
-come-fresh : (ds : List Task) (ls : List Link) (q : State) → judgedLists base ds ls ≡ 0 → saved q ≡ freshOf base ds ls → Come (station ds ls) [] [] q
+come-fresh : (ds : List Task) (ls : List Link) (q : State) → judgedLists stateRoom ds ls ≡ 0 → saved q ≡ freshOf stateRoom ds ls → Come (station ds ls) [] [] q
 unfolding past turned
 come-fresh ds ls q ok i =
-    let few = rules.room (aheadOf ds) (length ds) (linkOf ls) base (length ls) ok in
+    let few = rules.room (aheadOf ds) (length ds) (linkOf ls) stateRoom (length ls) ok in
     record {
-      begin = freshOf base ds ls;
+      begin = freshOf stateRoom ds ls;
       same = fresh-station ds ls (few .0) (few .1);
       os = [];
-      reached = subst (λ (x : Saved). Reached (aheadOf ds) base (freshOf base ds ls) (record { state = x; history = []; numbers = [] })) (sym i) (reached-fresh (aheadOf ds) base ds ls ok);
+      reached = subst (λ (x : Saved). Reached (aheadOf ds) stateRoom (freshOf stateRoom ds ls) (record { state = x; history = []; numbers = [] })) (sym i) (reached-fresh (aheadOf ds) stateRoom ds ls ok);
       turns = refl;
     }
 
@@ -91,8 +91,8 @@ module _ {T : Table ℕ} {es : List (Event ℕ)} {ns : List ℕ} {q : State} (C 
     begin = C .begin;
     same = C .same;
     os = note e (r .answer .value) (C .os);
-    reached = subst (λ (h : List (Event ℕ)). Reached (aheadIn (C .begin)) base (C .begin) (stands (r .state) h (note e (r .answer .value) (C .os)))) (sym (past-snoc [] es e))
-        (subst (λ (o : Progress). Reached (aheadIn (C .begin)) base (C .begin) o) (after-accepted q (past [] es) (C .os) e r call z) (reached-after (C .reached) e));
+    reached = subst (λ (h : List (Event ℕ)). Reached (aheadIn (C .begin)) stateRoom (C .begin) (stands (r .state) h (note e (r .answer .value) (C .os)))) (sym (past-snoc [] es e))
+        (subst (λ (o : Progress). Reached (aheadIn (C .begin)) stateRoom (C .begin) o) (after-accepted q (past [] es) (C .os) e r call z) (reached-after (C .reached) e));
     turns = ap (λ (xs : List ℕ). xs ++ numbersOf e r) (C .turns) ∙ noted e r (C .os);
   }
 

@@ -8,7 +8,7 @@ use contract.Lifetimes.{Lfts}
 use denote.Triple.Clauses.{AtExit}
 use borrow.Fn.Kinds.{Dens, resT, endedOf}
 use Rattle.protocol.specs.Event as protocol
-use Rattle.protocol_state.specs.Saved.{base, aheadIn}
+use Rattle.protocol_state.specs.Saved.{stateRoom, aheadIn}
 use Rattle.protocol_state.specs.Sound.{testedSound}
 use Rattle.mailbox_event.specs.Plain.{plain}
 use Rattle.mailbox.specs.States.{saved, StaysSound}
@@ -35,11 +35,11 @@ abbrev Answers : State → protocol.Event ℕ → Step → Type 0
 Answers q e a = Gives q e a × (IsSound q → IsSound (a .state))
 
 -- the sentence of soundness and its test
-passes : (q : State) → IsSound q → testedSound base (saved q) ≡ true
-passes q S = says-sound (aheadIn (saved q)) base (saved q) S
+passes : (q : State) → IsSound q → testedSound stateRoom (saved q) ≡ true
+passes q S = says-sound (aheadIn (saved q)) stateRoom (saved q) S
 
-says : (q : State) → testedSound base (saved q) ≡ true → IsSound q
-says q e = sound-says (aheadIn (saved q)) base (saved q) e
+says : (q : State) → testedSound stateRoom (saved q) ≡ true → IsSound q
+says q e = sound-says (aheadIn (saved q)) stateRoom (saved q) e
 
 stays : (q : State) (a : Step) → StaysSound q a → IsSound q → IsSound (a .state)
 stays q a f S = says (a .state) (f (passes q S))

@@ -13,7 +13,7 @@ use lib.Seq.{ext-getD}
 use Rattle.protocol.specs.Event.{Event}
 use Rattle.protocol.specs.Table.{Table}
 use Rattle.protocol_state.specs.Records.{Task, Link, noLink, linkOf, firstTasks, firstLinks, aheadOf}
-use Rattle.protocol_state.specs.Saved.{Saved, base, aheadIn}
+use Rattle.protocol_state.specs.Saved.{Saved, stateRoom, aheadIn}
 use Rattle.protocol_state.specs.Fresh.{freshOf, judgedLists}
 use Rattle.protocol_state.specs.Next.{valueOf}
 use Rattle.protocol_state.specs.Give.{Reply, givenTo}
@@ -41,15 +41,15 @@ finally-more q (x ∷ es) e = finally-more (steppedAlone q x) es e
 record Came (T : Table ℕ) (es : List (Event ℕ)) (q : State) : Type 0 where
   ds : List Task
   ls : List Link
-  ok : judgedLists base ds ls ≡ 0
+  ok : judgedLists stateRoom ds ls ≡ 0
   same : station ds ls ≡ T
-  ends : saved q ≡ finally steppedAlone (freshOf base ds ls) es
+  ends : saved q ≡ finally steppedAlone (freshOf stateRoom ds ls) es
 
 -- an accepted call does the event
 does : (q : State) (e : Event ℕ) (r : Step) → Gives q e r → r .answer .refusal ≡ 0 → saved (r .state) ≡ steppedAlone (saved q) e
-does q e r call z = go (give-ways (aheadIn (saved q)) base (saved q) e)
+does q e r call z = go (give-ways (aheadIn (saved q)) stateRoom (saved q) e)
   where
-    go : Ways (testedSound base (saved q)) (judgedAlone (saved q) e) (saved q) (steppedAlone (saved q) e) (valueOf (saved q) e) (givenTo base (saved q) e)
+    go : Ways (testedSound stateRoom (saved q)) (judgedAlone (saved q) e) (saved q) (steppedAlone (saved q) e) (valueOf (saved q) e) (givenTo stateRoom (saved q) e)
         → saved (r .state) ≡ steppedAlone (saved q) e
     go (inl w) = ap (λ (x : Reply). x .state) (call .answer) ∙ ap (λ (x : Reply). x .state) (w .2)
     go (inr w) = absurd (w .1 (ap (λ (x : Reply). x .refusal) (sym (call .answer)) ∙ z))
@@ -83,8 +83,8 @@ kind-same x y a b e = go (eqb x 1) refl
         omega arith
 
 -- the kind of a link of a table that keeps the rules
-kind-small : (ds : List Task) (ls : List Link) → judgedLists base ds ls ≡ 0 → (l : ℕ) → l < length ls → linkOf ls l .kind ≤ 1
-kind-small ds ls ok l h = rules.obeyed (aheadOf ds) (length ds) (linkOf ls) base (length ls) ok l h .kind
+kind-small : (ds : List Task) (ls : List Link) → judgedLists stateRoom ds ls ≡ 0 → (l : ℕ) → l < length ls → linkOf ls l .kind ≤ 1
+kind-small ds ls ok l h = rules.obeyed (aheadOf ds) (length ds) (linkOf ls) stateRoom (length ls) ok l h .kind
 
 -- the lists of one table are the same
 lists-same : {T : Table ℕ} {es es′ : List (Event ℕ)} {q q′ : State} (C : Came T es q) (C′ : Came T es′ q′) → (C .ds ≡ C′ .ds) × (C .ls ≡ C′ .ls)
@@ -102,8 +102,8 @@ lists-same C C′ =
     )
 
 -- so are their fresh states
-fresh-same : {T : Table ℕ} {es es′ : List (Event ℕ)} {q q′ : State} (C : Came T es q) (C′ : Came T es′ q′) → freshOf base (C .ds) (C .ls) ≡ freshOf base (C′ .ds) (C′ .ls)
-fresh-same C C′ = let s = lists-same C C′ in λ i. freshOf base (s .0 i) (s .1 i)
+fresh-same : {T : Table ℕ} {es es′ : List (Event ℕ)} {q q′ : State} (C : Came T es q) (C′ : Came T es′ q′) → freshOf stateRoom (C .ds) (C .ls) ≡ freshOf stateRoom (C′ .ds) (C′ .ls)
+fresh-same C C′ = let s = lists-same C C′ in λ i. freshOf stateRoom (s .0 i) (s .1 i)
 
 -- so are the states after the same events, and the numbers read
 pub one-course : {T : Table ℕ} {es : List (Event ℕ)} {ns ns′ : List ℕ} {q q′ : State} → Calls T es ns q → Calls T es ns′ q′ → (ns ≡ ns′) × (q ≡ q′)

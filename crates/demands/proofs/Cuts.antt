@@ -8,7 +8,7 @@ use native.Mathlib.Omega.{arith}
 use lib.ListN.{length, take}
 use lib.Seq.{take-all}
 use Rattle.protocol.specs.Event.{Event}
-use Rattle.protocol_state.specs.Saved.{base}
+use Rattle.protocol_state.specs.Saved.{stateRoom}
 use Rattle.byte_format.specs.Format.{encodes}
 use Rattle.byte_format.specs.Play.{Verdict, Cut}
 use Rattle.recording_format.specs.RecordingKind.{eitherKind}
@@ -37,7 +37,7 @@ one-event wide e = ap length (append-nil (events (eitherKind wide) .encode e))
 module _ {wide : Bool} {s out after ds : List ℕ} {ls : List Link} {es : List (Event ℕ)} {b : Answer} {m : ℕ} (g : Genuine wide s out ds ls es) (said : Replays (take m s) out b after) where
   pub power-cut : throughE (eitherKind wide) ds ls ≤ m → m < length s → CutShort wide out ds ls es m b after
   power-cut through lost =
-      let c : Cut (events (eitherKind wide)) steppedIn (coreOf base out .start ds ls) es (throughE (eitherKind wide) ds ls) m (replied b after) = after-cut wide (genuine-core g) m said through lost in
+      let c : Cut (events (eitherKind wide)) steppedIn (coreOf stateRoom out .start ds ls) es (throughE (eitherKind wide) ds ls) m (replied b after) = after-cut wide (genuine-core g) m said through lost in
       let p : b .place ≡ throughE (eitherKind wide) ds ls + length (encodes (events (eitherKind wide)) (c .whole)) = ap (λ (x : Verdict Playing). x .place) (c .says) in
       record {
         whole = c .whole;

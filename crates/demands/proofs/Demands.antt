@@ -10,7 +10,7 @@ use lib.Dec.{eqb}
 use lib.ListN.{length}
 use Rattle.protocol.specs.Event.{Event}
 use Rattle.protocol.specs.Table.{Table}
-use Rattle.protocol_state.specs.Saved.{Saved, base, aheadIn}
+use Rattle.protocol_state.specs.Saved.{Saved, stateRoom, aheadIn}
 use Rattle.protocol_state.specs.Sound.{StandsSound, testedSound}
 use Rattle.protocol_state.specs.Fresh as state
 use Rattle.protocol_state.specs.Fresh.{made, judgedLists}
@@ -82,13 +82,13 @@ tells = record {
 
 -- ---- a table
 -- the refusal of what a table makes is what the table is judged
-made-refusal : (ds : List Task) (ls : List Link) → made base ds ls .refusal ≡ judgedLists base ds ls
+made-refusal : (ds : List Task) (ls : List Link) → made stateRoom ds ls .refusal ≡ judgedLists stateRoom ds ls
 unfolding made
-made-refusal ds ls = go (eqb (judgedLists base ds ls) 0) refl
+made-refusal ds ls = go (eqb (judgedLists stateRoom ds ls) 0) refl
   where
-    go : (b : Bool) → eqb (judgedLists base ds ls) 0 ≡ b
-        → cond {A = state.Made} b (record { refusal = 0; state = state.freshOf base ds ls }) (record { refusal = judgedLists base ds ls; state = state.single base }) .refusal
-        ≡ judgedLists base ds ls
+    go : (b : Bool) → eqb (judgedLists stateRoom ds ls) 0 ≡ b
+        → cond {A = state.Made} b (record { refusal = 0; state = state.freshOf stateRoom ds ls }) (record { refusal = judgedLists stateRoom ds ls; state = state.single stateRoom }) .refusal
+        ≡ judgedLists stateRoom ds ls
     go true e = sym (eqb-true _ 0 e)
     go false e = refl
 
@@ -99,7 +99,7 @@ module _ (T L : ℕ) (D W R K B : List ℕ) (m : Made) (said : Makes T L D W R K
   abbrev ls : List Link
   ls = firstLinks L W R K B
 
-  refusal-is : m .refusal ≡ judgedLists base ds ls
+  refusal-is : m .refusal ≡ judgedLists stateRoom ds ls
   refusal-is = ap (λ (x : state.Made). x .refusal) (said .answer) ∙ made-refusal ds ls
 
   table-number : (n : ℕ) → (m .refusal ≡ n) ↔ TableEarns ds ls n
@@ -112,8 +112,8 @@ module _ (T L : ℕ) (D W R K B : List ℕ) (m : Made) (said : Makes T L D W R K
   table-refused : m .refusal ≢ 0 → Makes 1 0 (0 ∷ []) [] [] [] [] (record { refusal = 0; state = m .state })
   unfolding made
   table-refused n =
-      let e : eqb (judgedLists base ds ls) 0 ≡ false = ne-eqb _ 0 (λ z. n (refusal-is ∙ z)) in
-      let single : made base ds ls .state ≡ state.single base = rw e in
+      let e : eqb (judgedLists stateRoom ds ls) 0 ≡ false = ne-eqb _ 0 (λ z. n (refusal-is ∙ z)) in
+      let single : made stateRoom ds ls .state ≡ state.single stateRoom = rw e in
       single-held (m .state) (ap (λ (x : state.Made). x .state) (said .answer) ∙ single) (said .whole)
 
   table-kept : (m .refusal ≡ 0) ↔ Keeps ds ls
@@ -122,20 +122,20 @@ module _ (T L : ℕ) (D W R K B : List ℕ) (m : Made) (said : Makes T L D W R K
 -- ---- an event given to any state
 
 -- a state that is not sound fails the test
-pub not-sound : (q : Saved) → (StandsSound base q → ⊥) → testedSound base q ≡ false
-not-sound q n = go (testedSound base q) refl
+pub not-sound : (q : Saved) → (StandsSound stateRoom q → ⊥) → testedSound stateRoom q ≡ false
+not-sound q n = go (testedSound stateRoom q) refl
   where
-    go : (b : Bool) → testedSound base q ≡ b → testedSound base q ≡ false
-    go true i = absurd (n (sound-says (aheadIn q) base q i))
+    go : (b : Bool) → testedSound stateRoom q ≡ b → testedSound stateRoom q ≡ false
+    go true i = absurd (n (sound-says (aheadIn q) stateRoom q i))
     go false i = i
 
 module _ (q : State) (e : Event ℕ) (r : Step) (call : Gives q e r) where
   event-number : IsSound q → (n : ℕ) → (r .answer .refusal ≡ n) ↔ Earns (EventBreaks (tableIn q) (standingIn q) e) n
-  event-number S = earns-exactly (ap (λ (x : Reply). x .refusal) (call .answer) ∙ give-refusal (aheadIn (saved q)) base (saved q) e (says-sound (aheadIn (saved q)) base (saved q) S)) (phases-earned (saved q) S e)
+  event-number S = earns-exactly (ap (λ (x : Reply). x .refusal) (call .answer) ∙ give-refusal (aheadIn (saved q)) stateRoom (saved q) e (says-sound (aheadIn (saved q)) stateRoom (saved q) S)) (phases-earned (saved q) S e)
 
   unknown-state : (IsSound q → ⊥) → r ≡ asLent q 19
   unknown-state n =
-      let u = call .answer ∙ give-unsound (aheadIn (saved q)) base (saved q) e (not-sound (saved q) n) in
+      let u = call .answer ∙ give-unsound (aheadIn (saved q)) stateRoom (saved q) e (not-sound (saved q) n) in
       λ j. record {
         state = saved-same (r .state) q (call .whole) (call .lent) (ap (λ (x : Reply). x .state) u) j;
         answer = record { refusal = u j .refusal; value = u j .value };
@@ -143,8 +143,8 @@ module _ (q : State) (e : Event ℕ) (r : Step) (call : Gives q e r) where
 
   unchanged : r .answer .refusal ≢ 0 → r ≡ asLent q (r .answer .refusal)
   unchanged n =
-      let i : givenTo base (saved q) e .refusal ≢ 0 = λ z. n (ap (λ (x : Reply). x .refusal) (call .answer) ∙ z) in
-      let u = refused-same (aheadIn (saved q)) base (saved q) e i in
+      let i : givenTo stateRoom (saved q) e .refusal ≢ 0 = λ z. n (ap (λ (x : Reply). x .refusal) (call .answer) ∙ z) in
+      let u = refused-same (aheadIn (saved q)) stateRoom (saved q) e i in
       λ j. record {
         state = same-state q e r call n j;
         answer = record { refusal = r .answer .refusal; value = (ap (λ (x : Reply). x .value) (call .answer) ∙ u .1) j };
@@ -171,7 +171,7 @@ told b x = record { answer = explained-is x; whole = explained-whole x; bytes = 
 
 -- no recording is longer
 longest : {wide : Bool} {s out ds : List ℕ} {ls : List Link} {es : List (Event ℕ)} → Genuine wide s out ds ls es → length s ≤ cond wide 60805 60293
-longest {wide} {s} {out} {ds} {ls} {es} g = kind-length wide (coreOf base out) s ds ls es (genuine-kept g)
+longest {wide} {s} {out} {ds} {ls} {es} g = kind-length wide (coreOf stateRoom out) s ds ls es (genuine-kept g)
 
 -- ---- the theorems
 pub demand-1 : Demand1

@@ -16,7 +16,7 @@ use Rattle.protocol.specs.Table.{Table}
 use Rattle.protocol.specs.History.{reads}
 use Rattle.protocol.specs.Schedule.{policyOf, judged}
 use Rattle.protocol.proofs.Schedule.{has-not}
-use Rattle.protocol_state.specs.Saved.{Saved, base, at, busy, table}
+use Rattle.protocol_state.specs.Saved.{Saved, stateRoom, at, busy, table}
 use Rattle.protocol_state.specs.Judge.{allows, mayArrive, preempted, judgedArrival, judgedTask, judgedRead, judgedOn}
 use Rattle.protocol_state.specs.Decision.{decided, rule}
 use Rattle.protocol_state.specs.Sound.{Sound}
@@ -196,7 +196,7 @@ turns : (b : Bool) (x y : ℕ) → cond (not b) x y ≡ cond b y x
 turns true x y = refl
 turns false x y = refl
 
-module _ (q : Saved) (S : Sound earlier base q) where
+module _ (q : Saved) (S : Sound earlier stateRoom q) where
   abbrev T : Table ℕ
   T = table earlier q
 

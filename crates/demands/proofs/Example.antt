@@ -12,7 +12,7 @@ use Rattle.protocol.specs.History.{arrivals, starts, finishes, upTo, output, pa
 use Rattle.protocol.specs.Schedule.{policyOf, Possible}
 use Rattle.protocol.specs.ZeroTime.{dues}
 use Rattle.protocol_state.specs.Rules.{fault, judgedTable}
-use Rattle.protocol_state.specs.Saved.{base}
+use Rattle.protocol_state.specs.Saved.{stateRoom}
 use Rattle.protocol_state.specs.Give.{givenTo}
 use Rattle.mailbox.specs.States.{saved}
 use Rattle.mailbox.proofs.Packed.{stepTo, given-to}
@@ -38,7 +38,7 @@ Some es = (ns : List ℕ) × (q : State) × Calls two es ns q
 
 more : {es : List (Event ℕ)} → Some es → (e : Event ℕ) → Possible two (policyOf two) (past [] es) e → Some (es ++ (e ∷ []))
 more {es} c e p =
-    let r = stepTo (givenTo base (saved (c .1)) e) in
+    let r = stepTo (givenTo stateRoom (saved (c .1)) e) in
     let g = given-to (c .1) e (calls-whole (c .2)) in
     (_, _, accepted (c .2) e r g (calls-event (c .2) e r g .1 p))
 

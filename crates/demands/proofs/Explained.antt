@@ -11,7 +11,7 @@ use Rattle.protocol.specs.Event.{Event}
 use Rattle.protocol.specs.Table.{Table}
 use Rattle.protocol.specs.History.{counts, past}
 use Rattle.protocol.specs.Instant.{upward}
-use Rattle.protocol_state.specs.Saved.{base}
+use Rattle.protocol_state.specs.Saved.{stateRoom}
 use Rattle.protocol_state.specs.Fresh as fresh
 use Rattle.protocol_state.proofs.Rules.{no-refusal}
 use Rattle.protocol_state.specs.Records.{aheadOf, linkOf, firstTasks, firstLinks}
@@ -66,18 +66,18 @@ known-kind aRead = (format.aRead, refl, refl)
 known-kind aFinish = (format.aFinish, refl, refl)
 
 -- the single task's state is what its table makes
-pub single-made : fresh.made base (firstTasks 1 (0 ∷ [])) (firstLinks 0 [] [] [] []) ≡ record { refusal = 0; state = fresh.single base }
+pub single-made : fresh.made stateRoom (firstTasks 1 (0 ∷ [])) (firstLinks 0 [] [] [] []) ≡ record { refusal = 0; state = fresh.single stateRoom }
 unfolding upward
 single-made =
-    made-ok (0 ∷ []) [] (no-refusal (aheadOf (0 ∷ [])) 1 (linkOf []) base 0 (omega arith) (omega arith) (omega arith) (λ l h. absurd (omega arith)))
+    made-ok (0 ∷ []) [] (no-refusal (aheadOf (0 ∷ [])) 1 (linkOf []) stateRoom 0 (omega arith) (omega arith) (omega arith) (λ l h. absurd (omega arith)))
 
 -- so whatever holds it is
-pub single-held : (q : State) → saved q ≡ fresh.single base → IsWhole q → Makes 1 0 (0 ∷ []) [] [] [] [] (record { refusal = 0; state = q })
+pub single-held : (q : State) → saved q ≡ fresh.single stateRoom → IsWhole q → Makes 1 0 (0 ∷ []) [] [] [] [] (record { refusal = 0; state = q })
 single-held q e w = record { answer = (λ i. record { refusal = 0; state = e i }) ∙ sym single-made; whole = w }
 
 module _ {s out list : List ℕ} {a : Answer} (said : Replays s out a list) where
   -- refused in the table
-  at-table : {r p : ℕ} → replied a list ≡ verdict r p (coreOf base out .single) → TableFault s r p → AtTable s out a list
+  at-table : {r p : ℕ} → replied a list ≡ verdict r p (coreOf stateRoom out .single) → TableFault s r p → AtTable s out a list
   at-table e f = record {
     fault = rw (ap (λ (x : Verdict Playing). x .refusal) e, ap (λ (x : Verdict Playing). x .place) e) f;
     state = single-held (a .state) (ap (λ (x : Verdict Playing). x .state .state) e) (said .whole);
@@ -86,8 +86,8 @@ module _ {s out list : List ℕ} {a : Answer} (said : Replays s out a list) wher
   }
 
   -- an answer with the state that some events came to: all but what lies at its place
-  module _ {r p : ℕ} {ds : List ℕ} {ls : List Link} {es : List (Event ℕ)} (e : replied a list ≡ verdict r p (stateAfter (coreOf base out) ds ls es))
-      (w : Went out ds ls es (stateAfter (coreOf base out) ds ls es)) (E : ℕ) (b : EventsBegun (wideIn s) s ds ls E es p) (t : Ending (wideIn s) (station ds ls) s out E es p r) where
+  module _ {r p : ℕ} {ds : List ℕ} {ls : List Link} {es : List (Event ℕ)} (e : replied a list ≡ verdict r p (stateAfter (coreOf stateRoom out) ds ls es))
+      (w : Went out ds ls es (stateAfter (coreOf stateRoom out) ds ls es)) (E : ℕ) (b : EventsBegun (wideIn s) s ds ls E es p) (t : Ending (wideIn s) (station ds ls) s out E es p r) where
     at-events : AtEvents s out a list
     at-events = record {
       wide = wideIn s;
@@ -105,12 +105,12 @@ module _ {s out list : List ℕ} {a : Answer} (said : Replays s out a list) wher
 
   -- a record that is not there, or is refused by the table and the events before it
   record-fault : {ds : List ℕ} {ls : List Link} {m : ℕ} {es : List (Event ℕ)} {r p : ℕ} (t : TableTo (kindIn s) s ds ls m)
-      (f : Faulty (events (kindIn s)) (eventLimit (kindIn s)) judgedIn steppedIn s (coreOf base out .start ds ls) m es r p)
-      → tableOf base ds ls ≡ station ds ls → r ≢ 0 → Ending (wideIn s) (station ds ls) s out (f .total) es p r
+      (f : Faulty (events (kindIn s)) (eventLimit (kindIn s)) judgedIn steppedIn s (coreOf stateRoom out .start ds ls) m es r p)
+      → tableOf stateRoom ds ls ≡ station ds ls → r ≢ 0 → Ending (wideIn s) (station ds ls) s out (f .total) es p r
   record-fault {ds} {ls} {m} {es} {r} {p} t f same n = go (which (eventKinds (kindIn s)) byteOf (events-told (kindIn s)) s p)
     where
       stopped : {k : ℕ} → eventAt (kindIn s) s p ≡ stop k → k ≡ r
-      stopped i = sym (f .fault ∙ ap (λ (y : Got (Event ℕ)). refusalOf y (judgedIn (stateAfter (coreOf base out) ds ls es))) i)
+      stopped i = sym (f .fault ∙ ap (λ (y : Got (Event ℕ)). refusalOf y (judgedIn (stateAfter (coreOf stateRoom out) ds ls es))) i)
 
       given : {k : ℕ} → k ≡ r → Ending (wideIn s) (station ds ls) s out (f .total) es p k → Ending (wideIn s) (station ds ls) s out (f .total) es p r
       given e x = subst (λ (k : ℕ). Ending (wideIn s) (station ds ls) s out (f .total) es p k) e x
@@ -124,10 +124,10 @@ module _ {s out list : List ℕ} {a : Answer} (said : Replays s out a list) wher
           let w = events-lawful (kindIn s) .tells s p x (p + sizeOf (kindIn s) k) (said .bytes) (f .played .bytes .within) i in
           badEvent (f .more) x (p + sizeOf (kindIn s) k) (w .1) (w .0)
           (subst (λ (j : ℕ). Earns (RecordBreaks (station ds ls) out (past [] es) x) j)
-          (sym (event-refused (kindIn s) base (kind-room (wideIn s)) out t f i ∙ ap (λ (T : Table ℕ). refusedBy T out (past [] es) x) same)) (record-earned (station ds ls) (past [] es) out x)) n
+          (sym (event-refused (kindIn s) stateRoom (kind-room (wideIn s)) out t f i ∙ ap (λ (T : Table ℕ). refusedBy T out (past [] es) x) same)) (record-earned (station ds ls) (past [] es) out x)) n
 
-  table-fine : {ds : List ℕ} {ls : List Link} {m : ℕ} → TableTo (kindIn s) s ds ls m → judgedLists base ds ls ≡ 0
-  table-fine {ds} {ls} t = allowed-judged (aheadOf ds) (length ds) (kindIn s) base (kind-room (wideIn s)) ls (t .tasked .whole .kept .few) (t .linked .kept .few) (t .linked .kept .allowed)
+  table-fine : {ds : List ℕ} {ls : List Link} {m : ℕ} → TableTo (kindIn s) s ds ls m → judgedLists stateRoom ds ls ≡ 0
+  table-fine {ds} {ls} t = allowed-judged (aheadOf ds) (length ds) (kindIn s) stateRoom (kind-room (wideIn s)) ls (t .tasked .whole .kept .few) (t .linked .kept .few) (t .linked .kept .allowed)
 
   -- the table and the first events stand there
   events-begun : {ds : List ℕ} {ls : List Link} {m : ℕ} → TableTo (kindIn s) s ds ls m → (es : List (Event ℕ)) (E p : ℕ) → E ≤ (kindIn s) .events → FitEach (events (kindIn s)) es
@@ -139,7 +139,7 @@ module _ {s out list : List ℕ} {a : Answer} (said : Replays s out a list) wher
   pub every-answer : Explained s out a list
   every-answer = go (answered said)
     where
-      go : RecordingOutcome (kindIn s) (coreOf base out) s (replied a list) → Explained s out a list
+      go : RecordingOutcome (kindIn s) (coreOf stateRoom out) s (replied a list) → Explained s out a list
       go (firstByte r n u e) = inl (at-table e (first-fault s u))
       go (taskCount r n x u e) = inl (at-table e (task-count-fault (wideIn s) s x u))
       go (taskRecord ds r p n x f e) = inl (at-table e (task-fault (wideIn s) s n x f))

@@ -10,7 +10,7 @@ use lib.ListN.{length}
 use Rattle.protocol.specs.Event.{Event}
 use Rattle.protocol.specs.Table.{Table}
 use Rattle.protocol.specs.History.{past}
-use Rattle.protocol_state.specs.Saved.{base}
+use Rattle.protocol_state.specs.Saved.{stateRoom}
 use Rattle.byte_format.specs.Number.{bytesOf}
 use Rattle.byte_format.specs.Stands.{Stands}
 use Rattle.byte_format.specs.Format.{Got, got, stop, encodes, encodeSection}
@@ -63,15 +63,15 @@ module _ {wide : Bool} {s out ds : List ℕ} {ls : List Link} {es : List (Event 
         (stands-join (stands-first (encodeSection (tasks (eitherKind wide)) ds) _ from-tasks) (stands-first (encodeSection (links (eitherKind wide)) ls) _ from-links));
   })
 
-  allowed-there : Allowed judgedIn steppedIn (coreOf base out .start ds ls) es
+  allowed-there : Allowed judgedIn steppedIn (coreOf stateRoom out .start ds ls) es
   allowed-there = genuine-kept alone .played .allowed
 
-  pub went-there : Went out ds ls es (stateAfter (coreOf base out) ds ls es)
-  went-there = went out ds ls es (recorded-judged (eitherKind wide) base (kind-room wide) (coreOf base out) (encodeRecording (eitherKind wide) ds ls es) ds ls es (genuine-kept alone)) allowed-there
+  pub went-there : Went out ds ls es (stateAfter (coreOf stateRoom out) ds ls es)
+  went-there = went out ds ls es (recorded-judged (eitherKind wide) stateRoom (kind-room wide) (coreOf stateRoom out) (encodeRecording (eitherKind wide) ds ls es) ds ls es (genuine-kept alone)) allowed-there
 
   -- what the reader finds at the place
-  faulty : (r : ℕ) → length es < E → r ≡ refusalOf (eventAt (eitherKind wide) s p) (judgedIn (stateAfter (coreOf base out) ds ls es))
-      → Faulty (events (eitherKind wide)) (eventLimit (eitherKind wide)) judgedIn steppedIn s (coreOf base out .start ds ls) (tableEnd (eitherKind wide) ds ls) es r p
+  faulty : (r : ℕ) → length es < E → r ≡ refusalOf (eventAt (eitherKind wide) s p) (judgedIn (stateAfter (coreOf stateRoom out) ds ls es))
+      → Faulty (events (eitherKind wide)) (eventLimit (eitherKind wide)) judgedIn steppedIn s (coreOf stateRoom out .start ds ls) (tableEnd (eitherKind wide) ds ls) es r p
   faulty r more e =
       let few = within-events (eitherKind wide) (E) (b .few) in
       record {
@@ -87,17 +87,17 @@ module _ {wide : Bool} {s out ds : List ℕ} {ls : List Link} {es : List (Event 
 
   -- a record that stops the reader
   stops : (r : ℕ) → length es < E → r ≢ 0 → eventAt (eitherKind wide) s p ≡ stop r
-      → RecordingOutcome (eitherKind wide) (coreOf base out) s (verdict r p (stateAfter (coreOf base out) ds ls es))
+      → RecordingOutcome (eitherKind wide) (coreOf stateRoom out) s (verdict r p (stateAfter (coreOf stateRoom out) ds ls es))
   stops r more n i =
       eventRecord ds ls (tableEnd (eitherKind wide) ds ls) es r p n table-there
-      (faulty r more (sym (ap (λ (y : Got (Event ℕ)). refusalOf y (judgedIn (stateAfter (coreOf base out) ds ls es))) i))) refl
+      (faulty r more (sym (ap (λ (y : Got (Event ℕ)). refusalOf y (judgedIn (stateAfter (coreOf stateRoom out) ds ls es))) i))) refl
 
   found-so : {r : ℕ} → Ending wide (station ds ls) s out (E) es p r
-      → RecordingOutcome (eitherKind wide) (coreOf base out) s (verdict r p (stateAfter (coreOf base out) ds ls es))
+      → RecordingOutcome (eitherKind wide) (coreOf stateRoom out) s (verdict r p (stateAfter (coreOf stateRoom out) ds ls es))
   found-so (recordings.whole e i) =
       accepted ds ls (tableEnd (eitherKind wide) ds ls) es table-there
       (record { kept = genuine-kept alone .played; bytes = rw (← i) (subst (λ (n : ℕ). Stands s (tableEnd (eitherKind wide) ds ls) (bytesOf ((eitherKind wide) .eventCountWidth) n ++ encodes (events (eitherKind wide)) es) p) (sym e) from-events) })
-      refl (ap (λ (k : ℕ). verdict 0 k (stateAfter (coreOf base out) ds ls es)) i)
+      refl (ap (λ (k : ℕ). verdict 0 k (stateAfter (coreOf stateRoom out) ds ls es)) i)
   found-so (recordings.extra e h) =
       extraBytes ds ls (tableEnd (eitherKind wide) ds ls) es p table-there
       (record { kept = genuine-kept alone .played; bytes = subst (λ (n : ℕ). Stands s (tableEnd (eitherKind wide) ds ls) (bytesOf ((eitherKind wide) .eventCountWidth) n ++ encodes (events (eitherKind wide)) es) p) (sym e) from-events }) h refl
@@ -110,15 +110,15 @@ module _ {wide : Bool} {s out ds : List ℕ} {ls : List Link} {es : List (Event 
       stops 1 more (λ z. omega arith) (kinded.rest-missing (eventKinds (eitherKind wide)) byteOf (events-told (eitherKind wide)) s p (w .0) h (w .1) (omega (arith, w .2)))
   found-so (badEvent {r} more e q x f g n) =
       let i : eventAt (eitherKind wide) s p ≡ got e q = events-lawful (eitherKind wide) .reads s p e q f x in
-      let j : judgedIn (stateAfter (coreOf base out) ds ls es) e ≡ refusedBy (station ds ls) out (past [] es) e =
+      let j : judgedIn (stateAfter (coreOf stateRoom out) ds ls es) e ≡ refusedBy (station ds ls) out (past [] es) e =
       refused-by (went-there .right) e ∙ ap (λ (T : Table ℕ). refusedBy T out (past [] es) e) (went-there .same) in
       eventRecord ds ls (tableEnd (eitherKind wide) ds ls) es r p n table-there
       (faulty r more
       (earns-one g (record-earned (station ds ls) (past [] es) out e) ∙ sym j
-      ∙ sym (ap (λ (y : Got (Event ℕ)). refusalOf y (judgedIn (stateAfter (coreOf base out) ds ls es))) i))) refl
+      ∙ sym (ap (λ (y : Got (Event ℕ)). refusalOf y (judgedIn (stateAfter (coreOf stateRoom out) ds ls es))) i))) refl
 
   -- by the kind that the bytes say
-  pub found : {r : ℕ} → Ending wide (station ds ls) s out E es p r → RecordingOutcome (kindIn s) (coreOf base out) s (verdict r p (stateAfter (coreOf base out) ds ls es))
+  pub found : {r : ℕ} → Ending wide (station ds ls) s out E es p r → RecordingOutcome (kindIn s) (coreOf stateRoom out) s (verdict r p (stateAfter (coreOf stateRoom out) ds ls es))
   found {r} x =
-      subst (λ (w : Bool). RecordingOutcome (eitherKind w) (coreOf base out) s (verdict r p (stateAfter (coreOf base out) ds ls es)))
+      subst (λ (w : Bool). RecordingOutcome (eitherKind w) (coreOf stateRoom out) s (verdict r p (stateAfter (coreOf stateRoom out) ds ls es)))
       (sym (kind-begun wide s (stands-first (encodeFirst (eitherKind wide)) _ (b .bytes)))) (found-so x)

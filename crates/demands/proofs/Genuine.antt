@@ -11,7 +11,7 @@ use Rattle.protocol.specs.Event.{Event}
 use Rattle.protocol.specs.Table.{Table}
 use Rattle.protocol.specs.History.{counts, reads, past}
 use Rattle.protocol.specs.Schedule.{policyOf, AllPossible}
-use Rattle.protocol_state.specs.Saved.{base}
+use Rattle.protocol_state.specs.Saved.{stateRoom}
 use Rattle.byte_format.specs.Play.{Verdict, verdict}
 use Rattle.recording_format.specs.Link.{Link}
 use Rattle.recording_format.specs.RecordingKind.{eitherKind, wideIn}
@@ -38,7 +38,7 @@ use Rattle.demands.proofs.Replays.{Went, went}
 
 -- ---- the exactly-when, in the words of this crate and of recording_core
 module _ {wide : Bool} {s out ds : List ℕ} {ls : List Link} {es : List (Event ℕ)} where
-  pub genuine-core : Genuine wide s out ds ls es → core.CoreGenuine (eitherKind wide) base s out ds ls es
+  pub genuine-core : Genuine wide s out ds ls es → core.CoreGenuine (eitherKind wide) stateRoom s out ds ls es
   unfolding reads AllPossible
   genuine-core g = record {
     bytes = g .bytes;
@@ -52,7 +52,7 @@ module _ {wide : Bool} {s out ds : List ℕ} {ls : List Link} {es : List (Event 
     room = omega (arith, past-reads [] es, g .room);
   }
 
-  pub core-genuine : core.CoreGenuine (eitherKind wide) base s out ds ls es → Genuine wide s out ds ls es
+  pub core-genuine : core.CoreGenuine (eitherKind wide) stateRoom s out ds ls es → Genuine wide s out ds ls es
   unfolding reads
   core-genuine g = record {
     keeps = record { tasks = (g .few-tasks .0, in-tasks); links = in-links; rules = g .rules };
@@ -66,15 +66,15 @@ module _ {wide : Bool} {s out ds : List ℕ} {ls : List Link} {es : List (Event 
         (subst (λ (t : Table ℕ). AllPossible t (policyOf t) (past [] es)) (fresh-station ds ls in-tasks in-links) (g .happens)) .0;
   }
     where
-      in-tasks : length ds ≤ base .tasks
+      in-tasks : length ds ≤ stateRoom .tasks
       in-tasks = omega (arith, g .few-tasks .1, kind-room wide .tasks)
 
-      in-links : length ls ≤ base .links
+      in-links : length ls ≤ stateRoom .links
       in-links = omega (arith, g .few-links, kind-room wide .links)
 
   -- a genuine recording, as the reader judges it
-  pub genuine-kept : Genuine wide s out ds ls es → Recorded (eitherKind wide) (coreOf base out) s ds ls es
-  genuine-kept g = genuine-recorded (eitherKind wide) base (kind-room wide) out (kind-counts wide) (genuine-core g)
+  pub genuine-kept : Genuine wide s out ds ls es → Recorded (eitherKind wide) (coreOf stateRoom out) s ds ls es
+  genuine-kept g = genuine-recorded (eitherKind wide) stateRoom (kind-room wide) out (kind-counts wide) (genuine-core g)
 
 -- another list with room for the numbers
 genuine-room : {wide : Bool} {s out out′ ds : List ℕ} {ls : List Link} {es : List (Event ℕ)} → Genuine wide s out ds ls es → reads es ≤ length out′ → Genuine wide s out′ ds ls es
@@ -93,7 +93,7 @@ one-reading-of-kind {wide} {s} {out} {out′} {ds} {ds′} {ls} {ls′} {es} {es
     let long = length-replicate {A = ℕ} n 0 in
     let k = genuine-kept (genuine-room {out′ = replicate {A = ℕ} n 0} g (omega arith)) in
     let k′ = genuine-kept (genuine-room {out′ = replicate {A = ℕ} n 0} g′ (omega arith)) in
-    let u = recorded-unique (eitherKind wide) (coreOf base (replicate {A = ℕ} n 0)) s ds ds′ ls ls′ es es′ k k′ in
+    let u = recorded-unique (eitherKind wide) (coreOf stateRoom (replicate {A = ℕ} n 0)) s ds ds′ ls ls′ es es′ k k′ in
     (u .0, u .1 .0, u .1 .1)
 
 pub one-reading :
@@ -113,7 +113,7 @@ module _ {s out list : List ℕ} {a : Answer} (said : Replays s out a list) wher
 
 -- an answer with the state that some events came to
 module _ {s out list : List ℕ} {a : Answer} {r p : ℕ} {ds : List ℕ} {ls : List Link} {es : List (Event ℕ)} (said : Replays s out a list)
-    (e : replied a list ≡ verdict r p (stateAfter (coreOf base out) ds ls es)) (w : Went out ds ls es (stateAfter (coreOf base out) ds ls es)) where
+    (e : replied a list ≡ verdict r p (stateAfter (coreOf stateRoom out) ds ls es)) (w : Went out ds ls es (stateAfter (coreOf stateRoom out) ds ls es)) where
   pub calls-there : Calls (station ds ls) es (w .ns) (a .state)
   calls-there = subst (λ (x : State). Calls (station ds ls) es (w .ns) x) (sym (packed-is (a .state) _ (said .whole) (ap (λ (x : Verdict Playing). x .state .state) e))) (w .calls)
 
@@ -122,13 +122,13 @@ module _ {s out list : List ℕ} {a : Answer} {r p : ℕ} {ds : List ℕ} {ls : 
 
 -- a recording that is accepted
 module _ {wide : Bool} {s out list ds : List ℕ} {a : Answer} {ls : List Link} {es : List (Event ℕ)} (said : Replays s out a list) (g : Genuine wide s out ds ls es) where
-  accepted-reply : replied a list ≡ verdict 0 (length s) (stateAfter (coreOf base out) ds ls es)
-  accepted-reply = answer-by said wide (one-kind g) ∙ recorded-accepted (eitherKind wide) (coreOf base out) s ds ls es (genuine-kept g) refl
+  accepted-reply : replied a list ≡ verdict 0 (length s) (stateAfter (coreOf stateRoom out) ds ls es)
+  accepted-reply = answer-by said wide (one-kind g) ∙ recorded-accepted (eitherKind wide) (coreOf stateRoom out) s ds ls es (genuine-kept g) refl
 
-  accepted-went : Went out ds ls es (stateAfter (coreOf base out) ds ls es)
+  accepted-went : Went out ds ls es (stateAfter (coreOf stateRoom out) ds ls es)
   accepted-went =
       let k = genuine-kept g in
-      went out ds ls es (recorded-judged (eitherKind wide) base (kind-room wide) (coreOf base out) s ds ls es k) (k .played .allowed)
+      went out ds ls es (recorded-judged (eitherKind wide) stateRoom (kind-room wide) (coreOf stateRoom out) s ds ls es k) (k .played .allowed)
 
   pub accepted-calls : (ns : List ℕ) × Calls (station ds ls) es ns (a .state) × Listed ns out list × (a .place ≡ length s)
   accepted-calls = (

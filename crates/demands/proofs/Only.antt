@@ -10,7 +10,7 @@ use Rattle.protocol.specs.Event.{Event}
 use Rattle.protocol.specs.Table.{Table}
 use Rattle.protocol.specs.History.{counts, reads, past}
 use Rattle.protocol.specs.ZeroTime.{ideals}
-use Rattle.protocol_state.specs.Saved.{base}
+use Rattle.protocol_state.specs.Saved.{stateRoom}
 use Rattle.byte_format.specs.Play.{Verdict, verdict}
 use Rattle.recording_format.specs.Link.{Link}
 use Rattle.recording_format.specs.RecordingKind.{eitherKind, kindIn}
@@ -42,16 +42,16 @@ use Rattle.demands.proofs.Explained.{single-made}
 
 -- the answer that the replay's definition gives
 abbrev defined : List ℕ → List ℕ → Verdict Playing
-defined s out = recording (kindIn s) (coreOf base out) s
+defined s out = recording (kindIn s) (coreOf stateRoom out) s
 
 -- ---- an answer in the table
 table-answer : {s out list : List ℕ} {a : Answer} → AtTable s out a list → replied a list ≡ defined s out
-table-answer {s} {out} {list} {a} x = same ∙ outcome-is (kindIn s) (coreOf base out) s (fault-found s out (x .fault))
+table-answer {s} {out} {list} {a} x = same ∙ outcome-is (kindIn s) (coreOf stateRoom out) s (fault-found s out (x .fault))
   where
-    state : saved (a .state) ≡ coreOf base out .single .state
+    state : saved (a .state) ≡ coreOf stateRoom out .single .state
     state = ap (λ (m : fresh.Made). m .state) (x .state .answer) ∙ ap (λ (m : fresh.Made). m .state) single-made
 
-    same : replied a list ≡ verdict (a .refusal) (a .place) (coreOf base out .single)
+    same : replied a list ≡ verdict (a .refusal) (a .place) (coreOf stateRoom out .single)
     same = λ i. verdict (a .refusal) (a .place) (record { state = state i; counts = x .counted i; list = x .listed i })
 
 -- ---- an answer in the events, or after them
@@ -88,27 +88,27 @@ module _ {s out list : List ℕ} {a : Answer} (x : AtEvents s out a list) where
     happen = possible-happen (station ds ls) [] es (calls-possible (x .calls)) .0;
   }
 
-  course : Went out ds ls es (stateAfter (coreOf base out) ds ls es)
+  course : Went out ds ls es (stateAfter (coreOf stateRoom out) ds ls es)
   course = went-there (x .begun) alone
 
   -- the state, the counts and the list are those that the events came to
-  same-state : saved (a .state) ≡ stateAfter (coreOf base out) ds ls es .state
+  same-state : saved (a .state) ≡ stateAfter (coreOf stateRoom out) ds ls es .state
   same-state = ap saved (one-course (x .calls) (course .calls) .1) ∙ saved-packed _ (course .right .reached .shape)
 
-  same-counts : fourCounts a ≡ stateAfter (coreOf base out) ds ls es .counts
+  same-counts : fourCounts a ≡ stateAfter (coreOf stateRoom out) ds ls es .counts
   same-counts = x .counted ∙ sym (course .right .counts ∙ ap (λ (T : Table ℕ). counts T (past [] es)) (course .same))
 
-  same-list : list ≡ stateAfter (coreOf base out) ds ls es .list
+  same-list : list ≡ stateAfter (coreOf stateRoom out) ds ls es .list
   same-list =
       x .listed .holds
       ∙ ap (λ (ns : List ℕ). ns ++ drop (length ns) out) (one-course (x .calls) (course .calls) .0)
       ∙ sym (course .listed .holds)
 
-  same-reply : replied a list ≡ verdict (a .refusal) (a .place) (stateAfter (coreOf base out) ds ls es)
+  same-reply : replied a list ≡ verdict (a .refusal) (a .place) (stateAfter (coreOf stateRoom out) ds ls es)
   same-reply = λ i. verdict (a .refusal) (a .place) (record { state = same-state i; counts = same-counts i; list = same-list i })
 
   events-answer : replied a list ≡ defined s out
-  events-answer = same-reply ∙ outcome-is (kindIn s) (coreOf base out) s (found (x .begun) alone (x .ending))
+  events-answer = same-reply ∙ outcome-is (kindIn s) (coreOf stateRoom out) s (found (x .begun) alone (x .ending))
 
   -- "arrivals counted task by task equal finishes plus tasks still active"
   pub totals : a .arrivals ≡ a .finishes + count (busy (saved (a .state))) (length ds)

@@ -17,7 +17,7 @@ use Rattle.protocol.specs.Schedule.{Policy, AllPossible}
 use Rattle.protocol.specs.ZeroTime.{had}
 use Rattle.protocol.specs.Published.{Boxes, Free, Step, Run, fresh, next}
 use Rattle.protocol.proofs.Ranges.{ranged}
-use Rattle.protocol_state.specs.Saved.{Saved, base, aheadIn, table}
+use Rattle.protocol_state.specs.Saved.{Saved, stateRoom, aheadIn, table}
 use Rattle.protocol_state.specs.Sound.{StandsSound}
 use Rattle.protocol_state.proofs.Places.{count-same}
 use Rattle.demands.specs.Mailboxes.{lessUrgentReaders, Mailboxes, Remembered}
@@ -92,7 +92,7 @@ pub record Apart (T : Table ℕ) : Type 0 where
   pub single : (j l : ℕ) → j < l → l < T .links → T .writer j ≡ T .writer l → T .reader j ≢ T .reader l
 
 -- the table of a sound state
-pub sound-apart : (q : Saved) → StandsSound base q → Apart (table (aheadIn q) q)
+pub sound-apart : (q : Saved) → StandsSound stateRoom q → Apart (table (aheadIn q) q)
 sound-apart q S =
     record { inside = λ l h. S .rules .each l h .reader; single = λ j l i h. S .rules .each l h .single j i }
 

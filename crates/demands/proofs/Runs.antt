@@ -19,7 +19,7 @@ use Rattle.protocol.proofs.Schedule.{policy-fair, judged-possible, possible-jud
 use Rattle.protocol.proofs.Theorem.{lowest-only, weaken, finished-then, zero-time, ideals-there, ideals-count}
 use Rattle.protocol.proofs.Unique.{runs-same}
 use Rattle.protocol.proofs.Upward.{upward-order}
-use Rattle.protocol_state.specs.Saved.{base, tasksIn, aheadIn, table, boxes}
+use Rattle.protocol_state.specs.Saved.{stateRoom, tasksIn, aheadIn, table, boxes}
 use Rattle.protocol_state.specs.Rules.{Ranks}
 use Rattle.protocol_state.specs.Judge.{judgedOn}
 use Rattle.protocol_state.specs.Give.{Reply}
@@ -126,9 +126,9 @@ module _ {T : Table ℕ} {es : List (Event ℕ)} {ns : List ℕ} {q : State} (c 
   -- the number of an accepted read is what its link is due
   read-due : (l : ℕ) (r : Step) → Gives q (read l) r → r .answer .refusal ≡ 0 → there (r .answer .value) ≡ due T (past [] es) l
   read-due l r call z =
-      let j : judgedOn (aheadIn (saved q)) (saved q) (read l) ≡ 0 = sym (give-refusal (aheadIn (saved q)) base (saved q) (read l) (reached-sound (C .reached))) ∙ ap (λ (x : Reply). x .refusal) (sym (call .answer)) ∙ z in
+      let j : judgedOn (aheadIn (saved q)) (saved q) (read l) ≡ 0 = sym (give-refusal (aheadIn (saved q)) stateRoom (saved q) (read l) (reached-sound (C .reached))) ∙ ap (λ (x : Reply). x .refusal) (sym (call .answer)) ∙ z in
       let v : r .answer .value ≡ number T₀ (boxes (saved q)) l =
-      ap (λ (x : Reply). x .value) (call .answer) ∙ ap (λ (x : Reply). x .value) (give-done (aheadIn (saved q)) base (saved q) (read l) (reached-sound (C .reached)) j) ∙ reached-number (C .reached) l j in
+      ap (λ (x : Reply). x .value) (call .answer) ∙ ap (λ (x : Reply). x .value) (give-done (aheadIn (saved q)) stateRoom (saved q) (read l) (reached-sound (C .reached)) j) ∙ reached-number (C .reached) l j in
       let p : Possible T₀ (policyOf T₀) (past [] es) (read l) = judged-possible T₀ (policyOf T₀) (past [] es) (read l) (sym (judged-history (C .reached) (read l)) ∙ j) in
       ap (λ (x : ℕ). there x) v
       ∙ zero-time T₀ (policyOf T₀) (table-lawful ranks (C .reached)) (policy-fair T₀) (lowest-only T₀) (C .reached .run) (C .reached .possible) l p .0

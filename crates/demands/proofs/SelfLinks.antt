@@ -20,7 +20,7 @@ use Rattle.protocol.proofs.Schedule.{counted}
 use Rattle.protocol.proofs.Effects.{pointer-delayed, pointer-out, mark-in, mark-out}
 use Rattle.protocol.proofs.SelfLinks.{self-had, self-uncounted, self-stays, self-unprotected}
 use Rattle.protocol_state.specs.Records.{Task, linkOf, aheadOf}
-use Rattle.protocol_state.specs.Saved.{Saved, base, tasksIn}
+use Rattle.protocol_state.specs.Saved.{Saved, stateRoom, tasksIn}
 use Rattle.protocol_state.specs.Sound.{StandsSound}
 use Rattle.protocol_state.proofs.Rules.{ranked}
 use Rattle.protocol_state.proofs.SelfLinks.{self-sound-delayed, self-other-sound}
@@ -161,7 +161,7 @@ module _ (q : State) (G : IsSound q) (l : ℕ) (S : SelfLink (tableIn q) l) wher
   no-more : (q′ : State) (p m : ℕ) → IsWhole q → OtherPointer q l p m q′ → p ≤ N (tableIn q) (tableIn q .reader l) + 2
       → (standingIn q .active (tableIn q .reader l) ≡ true → 1 ≤ p) → m ≤ 1 → (m ≡ 1 → 1 ≤ p) → (1 ≤ p → boxesIn q .seen (tableIn q .reader l) < 2 → m ≡ 1) → IsSound q′
   no-more q′ p m W same high present bit held early =
-      subst (λ (x : Saved). StandsSound base x) (sym same)
+      subst (λ (x : Saved). StandsSound stateRoom x) (sym same)
       (self-other-sound (saved q) G l (S .link) (S .same) (ranked (tasksIn (saved q))) (whole-shape q W) p m
       (subst (λ (w : ℕ). p ≤ N (tableIn q) w + 2) (sym (S .same)) high) (λ active. present (ap not (ne-eqb _ 0 active))) bit held (λ i few. early i (rw (S .same) at few)))
 

@@ -15,7 +15,7 @@ use Rattle.lists.specs.Lists.{leading}
 use Rattle.lists.proofs.Bools.{or-left, or-right}
 use Rattle.lists.proofs.Lists.{leading-zero}
 use Rattle.protocol_state.specs.Records.{Task, noLink, linkOf, aheadOf}
-use Rattle.protocol_state.specs.Saved.{base}
+use Rattle.protocol_state.specs.Saved.{stateRoom}
 use Rattle.protocol_state.specs.Fresh.{judgedLists}
 use Rattle.protocol_state.specs.Rules.{faultAfter, fault, judgedTable}
 use Rattle.protocol_state.proofs.Rules.{fault-agrees, obeys, no-fault, no-refusal}
@@ -72,7 +72,7 @@ module _ (ds : List Task) (ls : List Link) where
       (link-earned ds (take j ls) (linkOf ls j))
 
   -- a link that is not at fault obeys the rules, among the first links too
-  first-keeps : (j : ℕ) → j ≤ length ls → (1 ≤ length ds) × (length ds ≤ base .tasks) → length ls ≤ base .links → ((i : ℕ) → i < j → faults i ≡ 0) → Keeps ds (take j ls)
+  first-keeps : (j : ℕ) → j ≤ length ls → (1 ≤ length ds) × (length ds ≤ stateRoom .tasks) → length ls ≤ stateRoom .links → ((i : ℕ) → i < j → faults i ≡ 0) → Keeps ds (take j ls)
   first-keeps j h few least z = record {
     tasks = few;
     links = omega (arith, length-take-le j ls h);
@@ -81,13 +81,13 @@ module _ (ds : List Task) (ls : List Link) where
 
   -- what the code computes
   abbrev judgedHere : ℕ
-  judgedHere = judgedLists base ds ls
+  judgedHere = judgedLists stateRoom ds ls
 
   pub judged-table-earned : TableEarns ds ls judgedHere
   unfolding judgedTable
-  judged-table-earned = counts (eqb (length ds) 0 || ltb (base .tasks) (length ds)) refl
+  judged-table-earned = counts (eqb (length ds) 0 || ltb (stateRoom .tasks) (length ds)) refl
     where
-      links : (1 ≤ length ds) × (length ds ≤ base .tasks) → length ls ≤ base .links → (x : ℕ) → leading faults (length ls) ≡ x → Dec (x ≡ 0) → TableEarns ds ls x
+      links : (1 ≤ length ds) × (length ds ≤ stateRoom .tasks) → length ls ≤ stateRoom .links → (x : ℕ) → leading faults (length ls) ≡ x → Dec (x ≡ 0) → TableEarns ds ls x
       links few least x e (yes z) =
           rw z (refusals.kept (record { tasks = few; links = least; rules = λ l h. obeys (aheadOf ds) (length ds) (linkOf ls) l (leading-zero faults (length ls) l (e ∙ z) h) }))
       links few least x e (no n) =
@@ -97,29 +97,29 @@ module _ (ds : List Task) (ls : List Link) where
           (first-keeps (w .0) (omega (arith, w .1)) few least (w .2))
           (subst (λ (k : ℕ). Earns (LinkBreaks ds (take (w .0) ls) (linkOf ls (w .0))) k) (w .3 ∙ e) (fault-nth (w .0) (w .1))) n
 
-      second : (1 ≤ length ds) × (length ds ≤ base .tasks) → (b : Bool) → ltb (base .links) (length ls) ≡ b → TableEarns ds ls (cond b 3 (leading faults (length ls)))
-      second few true e = refusals.links (few .0) (few .1) (ltb-true (base .links) (length ls) e)
-      second few false e = links few (ltb-false (base .links) (length ls) e) (leading faults (length ls)) refl (ℕ-discrete (leading faults (length ls)) 0)
+      second : (1 ≤ length ds) × (length ds ≤ stateRoom .tasks) → (b : Bool) → ltb (stateRoom .links) (length ls) ≡ b → TableEarns ds ls (cond b 3 (leading faults (length ls)))
+      second few true e = refusals.links (few .0) (few .1) (ltb-true (stateRoom .links) (length ls) e)
+      second few false e = links few (ltb-false (stateRoom .links) (length ls) e) (leading faults (length ls)) refl (ℕ-discrete (leading faults (length ls)) 0)
 
-      wrong : (eqb (length ds) 0 ≡ true) ⊎ (ltb (base .tasks) (length ds) ≡ true) → (length ds ≡ 0) ⊎ (base .tasks < length ds)
+      wrong : (eqb (length ds) 0 ≡ true) ⊎ (ltb (stateRoom .tasks) (length ds) ≡ true) → (length ds ≡ 0) ⊎ (stateRoom .tasks < length ds)
       wrong (inl e) = inl (eqb-true (length ds) 0 e)
-      wrong (inr e) = inr (ltb-true (base .tasks) (length ds) e)
+      wrong (inr e) = inr (ltb-true (stateRoom .tasks) (length ds) e)
 
-      counts : (b : Bool) → (eqb (length ds) 0 || ltb (base .tasks) (length ds)) ≡ b → TableEarns ds ls (cond b 2 (cond (ltb (base .links) (length ls)) 3 (leading faults (length ls))))
-      counts true e = refusals.tasks (wrong (either (eqb (length ds) 0) (ltb (base .tasks) (length ds)) e))
+      counts : (b : Bool) → (eqb (length ds) 0 || ltb (stateRoom .tasks) (length ds)) ≡ b → TableEarns ds ls (cond b 2 (cond (ltb (stateRoom .links) (length ls)) 3 (leading faults (length ls))))
+      counts true e = refusals.tasks (wrong (either (eqb (length ds) 0) (ltb (stateRoom .tasks) (length ds)) e))
       counts false e =
           let some-task : length ds ≢ 0 = eqb-false (length ds) 0 (or-left (eqb (length ds) 0) _ e) in
-          second (omega arith, ltb-false (base .tasks) (length ds) (or-right (eqb (length ds) 0) _ e)) (ltb (base .links) (length ls)) refl
+          second (omega arith, ltb-false (stateRoom .tasks) (length ds) (or-right (eqb (length ds) 0) _ e)) (ltb (stateRoom .links) (length ls)) refl
 
 -- no other number is earned
 pub table-earns-one : (ds : List Task) (ls : List Link) {n : ℕ} → TableEarns ds ls n → n ≡ judgedHere ds ls
 unfolding judgedTable
 table-earns-one ds ls (refusals.tasks (inl z)) = rw (eq-eqb (length ds) 0 z)
-table-earns-one ds ls (refusals.tasks (inr h)) = rw (or-second (eqb (length ds) 0) (lt-ltb (base .tasks) (length ds) h))
-table-earns-one ds ls (refusals.links a b h) = rw (ne-eqb (length ds) 0 (λ z. omega arith), le-ltb (base .tasks) (length ds) b, lt-ltb (base .links) (length ls) h)
-table-earns-one ds ls (refusals.kept k) = sym (no-refusal (aheadOf ds) (length ds) (linkOf ls) base (length ls) (k .tasks .0) (k .tasks .1) (k .links) (k .rules))
+table-earns-one ds ls (refusals.tasks (inr h)) = rw (or-second (eqb (length ds) 0) (lt-ltb (stateRoom .tasks) (length ds) h))
+table-earns-one ds ls (refusals.links a b h) = rw (ne-eqb (length ds) 0 (λ z. omega arith), le-ltb (stateRoom .tasks) (length ds) b, lt-ltb (stateRoom .links) (length ls) h)
+table-earns-one ds ls (refusals.kept k) = sym (no-refusal (aheadOf ds) (length ds) (linkOf ls) stateRoom (length ls) (k .tasks .0) (k .tasks .1) (k .links) (k .rules))
 table-earns-one ds ls {n} (refusals.link least before l after e k g ne) =
-    rw (ne-eqb (length ds) 0 (λ z. omega (arith, k .tasks .0)), le-ltb (base .tasks) (length ds) (k .tasks .1), le-ltb (base .links) (length ls) least) (sym there)
+    rw (ne-eqb (length ds) 0 (λ z. omega (arith, k .tasks .0)), le-ltb (stateRoom .tasks) (length ds) (k .tasks .1), le-ltb (stateRoom .links) (length ls) least) (sym there)
   where
     j : ℕ
     j = length before

@@ -9,7 +9,7 @@ use native.Mathlib.Omega.{arith}
 use borrow.Author.Tests.{eqb-true, eqb-false, eq-eqb, ne-eqb, ltb-true, lt-ltb, leb-true, leb-false}
 use lib.Dec.{eqb, ltb, leb}
 use lib.ListN.{length, getD}
-use Rattle.protocol_state.specs.Saved.{base}
+use Rattle.protocol_state.specs.Saved.{stateRoom}
 use Rattle.byte_format.specs.Number.{bytesOf, numberAt}
 use Rattle.byte_format.specs.Stands.{Stands}
 use Rattle.byte_format.specs.Format.{Got, got, stop, encodes, encodeSection}
@@ -21,7 +21,7 @@ use Rattle.byte_format.proofs.Sized.{sized-reads, sized-ends}
 use Rattle.byte_format.proofs.Standing.{stands-join, stands-first, stands-left}
 use Rattle.recording_format.specs.Task.{tasks, anyTask, andTask}
 use Rattle.recording_format.specs.Link.{Link, links, linkAt, andLink, linkFault}
-use Rattle.recording_format.specs.RecordingKind.{RecordingKind, baseRecording, wideRecording, eitherKind, kindNamed, kindIn, wideIn, firstLimit, taskLimit, linkLimit, eventLimit}
+use Rattle.recording_format.specs.RecordingKind.{RecordingKind, baseRecording, wideRecording, eitherKind, kindNamed, kindIn, firstLimit, taskLimit, linkLimit, eventLimit}
 use Rattle.recording_format.specs.Recording.{encodeFirst, taskPlace, tasksEnd, firstAt, taskCountAt, linkCountAt, eventCountAt}
 use Rattle.recording_format.specs.Outcome.{Begins, TasksTo, TableTo, RecordingOutcome, firstByte, taskCount, taskRecord, linkCount, linkRecord, eventCount}
 use Rattle.recording_format.proofs.BothKinds.{kind-room, kind-counts, kind-begun}
@@ -117,7 +117,7 @@ pub allowed-keeps :
     (wide : Bool) (ds : List ℕ) (ls : List Link) → taskLimit (eitherKind wide) (length ds) ≡ 0 → length ls ≤ eitherKind wide .links →
     Allowed (linkFault (aheadOf ds) (length ds)) andLink [] ls → Keeps ds ls
 allowed-keeps wide ds ls t h a =
-    keeps-of ds ls (allowed-judged (aheadOf ds) (length ds) (eitherKind wide) base (kind-room wide) ls t (within-links (eitherKind wide) (length ls) h) a)
+    keeps-of ds ls (allowed-judged (aheadOf ds) (length ds) (eitherKind wide) stateRoom (kind-room wide) ls t (within-links (eitherKind wide) (length ls) h) a)
 
 pub keeps-allowed : (ds : List ℕ) (ls : List Link) → Keeps ds ls → Allowed (linkFault (aheadOf ds) (length ds)) andLink [] ls
 keeps-allowed ds ls k = no-fault-allowed (aheadOf ds) (length ds) ls (λ l h. no-fault (aheadOf ds) (length ds) (linkOf ls) l (k .rules l h))
@@ -264,7 +264,7 @@ module _ (s : List ℕ) where
   -- ---- what the reader finds where such a fault lies
   module _ (out : List ℕ) where
     abbrev Found : RecordingKind → ℕ → ℕ → Type 0
-    Found kind r p = RecordingOutcome kind (coreOf base out) s (verdict r p (coreOf base out .single))
+    Found kind r p = RecordingOutcome kind (coreOf stateRoom out) s (verdict r p (coreOf stateRoom out .single))
 
     -- a fault behind the first byte of a kind, by the kind that the bytes say
     said-so : (wide : Bool) {r p : ℕ} → Begins (eitherKind wide) s → Found (eitherKind wide) r p → Found (kindIn s) r p

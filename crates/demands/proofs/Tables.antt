@@ -8,27 +8,27 @@ use lib.Dec.{eqb}
 use lib.ListN.{length, List·getD-map}
 use lib.Seq.{ext-getD}
 use Rattle.protocol_state.specs.Records.{Task, defaultOf, Link, noLink, linkOf, writers, readers, kinds, startValues, linkFrom, firstTasks, firstLinks, aheadOf}
-use Rattle.protocol_state.specs.Saved.{base, at, table}
+use Rattle.protocol_state.specs.Saved.{stateRoom, at, table}
 use Rattle.protocol_state.specs.Fresh.{copied, freshOf}
 use Rattle.protocol_state.proofs.Records.{own-defaults, first-tasks-length, first-task, first-links-length, first-link, copied-whole, column-whole}
 use Rattle.demands.specs.Station.{station}
 
 -- the table of a fresh state is that of its lists
-pub fresh-station : (ds : List Task) (ls : List Link) → length ds ≤ base .tasks → length ls ≤ base .links → table (aheadOf ds) (freshOf base ds ls) ≡ station ds ls
+pub fresh-station : (ds : List Task) (ls : List Link) → length ds ≤ stateRoom .tasks → length ls ≤ stateRoom .links → table (aheadOf ds) (freshOf stateRoom ds ls) ≡ station ds ls
 unfolding freshOf
 fresh-station ds ls few least = λ i. record {
   tasks = length ds;
   links = length ls;
   default = fun-ext default i;
-  startValue = fun-ext (λ l. column-whole (base .links) (λ (x : Link). x .startValue) refl ls least l) i;
-  writer = fun-ext (λ l. column-whole (base .links) (λ (x : Link). x .writer) refl ls least l) i;
-  reader = fun-ext (λ l. column-whole (base .links) (λ (x : Link). x .reader) refl ls least l) i;
-  delayed = λ l. eqb (column-whole (base .links) (λ (x : Link). x .kind) refl ls least l i) 1;
+  startValue = fun-ext (λ l. column-whole (stateRoom .links) (λ (x : Link). x .startValue) refl ls least l) i;
+  writer = fun-ext (λ l. column-whole (stateRoom .links) (λ (x : Link). x .writer) refl ls least l) i;
+  reader = fun-ext (λ l. column-whole (stateRoom .links) (λ (x : Link). x .reader) refl ls least l) i;
+  delayed = λ l. eqb (column-whole (stateRoom .links) (λ (x : Link). x .kind) refl ls least l i) 1;
   ahead = aheadOf ds;
 }
   where
-    default : (t : ℕ) → at (copied (base .tasks) (length ds) (map defaultOf ds)) t ≡ at ds t
-    default t = ap (λ (xs : List ℕ). at (copied (base .tasks) (length ds) xs) t) (own-defaults ds) ∙ copied-whole (base .tasks) ds few t
+    default : (t : ℕ) → at (copied (stateRoom .tasks) (length ds) (map defaultOf ds)) t ≡ at ds t
+    default t = ap (λ (xs : List ℕ). at (copied (stateRoom .tasks) (length ds) xs) t) (own-defaults ds) ∙ copied-whole (stateRoom .tasks) ds few t
 
 -- lists handed over as arrays are these lists
 pub first-tasks-own : (ds : List Task) → firstTasks (length ds) ds ≡ ds

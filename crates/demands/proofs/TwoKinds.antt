@@ -4,11 +4,11 @@ use mathlib.Core.Path.{_≡_, refl, sym, ap, _∙_}
 use mathlib.Core.Logic.{inr}
 use mathlib.Core.Bool.{Bool, true, false}
 use mathlib.Core.List.{List, [], _∷_}
-use Prim.Native.Nat.{ℕ, zero, suc, _≤_, _<_}
+use Prim.Native.Nat.{ℕ, zero, suc, _<_}
 use native.Mathlib.Omega.{arith}
 use lib.ListN.{length, getD}
 use Rattle.protocol.specs.Event.{Event, arrival, start, read, finish}
-use Rattle.protocol_state.specs.Saved.{base}
+use Rattle.protocol_state.specs.Saved.{stateRoom}
 use Rattle.protocol_state.specs.Records.{Task}
 use Rattle.byte_format.specs.Format.{FitEach}
 use Rattle.byte_format.specs.Play.{Verdict, verdict}
@@ -57,15 +57,15 @@ many-links {wide} {s} {p = p} said b h = answered said (badLinkCount wide b (ome
 
 -- ---- the reader from before
 
-reader-before : (s out : List ℕ) → recording baseRecording (coreOf base out) (wideRecording .first ∷ s) ≡ verdict 2 0 (coreOf base out .single)
+reader-before : (s out : List ℕ) → recording baseRecording (coreOf stateRoom out) (wideRecording .first ∷ s) ≡ verdict 2 0 (coreOf stateRoom out .single)
 unfolding recording
 reader-before s out =
     let bytes = wideRecording .first ∷ s in
     let two : firstLimit baseRecording (numberAt 1 bytes 0) ≡ 2 = rw (number-one bytes 0) in
-    first-refused baseRecording (coreOf base out .single) (eventsFrom baseRecording (coreOf base out) bytes) bytes
+    first-refused baseRecording (coreOf stateRoom out .single) (eventsFrom baseRecording (coreOf stateRoom out) bytes) bytes
     (count-above 1 (firstLimit baseRecording) bytes 0 (omega arith) two (λ y. omega arith))
 
-still-taken : {s out list : List ℕ} {a : Answer} → Replays s out a list → Begins baseRecording s → replied a list ≡ recording baseRecording (coreOf base out) s
+still-taken : {s out list : List ℕ} {a : Answer} → Replays s out a list → Begins baseRecording s → replied a list ≡ recording baseRecording (coreOf stateRoom out) s
 still-taken {s} said x = answer-by said false (kind-begun false s x)
 
 -- ---- what both hold

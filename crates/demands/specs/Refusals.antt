@@ -12,7 +12,7 @@ use Rattle.protocol.specs.Table.{Table}
 use Rattle.protocol.specs.History as history
 use Rattle.protocol.specs.History.{reads}
 use Rattle.protocol_state.specs.Records.{Task, linkOf, aheadOf}
-use Rattle.protocol_state.specs.Saved.{base}
+use Rattle.protocol_state.specs.Saved.{stateRoom}
 use Rattle.protocol_state.specs.Rules.{linksBehind}
 use Rattle.recording_format.specs.Link.{Link}
 use Rattle.demands.specs.Station.{Keeps}
@@ -42,11 +42,11 @@ pub data LinkBreaks (ds : List Task) (ls : List Link) (l : Link) : ℕ → Type 
 -- ---- a table that is handed over whole: its counts first, then the first link at fault
 pub data TableEarns (ds : List Task) (ls : List Link) : ℕ → Type 0 where
   -- 2: "T is 0" or above the room of a state, 32
-  tasks : (length ds ≡ 0) ⊎ (base .tasks < length ds) → TableEarns ds ls 2
+  tasks : (length ds ≡ 0) ⊎ (stateRoom .tasks < length ds) → TableEarns ds ls 2
   -- 3: L is above it, 96
-  links : 1 ≤ length ds → length ds ≤ base .tasks → base .links < length ls → TableEarns ds ls 3
+  links : 1 ≤ length ds → length ds ≤ stateRoom .tasks → stateRoom .links < length ls → TableEarns ds ls 3
   -- 4 to 9 and 20: the links before it keep the rules
-  link : {r : ℕ} → length ls ≤ base .links → (before : List Link) (l : Link) (after : List Link) → ls ≡ before ++ (l ∷ after) → Keeps ds before →
+  link : {r : ℕ} → length ls ≤ stateRoom .links → (before : List Link) (l : Link) (after : List Link) → ls ≡ before ++ (l ∷ after) → Keeps ds before →
       Earns (LinkBreaks ds before l) r → r ≢ 0 → TableEarns ds ls r
   -- 0
   kept : Keeps ds ls → TableEarns ds ls 0

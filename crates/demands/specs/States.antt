@@ -6,7 +6,7 @@ use lib.Dec.{eqb}
 use lib.ListN.{set}
 use Rattle.protocol.specs.Table.{Table}
 use Rattle.protocol.specs.Published.{Boxes}
-use Rattle.protocol_state.specs.Saved.{base, at, aheadIn, busy, table, boxes}
+use Rattle.protocol_state.specs.Saved.{stateRoom, at, aheadIn, busy, table, boxes}
 use Rattle.protocol_state.specs.Sound.{StandsSound}
 use Rattle.protocol_state.specs.Next.{withPointer, withMark}
 use Rattle.mailbox.specs.States.{saved}
@@ -19,7 +19,7 @@ use Rattle.demands.specs.Refusals.{Standing}
 -- without arrivals is idle; the mark stands only at present pointers" of delayed links, "and at each whose writer has had fewer than two arrivals."; and
 -- each phase, each count of arrivals (0, 1, 2) and each mark (0, 1) is one of its kind, for there is no other
 abbrev pub IsSound : State → Type 0
-IsSound q = StandsSound base (saved q)
+IsSound q = StandsSound stateRoom (saved q)
 
 -- the table that it holds, with the order of its own tasks
 abbrev pub tableIn : State → Table ℕ

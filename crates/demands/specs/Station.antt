@@ -9,7 +9,7 @@ use Rattle.protocol.specs.Instant.{upward}
 -- a table that is handed over in arrays, as its first tasks and links
 pub use Rattle.protocol_state.specs.Records.{firstTasks, firstLinks}
 use Rattle.protocol_state.specs.Records.{Task, Link, defaultOf, linkOf, aheadOf}
-use Rattle.protocol_state.specs.Saved.{base, at}
+use Rattle.protocol_state.specs.Saved.{stateRoom, at}
 use Rattle.protocol_state.specs.Rules.{Obeys}
 
 -- the table of these tasks and links, as the protocol and the run where tasks take no time see it; a link of kind 1 is delayed
@@ -31,6 +31,6 @@ mostUrgentFirst T = upward 0 (T .tasks)
 
 -- "its links obey the published rules", each of them rules 4 to 9 and 20; and "T, 1 to" 32, "L, 0 to" 96, which is the room of a state
 pub record Keeps (ds : List Task) (ls : List Link) : Type 0 where
-  pub tasks : (1 ≤ length ds) × (length ds ≤ base .tasks)
-  pub links : length ls ≤ base .links
+  pub tasks : (1 ≤ length ds) × (length ds ≤ stateRoom .tasks)
+  pub links : length ls ≤ stateRoom .links
   pub rules : (l : ℕ) → l < length ls → Obeys (aheadOf ds) (length ds) (linkOf ls) l

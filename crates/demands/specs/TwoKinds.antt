@@ -1,13 +1,13 @@
 -- The sentences of request 2026-06, a field for each, that no field of the demands says already: those of the limits, and of what both kinds of recording share.
--- proofs/TwoKinds.antt has `two-kinds`. The kinds themselves are in recording_format/specs/RecordingKind, the room of a state is `base`.
+-- proofs/TwoKinds.antt has `two-kinds`. The kinds themselves are in recording_format/specs/RecordingKind, the room of a state is `stateRoom`.
 -- Assumes nothing.
 use mathlib.Core.Path.{_≡_}
 use mathlib.Core.Bool.{Bool, true, false}
 use mathlib.Core.List.{List, _∷_}
-use Prim.Native.Nat.{ℕ, _≤_, _<_}
+use Prim.Native.Nat.{ℕ, _<_}
 use lib.ListN.{length, getD}
 use Rattle.protocol.specs.Event.{Event}
-use Rattle.protocol_state.specs.Saved.{base}
+use Rattle.protocol_state.specs.Saved.{stateRoom}
 use Rattle.protocol_state.specs.Records.{Task}
 use Rattle.byte_format.specs.Play.{verdict}
 use Rattle.recording_format.specs.RecordingKind.{baseRecording, wideRecording, eitherKind}
@@ -35,9 +35,9 @@ pub record TwoKinds : Type 0 where
   pub many-links : {wide : Bool} {s out list ds : List ℕ} {a : Answer} {p : ℕ} → Replays s out a list → TasksBegun wide s (length ds) ds p →
       eitherKind wide .links < getD s p 0 → (a .refusal ≡ 3) × (a .place ≡ p)
   -- "a reader from before refuses them with 2": the definition by which it judged, with the old kind alone
-  pub reader-before : (s out : List ℕ) → recording baseRecording (coreOf base out) (wideRecording .first ∷ s) ≡ verdict 2 0 (coreOf base out .single)
+  pub reader-before : (s out : List ℕ) → recording baseRecording (coreOf stateRoom out) (wideRecording .first ∷ s) ≡ verdict 2 0 (coreOf stateRoom out .single)
   -- "The new reader still takes 253": of every recording that begins so the answer is the one of that definition
-  pub still-taken : {s out list : List ℕ} {a : Answer} → Replays s out a list → Begins baseRecording s → replied a list ≡ recording baseRecording (coreOf base out) s
+  pub still-taken : {s out list : List ℕ} {a : Answer} → Replays s out a list → Begins baseRecording s → replied a list ≡ recording baseRecording (coreOf stateRoom out) s
   -- what a recording of 253 holds one of 254 can hold
   pub widened : {s out : List ℕ} {ds : List Task} {ls : List Link} {es : List (Event ℕ)} → Genuine false s out ds ls es →
       Genuine true (recordingBytes true ds ls es) out ds ls es

@@ -4,7 +4,7 @@ use mathlib.Core.Path.{_≡_}
 use mathlib.Core.List.{List, [], _∷_}
 use Prim.Native.Nat.{ℕ}
 use Rattle.protocol.specs.History.{Counts}
-use Rattle.protocol_state.specs.Saved.{Saved, base}
+use Rattle.protocol_state.specs.Saved.{Saved, stateRoom}
 use Rattle.recording_format.specs.RecordingKind.{kindIn}
 use Rattle.byte_format.specs.Play.{Verdict}
 use Rattle.recording_format.specs.Recording.{recording}
@@ -12,7 +12,7 @@ use Rattle.recording_core.specs.Playing.{Playing, coreOf}
 
 -- the recording's reply to the bytes s, with the lent list `out`
 abbrev pub hostReply : List ℕ → List ℕ → Verdict Playing
-hostReply s out = recording (kindIn s) (coreOf base out) s
+hostReply s out = recording (kindIn s) (coreOf stateRoom out) s
 
 -- the four counts in their order
 abbrev pub countsIn : Counts → List ℕ

@@ -1,7 +1,7 @@
 // The fresh state of a table, into a lent state.
 ghost use mathlib.Core.Path.{_≡_};
 ghost use Rattle.protocol_state.specs.Records.{firstTasks, firstLinks};
-ghost use Rattle.protocol_state.specs.Saved.{base};
+ghost use Rattle.protocol_state.specs.Saved.{stateRoom};
 ghost use Rattle.protocol_state.specs.Fresh.{made};
 ghost use Rattle.mailbox_layout.specs.Layout.{stateOf};
 ghost use Rattle.exports.specs.Made.{madeAs};
@@ -27,7 +27,7 @@ pub extern "C" fn parnusild_fresh_32_96(
     control: &mut [u8; CONTROL],
     values: &mut [u32; VALUES],
 ) -> u8
-    ensures { λ r. ⌜ madeAs r (stateOf (now (tasks .exit)) (now (links .exit)) (now (control .exit)) (now (values .exit))) ≡ made base (firstTasks «table_tasks» (now («table_defaults» .entry))) (firstLinks «table_links» (now («table_writer» .entry)) (now («table_reader» .entry)) (now («table_kind» .entry)) (now («table_start_value» .entry))) ⌝ }
+    ensures { λ r. ⌜ madeAs r (stateOf (now (tasks .exit)) (now (links .exit)) (now (control .exit)) (now (values .exit))) ≡ made stateRoom (firstTasks «table_tasks» (now («table_defaults» .entry))) (firstLinks «table_links» (now («table_writer» .entry)) (now («table_reader» .entry)) (now («table_kind» .entry)) (now («table_start_value» .entry))) ⌝ }
 {
     let made = State::fresh(
         table_tasks,

@@ -1,7 +1,7 @@
 // How large the parts of a state are in this library.
 ghost use mathlib.Core.Path.{_≡_};
 ghost use mathlib.Core.List.{[], _∷_};
-ghost use Rattle.protocol_state.specs.Saved.{base};
+ghost use Rattle.protocol_state.specs.Saved.{stateRoom};
 ghost use Rattle.mailbox_layout.specs.Layout.{controlSize, valueSize};
 use mailbox_base::numbers::LINKS;
 use mailbox_base::numbers::TASKS;
@@ -15,7 +15,7 @@ const SIZES: usize = 4;
 // name: a host may ask any library for it.
 #[no_mangle]
 pub extern "C" fn parnusild_sizes(sizes: &mut [usize; SIZES])
-    ensures { λ _. ⌜ now (sizes .exit) ≡ base .tasks ∷ base .links ∷ controlSize ∷ valueSize ∷ [] ⌝ }
+    ensures { λ _. ⌜ now (sizes .exit) ≡ stateRoom .tasks ∷ stateRoom .links ∷ controlSize ∷ valueSize ∷ [] ⌝ }
 {
     *sizes = [TASKS, LINKS, CONTROL, VALUES];
 }

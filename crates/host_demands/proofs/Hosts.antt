@@ -7,7 +7,7 @@ use native.Mathlib.Omega.{arith}
 use borrow.Author.Tests.{ne-eqb}
 use lib.ListN.{length, drop, length-drop}
 use Rattle.protocol.specs.Event.{Event, arrival, start, read, finish}
-use Rattle.protocol_state.specs.Saved.{Saved, base, at, aheadIn}
+use Rattle.protocol_state.specs.Saved.{Saved, stateRoom, at, aheadIn}
 use Rattle.protocol_state.specs.Sound.{StandsSound, testedSound}
 use Rattle.protocol_state.specs.Give.{reply, settled, givenTo}
 use Rattle.protocol_state.proofs.Sound.{says-sound}
@@ -56,10 +56,10 @@ says-unknown kind which value none =
     )
 
 -- the answer to a kind that is unknown
-unknown-answer : (q q′ : Saved) (r v : ℕ) → reply q′ r v ≡ settled (testedSound base q) 11 q q 0
-    → (StandsSound base q → reply q′ r v ≡ reply q 11 0) × ((StandsSound base q → ⊥) → reply q′ r v ≡ reply q 19 0)
+unknown-answer : (q q′ : Saved) (r v : ℕ) → reply q′ r v ≡ settled (testedSound stateRoom q) 11 q q 0
+    → (StandsSound stateRoom q → reply q′ r v ≡ reply q 11 0) × ((StandsSound stateRoom q → ⊥) → reply q′ r v ≡ reply q 19 0)
 unknown-answer q q′ r v e = (
-  λ S. e ∙ refused 11 q q 0 (says-sound (aheadIn q) base q S) (λ z. omega arith),
+  λ S. e ∙ refused 11 q q 0 (says-sound (aheadIn q) stateRoom q S) (λ z. omega arith),
   λ n. e ∙ unsound 11 q q 0 (not-sound q n),
 )
 
@@ -69,13 +69,13 @@ module _ (q q′ : Saved) (kind which value r v : ℕ) (said : HostGives q kind 
 
   event-is : (e : Event ℕ) → HostSays kind which value e → (p p′ : State) → Holds p q → Holds p′ q′ → Gives p e (record { state = p′; answer = record { refusal = r; value = v } })
   event-is e s p p′ h h′ = record {
-    answer = ap (λ (x : Saved). reply x r v) (h′ .same) ∙ answer-is (says-known s) ∙ ap (λ (x : Saved). givenTo base x e) (sym (h .same));
+    answer = ap (λ (x : Saved). reply x r v) (h′ .same) ∙ answer-is (says-known s) ∙ ap (λ (x : Saved). givenTo stateRoom x e) (sym (h .same));
     lent = h .whole;
     whole = h′ .whole;
   }
 
   unknown-is :
-      ((e : Event ℕ) → HostSays kind which value e → ⊥) → (StandsSound base q → reply q′ r v ≡ reply q 11 0) × ((StandsSound base q → ⊥) → reply q′ r v ≡ reply q 19 0)
+      ((e : Event ℕ) → HostSays kind which value e → ⊥) → (StandsSound stateRoom q → reply q′ r v ≡ reply q 11 0) × ((StandsSound stateRoom q → ⊥) → reply q′ r v ≡ reply q 19 0)
   unknown-is none = unknown-answer q q′ r v (answer-is (says-unknown kind which value none))
 
 -- the parts of a replay's answer

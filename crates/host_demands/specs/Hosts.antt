@@ -11,7 +11,7 @@ use denote.Ref.{RefT, now}
 use denote.Triple.Clauses.{AtExit}
 use borrow.Fn.Kinds.{Dens, resT, endedOf}
 use Rattle.protocol.specs.Event.{Event, arrival, start, read, finish}
-use Rattle.protocol_state.specs.Saved.{Saved, base, at}
+use Rattle.protocol_state.specs.Saved.{Saved, stateRoom, at}
 use Rattle.protocol_state.specs.Sound.{StandsSound}
 use Rattle.protocol_state.specs.Fresh.{made}
 use Rattle.protocol_state.specs.Give.{reply}
@@ -47,7 +47,7 @@ use Rattle.exports.proofs.sizes.parnusild_sizes.Reads as on-sizes
 
 -- `parnusild_fresh_32_96`, lent a table: it answers r and leaves the state q
 abbrev pub HostMakes : ℕ → ℕ → List ℕ → List ℕ → List ℕ → List ℕ → List ℕ → ℕ → Saved → Type 0
-HostMakes T L D W R K B r q = madeAs r q ≡ made base (firstTasks T D) (firstLinks L W R K B)
+HostMakes T L D W R K B r q = madeAs r q ≡ made stateRoom (firstTasks T D) (firstLinks L W R K B)
 
 -- `parnusild_event_32_96`, lent the state q: it answers r and the number v, and leaves the state q′
 abbrev pub HostGives : Saved → ℕ → ℕ → ℕ → ℕ → ℕ → Saved → Type 0
@@ -167,7 +167,7 @@ pub record Hosts : Type 0 where
   -- "Nothing unknown ever becomes a default.": any other kind is 11 of a sound state and 19 of another, the state as it was, and no number
   pub unknown : (q q′ : Saved) (kind which value r v : ℕ) → HostGives q kind which value r v q′ →
       ((e : Event ℕ) → HostSays kind which value e → ⊥) →
-      (StandsSound base q → reply q′ r v ≡ reply q 11 0) × ((StandsSound base q → ⊥) → reply q′ r v ≡ reply q 19 0)
+      (StandsSound stateRoom q → reply q′ r v ≡ reply q 11 0) × ((StandsSound stateRoom q → ⊥) → reply q′ r v ≡ reply q 19 0)
   -- what `parnusild_replay_32_96` answers and leaves is what `recording::replay` does
   pub replay : {s out cs list : List ℕ} {r m : ℕ} {q : Saved} → HostReplays s out r m cs q list →
       (p : State) → Holds p q → Replays s out (hostAnswer r m cs p) list

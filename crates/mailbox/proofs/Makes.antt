@@ -10,7 +10,7 @@ use borrow.Author.Tests.{eq-eqb, ne-eqb}
 use lib.Dec.{eqb}
 use Rattle.protocol.specs.Event.{Event}
 use Rattle.protocol_state.specs.Records.{firstTasks, firstLinks, linkOf, earlier}
-use Rattle.protocol_state.specs.Saved.{base}
+use Rattle.protocol_state.specs.Saved.{stateRoom}
 use Rattle.protocol_state.specs.Rules.{judgedTable}
 use Rattle.protocol_state.specs.Fresh.{freshOf, single, judgedLists, made}
 use Rattle.protocol_state.specs.Sound.{testedSound}
@@ -29,47 +29,47 @@ use Rattle.mailbox.specs.declared.Step.{Step}
 use Rattle.mailbox.specs.declared.Made.{Made}
 
 -- the control c and the values v hold the first links of the arrays W, R, K and B, and v the first defaults of D; k is what they are judged
-module _ (T L : ℕ) (D W R K B c v : List ℕ) (held : cut c ≡ freshControl (firstLinks (min L (base .links)) W R K B))
-    (valued : cutValues v ≡ freshValues (firstTasks (min T (base .tasks)) D) (firstLinks (min L (base .links)) W R K B))
-    {k : ℕ} (judged : k ≡ judgedTable earlier T (linkHeld c v) base L) where
+module _ (T L : ℕ) (D W R K B c v : List ℕ) (held : cut c ≡ freshControl (firstLinks (min L (stateRoom .links)) W R K B))
+    (valued : cutValues v ≡ freshValues (firstTasks (min T (stateRoom .tasks)) D) (firstLinks (min L (stateRoom .links)) W R K B))
+    {k : ℕ} (judged : k ≡ judgedTable earlier T (linkHeld c v) stateRoom L) where
   -- where there is room for them, they hold all of them
-  held-all : L ≤ base .links → cut c ≡ freshControl (firstLinks L W R K B)
+  held-all : L ≤ stateRoom .links → cut c ≡ freshControl (firstLinks L W R K B)
   held-all h = held ∙ ap (λ (n : ℕ). freshControl (firstLinks n W R K B)) (min-eq-left h)
 
-  valued-all : L ≤ base .links → cutValues v ≡ freshValues (firstTasks (min T (base .tasks)) D) (firstLinks L W R K B)
-  valued-all h = valued ∙ ap (λ (n : ℕ). freshValues (firstTasks (min T (base .tasks)) D) (firstLinks n W R K B)) (min-eq-left h)
+  valued-all : L ≤ stateRoom .links → cutValues v ≡ freshValues (firstTasks (min T (stateRoom .tasks)) D) (firstLinks L W R K B)
+  valued-all h = valued ∙ ap (λ (n : ℕ). freshValues (firstTasks (min T (stateRoom .tasks)) D) (firstLinks n W R K B)) (min-eq-left h)
 
   -- so the table is
-  table-judged : k ≡ judgedLists base (firstTasks T D) (firstLinks L W R K B)
+  table-judged : k ≡ judgedLists stateRoom (firstTasks T D) (firstLinks L W R K B)
   table-judged =
       judged
-      ∙ judged-agrees earlier base T L (linkHeld c v) (linkOf (firstLinks L W R K B))
-      (λ h l i. link-held (firstTasks (min T (base .tasks)) D) (firstLinks L W R K B) c v (held-all h) (valued-all h) (omega (arith, first-links-length L W R K B)) l)
+      ∙ judged-agrees earlier stateRoom T L (linkHeld c v) (linkOf (firstLinks L W R K B))
+      (λ h l i. link-held (firstTasks (min T (stateRoom .tasks)) D) (firstLinks L W R K B) c v (held-all h) (valued-all h) (omega (arith, first-links-length L W R K B)) l)
       ∙ rw (first-tasks-length T D, first-links-length L W R K B)
 
-  pub made-refused : (q : State) → (k ≡ 0 → ⊥) → saved q ≡ single base → madeOf (record { refusal = k; state = q }) ≡ made base (firstTasks T D) (firstLinks L W R K B)
+  pub made-refused : (q : State) → (k ≡ 0 → ⊥) → saved q ≡ single stateRoom → madeOf (record { refusal = k; state = q }) ≡ made stateRoom (firstTasks T D) (firstLinks L W R K B)
   unfolding made
   made-refused q n i =
-      let z : eqb (judgedLists base (firstTasks T D) (firstLinks L W R K B)) 0 ≡ false = ne-eqb _ 0 (λ j. n (table-judged ∙ j)) in
+      let z : eqb (judgedLists stateRoom (firstTasks T D) (firstLinks L W R K B)) 0 ≡ false = ne-eqb _ 0 (λ j. n (table-judged ∙ j)) in
       rw (z, i, table-judged)
 
-  fresh-here : k ≡ 0 → stateOf T L c v ≡ freshOf base (firstTasks T D) (firstLinks L W R K B)
+  fresh-here : k ≡ 0 → stateOf T L c v ≡ freshOf stateRoom (firstTasks T D) (firstLinks L W R K B)
   fresh-here e =
-      let fits = room _ _ _ base _ (sym table-judged ∙ e) in
-      let t : T ≤ base .tasks = rw (first-tasks-length T D) at (fits .0) in
-      let l : L ≤ base .links = rw (first-links-length L W R K B) at (fits .1) in
+      let fits = room _ _ _ stateRoom _ (sym table-judged ∙ e) in
+      let t : T ≤ stateRoom .tasks = rw (first-tasks-length T D) at (fits .0) in
+      let l : L ≤ stateRoom .links = rw (first-links-length L W R K B) at (fits .1) in
       fresh-state (firstTasks T D) (firstLinks L W R K B) c v (sym (first-tasks-length T D)) (sym (first-links-length L W R K B)) (held-all l)
       (valued-all l ∙ ap (λ (n : ℕ). freshValues (firstTasks n D) (firstLinks L W R K B)) (min-eq-left t))
 
-  pub made-fresh : (q : State) → q ≡ record { tasks = T; links = L; control = c; values = v } → k ≡ 0 → madeOf (record { refusal = 0; state = q }) ≡ made base (firstTasks T D) (firstLinks L W R K B)
+  pub made-fresh : (q : State) → q ≡ record { tasks = T; links = L; control = c; values = v } → k ≡ 0 → madeOf (record { refusal = 0; state = q }) ≡ made stateRoom (firstTasks T D) (firstLinks L W R K B)
   unfolding made
   made-fresh q i e =
-      let z : eqb (judgedLists base (firstTasks T D) (firstLinks L W R K B)) 0 ≡ true = eq-eqb _ 0 (sym table-judged ∙ e) in
+      let z : eqb (judgedLists stateRoom (firstTasks T D) (firstLinks L W R K B)) 0 ≡ true = eq-eqb _ 0 (sym table-judged ∙ e) in
       ap (λ (s : State). madeOf (record { refusal = 0; state = s })) i ∙ rw (z, fresh-here e)
 
 -- the state that a table makes is sound, whatever the numbers
-pub makes-sound : (T L : ℕ) (D W R K B : List ℕ) (m : Made) → madeOf m ≡ made base (firstTasks T D) (firstLinks L W R K B) → passing (m .state) ≡ true
-makes-sound T L D W R K B m i = ap (λ m. testedSound base (m .state)) i ∙ made-sound base (omega arith) (firstTasks T D) (firstLinks L W R K B)
+pub makes-sound : (T L : ℕ) (D W R K B : List ℕ) (m : Made) → madeOf m ≡ made stateRoom (firstTasks T D) (firstLinks L W R K B) → passing (m .state) ≡ true
+makes-sound T L D W R K B m i = ap (λ m. testedSound stateRoom (m .state)) i ∙ made-sound stateRoom (omega arith) (firstTasks T D) (firstLinks L W R K B)
 
 -- the same state is the same reply
 pub same-reply : (p q : State) {k x : ℕ} {a : Reply} → p ≡ q → reply (saved q) k x ≡ a → reply (saved p) k x ≡ a
@@ -78,5 +78,5 @@ same-reply p q {k} {x} i e = ap (λ (s : State). reply (saved s) k x) i ∙ e
 -- whatever is handed back as the protocol's reply
 pub stays : (q : State) (e : Event ℕ) {r : Step} → Gives q e r → StaysSound q r
 stays q e g s =
-    ap (λ (a : Reply). testedSound base (a .state)) (g .answer)
-    ∙ give-sound earlier base (saved q) e (filled-shape (q .tasks) (q .links) (q .control) (q .values) (g .lent)) s .1
+    ap (λ (a : Reply). testedSound stateRoom (a .state)) (g .answer)
+    ∙ give-sound earlier stateRoom (saved q) e (filled-shape (q .tasks) (q .links) (q .control) (q .values) (g .lent)) s .1

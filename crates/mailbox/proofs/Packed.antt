@@ -5,7 +5,7 @@ use mathlib.Core.List.{List}
 use Prim.Native.Nat.{ℕ}
 use Rattle.protocol.specs.Event.{Event}
 use Rattle.protocol_state.specs.Records.{firstTasks, firstLinks}
-use Rattle.protocol_state.specs.Saved.{Saved, Shape, base}
+use Rattle.protocol_state.specs.Saved.{Saved, Shape, stateRoom}
 use Rattle.protocol_state.specs.Give.{Reply, givenTo}
 use Rattle.protocol_state.specs.Fresh as fresh
 use Rattle.protocol_state.proofs.Freshes.{made-shape}
@@ -24,7 +24,7 @@ use Rattle.mailbox.specs.declared.Made.{Made}
 pub packed : Saved → State
 packed q = record { tasks = q .tasks; links = q .links; control = joined (controlOf q); values = joined (valuesOf q) }
 
-module _ (q : Saved) (S : Shape base q) where
+module _ (q : Saved) (S : Shape stateRoom q) where
   control-widths : Widths controlWidths (controlOf q)
   unfolding Widths
   control-widths = (S .phase, (S .newest, (S .previous, (S .seen, (S .pointer, (S .mark, (S .writer, (S .reader, (S .kind, tt)))))))))
@@ -55,23 +55,23 @@ saved-same p q w w′ e =
     λ i. record { tasks = e i .tasks; links = e i .links; control = c i; values = v i }
 
 -- its parts have their lengths
-pub whole-shape : (q : State) → IsWhole q → Shape base (saved q)
+pub whole-shape : (q : State) → IsWhole q → Shape stateRoom (saved q)
 whole-shape q w = filled-shape (q .tasks) (q .links) (q .control) (q .values) w
 
 -- so a state with all its arrays is the packing of what it holds
 pub packed-is : (p : State) (q : Saved) → IsWhole p → saved p ≡ q → p ≡ packed q
 packed-is p q w e =
-    let S : Shape base q = subst (λ (x : Saved). Shape base x) e (whole-shape p w) in
+    let S : Shape stateRoom q = subst (λ (x : Saved). Shape stateRoom x) e (whole-shape p w) in
     saved-same p (packed q) w (packed-whole q S) (e ∙ sym (saved-packed q S))
 
 -- the answer to an event, and to a table
 abbrev pub stepTo : Reply → Step
 stepTo a = record { state = packed (a .state); answer = record { refusal = a .refusal; value = a .value } }
 
-pub given-to : (q : State) (e : Event ℕ) → IsWhole q → Gives q e (stepTo (givenTo base (saved q) e))
+pub given-to : (q : State) (e : Event ℕ) → IsWhole q → Gives q e (stepTo (givenTo stateRoom (saved q) e))
 given-to q e w =
-    let a = givenTo base (saved q) e in
-    let S : Shape base (givenTo base (saved q) e .state) = give-shape _ base (saved q) e (whole-shape q w) in
+    let a = givenTo stateRoom (saved q) e in
+    let S : Shape stateRoom (givenTo stateRoom (saved q) e .state) = give-shape _ stateRoom (saved q) e (whole-shape q w) in
     record {
       answer = λ i. record { state = saved-packed (a .state) S i; refusal = a .refusal; value = a .value };
       lent = w;
@@ -79,14 +79,14 @@ given-to q e w =
     }
 
 -- of a packed state
-pub given-packed : (q : Saved) (e : Event ℕ) → Shape base q → Gives (packed q) e (stepTo (givenTo base q e))
-given-packed q e S = subst (λ (x : Saved). Gives (packed q) e (stepTo (givenTo base x e))) (saved-packed q S) (given-to (packed q) e (packed-whole q S))
+pub given-packed : (q : Saved) (e : Event ℕ) → Shape stateRoom q → Gives (packed q) e (stepTo (givenTo stateRoom q e))
+given-packed q e S = subst (λ (x : Saved). Gives (packed q) e (stepTo (givenTo stateRoom x e))) (saved-packed q S) (given-to (packed q) e (packed-whole q S))
 
 abbrev pub madeTo : fresh.Made → Made
 madeTo m = record { refusal = m .refusal; state = packed (m .state) }
 
-pub made-to : (T L : ℕ) (D W R K B : List ℕ) → Makes T L D W R K B (madeTo (fresh.made base (firstTasks T D) (firstLinks L W R K B)))
+pub made-to : (T L : ℕ) (D W R K B : List ℕ) → Makes T L D W R K B (madeTo (fresh.made stateRoom (firstTasks T D) (firstLinks L W R K B)))
 made-to T L D W R K B =
-    let m = fresh.made base (firstTasks T D) (firstLinks L W R K B) in
-    let S : Shape base (fresh.made base (firstTasks T D) (firstLinks L W R K B) .state) = made-shape base (firstTasks T D) (firstLinks L W R K B) in
+    let m = fresh.made stateRoom (firstTasks T D) (firstLinks L W R K B) in
+    let S : Shape stateRoom (fresh.made stateRoom (firstTasks T D) (firstLinks L W R K B) .state) = made-shape stateRoom (firstTasks T D) (firstLinks L W R K B) in
     record { answer = λ i. record { refusal = m .refusal; state = saved-packed (m .state) S i }; whole = packed-whole (m .state) S }

@@ -6,7 +6,7 @@ use mathlib.Core.List.{List}
 use Prim.Native.Nat.{ℕ}
 use Rattle.protocol.specs.Event.{Event}
 use Rattle.protocol_state.specs.Records.{firstTasks, firstLinks}
-use Rattle.protocol_state.specs.Saved.{Saved, base}
+use Rattle.protocol_state.specs.Saved.{Saved, stateRoom}
 use Rattle.protocol_state.specs.Sound.{testedSound}
 use Rattle.protocol_state.specs.Give.{Reply, reply, givenTo}
 use Rattle.protocol_state.specs.Fresh as fresh
@@ -33,18 +33,18 @@ madeOf m = record { refusal = m .refusal; state = saved (m .state) }
 
 -- an event e given to the state q by `arrival`, `start`, `read`, `finish` or `event` is answered r; q is any state whose arrays have their lengths
 pub record Gives (q : State) (e : Event ℕ) (r : Step) : Type 0 where
-  pub answer : replyOf r ≡ givenTo base (saved q) e
+  pub answer : replyOf r ≡ givenTo stateRoom (saved q) e
   pub lent : IsWhole q
   pub whole : IsWhole (r .state)
 
 -- `State::fresh` answers m to T tasks with the defaults D and L links with the writers W, the readers R, the kinds K and the start values B
 pub record Makes (T L : ℕ) (D W R K B : List ℕ) (m : Made) : Type 0 where
-  pub answer : madeOf m ≡ fresh.made base (firstTasks T D) (firstLinks L W R K B)
+  pub answer : madeOf m ≡ fresh.made stateRoom (firstTasks T D) (firstLinks L W R K B)
   pub whole : IsWhole (m .state)
 
 -- whether it passes the test of soundness
 abbrev pub passing : State → Bool
-passing q = testedSound base (saved q)
+passing q = testedSound stateRoom (saved q)
 
 -- a sound state stays sound
 abbrev pub StaysSound : State → Step → Type 0

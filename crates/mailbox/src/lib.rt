@@ -6,7 +6,7 @@
 ghost use mathlib.Core.Path.{_≡_};
 ghost use mathlib.Core.Bool.{true};
 ghost use Rattle.protocol.specs.Event.{arrival, start, read, finish};
-ghost use Rattle.protocol_state.specs.Saved.{at, base};
+ghost use Rattle.protocol_state.specs.Saved.{at, stateRoom};
 ghost use Rattle.protocol_state.specs.Fresh.{single};
 ghost use Rattle.mailbox_event.specs.Plain.{plain};
 ghost use Rattle.mailbox.specs.States.{saved, IsWhole, Makes, Gives, passing, StaysSound};
@@ -193,7 +193,7 @@ impl State {
 
     // The fresh state of a single task with default 0 and no links.
     pub fn single() -> State
-        ensures { λ r. ⌜ (saved r ≡ single base) × IsWhole r ⌝ }
+        ensures { λ r. ⌜ (saved r ≡ single stateRoom) × IsWhole r ⌝ }
     {
         let control = fresh_control();
         State {

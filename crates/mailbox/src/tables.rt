@@ -3,7 +3,7 @@ ghost use mathlib.Core.Path.{_≡_};
 ghost use mathlib.Core.List.{List, []};
 ghost use Prim.Native.Nat.{min};
 ghost use Rattle.protocol_state.specs.Records.{Task, firstTasks, firstLinks};
-ghost use Rattle.protocol_state.specs.Saved.{base};
+ghost use Rattle.protocol_state.specs.Saved.{stateRoom};
 ghost use Rattle.mailbox_layout.specs.Layout.{cut, cutValues};
 ghost use Rattle.mailbox_layout.specs.Fresh.{freshControl, freshValues};
 use lists::few;
@@ -26,8 +26,8 @@ pub(crate) fn put_links(
     control: &mut [u8; CONTROL],
     values: &mut [u32; VALUES],
 )
-    ensures control { λ _. ⌜ (cut (now (control .entry)) ≡ freshControl [] → cut (now (control .exit)) ≡ freshControl (firstLinks (min n (base .links)) (now (writer .entry)) (now (reader .entry)) (now (kind .entry)) (now («start_value» .entry)))) ⌝ }
-    ensures values { λ _. ⌜ ((ts : List Task) → cutValues (now (values .entry)) ≡ freshValues ts [] → cutValues (now (values .exit)) ≡ freshValues ts (firstLinks (min n (base .links)) (now (writer .entry)) (now (reader .entry)) (now (kind .entry)) (now («start_value» .entry)))) ⌝ }
+    ensures control { λ _. ⌜ (cut (now (control .entry)) ≡ freshControl [] → cut (now (control .exit)) ≡ freshControl (firstLinks (min n (stateRoom .links)) (now (writer .entry)) (now (reader .entry)) (now (kind .entry)) (now («start_value» .entry)))) ⌝ }
+    ensures values { λ _. ⌜ ((ts : List Task) → cutValues (now (values .entry)) ≡ freshValues ts [] → cutValues (now (values .exit)) ≡ freshValues ts (firstLinks (min n (stateRoom .links)) (now (writer .entry)) (now (reader .entry)) (now (kind .entry)) (now («start_value» .entry)))) ⌝ }
 {
     let end = few(n, LINKS);
     let mut l = 0;
@@ -48,7 +48,7 @@ pub(crate) fn put_links(
 // The values of the first `n` defaults, no more than there is room for, without links: the slots past them hold 0, and each position its
 // task's default.
 pub(crate) fn values_of(n: usize, defaults: &[u32; TASKS]) -> [u32; VALUES]
-    ensures { λ r. ⌜ cutValues r ≡ freshValues (firstTasks (min n (base .tasks)) (now (defaults .entry))) [] ⌝ }
+    ensures { λ r. ⌜ cutValues r ≡ freshValues (firstTasks (min n (stateRoom .tasks)) (now (defaults .entry))) [] ⌝ }
 {
     let end = few(n, TASKS);
     let mut values = [0u32; VALUES];

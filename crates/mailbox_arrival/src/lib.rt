@@ -8,7 +8,7 @@ ghost use Rattle.protocol.specs.Event.{has};
 ghost use Rattle.protocol.specs.Table.{marked};
 ghost use Rattle.protocol.specs.Published.{seenOnce};
 ghost use Rattle.protocol.specs.Free.{holds, lowestFree};
-ghost use Rattle.protocol_state.specs.Saved.{at, base, delayedKind};
+ghost use Rattle.protocol_state.specs.Saved.{at, stateRoom, delayedKind};
 ghost use Rattle.protocol_state.specs.Next.{arrived};
 ghost use Rattle.protocol_state.specs.Records.{earlier};
 ghost use Rattle.mailbox_free.specs.Bits.{lastBit};
@@ -109,7 +109,7 @@ fn seen_once(a: u8) -> u8
 // The writers' part for task `t`, where it is in the set: its newest position becomes its previous, its lowest free one its newest,
 // one more of its arrivals is seen, and it is waiting.
 fn move_task(lowest: &[u8; PATTERNS], set: u32, t: usize, links: usize, control: &mut [u8; CONTROL])
-    requires { ⌜ t < base .tasks ⌝ }
+    requires { ⌜ t < stateRoom .tasks ⌝ }
     ensures { λ _. ⌜ (AllLowest (now (lowest .entry)) → (T : ℕ) → Becomes (movedAt set t) T links (now (control .entry)) (now (control .exit))) ⌝ }
 {
     if !has(set, t) {
@@ -133,7 +133,7 @@ fn move_tasks(
     links: usize,
     control: &mut [u8; CONTROL],
 )
-    requires { ⌜ tasks ≤ base .tasks ⌝ }
+    requires { ⌜ tasks ≤ stateRoom .tasks ⌝ }
     ensures { λ _. ⌜ (AllLowest (now (lowest .entry)) → (T : ℕ) → Becomes (moved set tasks) T links (now (control .entry)) (now (control .exit))) ⌝ }
 {
     let mut t = 0;
@@ -197,7 +197,7 @@ pub fn arrive(
     links: usize,
     control: &mut [u8; CONTROL],
 )
-    ensures { λ _. ⌜ (AllLowest (now (lowest .entry)) → Becomes (arrived earlier set) (min tasks (base .tasks)) (min links (base .links)) (now (control .entry)) (now (control .exit))) ⌝ }
+    ensures { λ _. ⌜ (AllLowest (now (lowest .entry)) → Becomes (arrived earlier set) (min tasks (stateRoom .tasks)) (min links (stateRoom .links)) (now (control .entry)) (now (control .exit))) ⌝ }
 {
     let n = few(links, LINKS);
     move_tasks(lowest, set, few(tasks, TASKS), n, control);

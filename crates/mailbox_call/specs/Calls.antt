@@ -4,7 +4,7 @@ use mathlib.Core.Bool.{cond}
 use Prim.Native.Nat.{ℕ}
 use lib.Dec.{eqb}
 use Rattle.protocol.specs.Event.{Event, arrival, start, read, finish}
-use Rattle.protocol_state.specs.Saved.{Saved, base}
+use Rattle.protocol_state.specs.Saved.{Saved, stateRoom}
 use Rattle.protocol_state.specs.Give.{Reply, settled, givenTo}
 use Rattle.protocol_state.specs.Sound.{testedSound}
 
@@ -21,5 +21,5 @@ called kind which value =
 
 -- a known event is given to the state; an unknown kind is 11, after 19, with the state as lent and the value 0
 abbrev pub callReply : Saved → Call → Reply
-callReply q (known e) = givenTo base q e
-callReply q unknown = settled (testedSound base q) 11 q q 0
+callReply q (known e) = givenTo stateRoom q e
+callReply q unknown = settled (testedSound stateRoom q) 11 q q 0

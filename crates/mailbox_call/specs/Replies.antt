@@ -1,7 +1,7 @@
 -- The readings of a host's calls, as the replies to them.
 -- Assumes nothing.
 use Prim.Native.Nat.{ℕ}
-use Rattle.protocol_state.specs.Saved.{Saved, base}
+use Rattle.protocol_state.specs.Saved.{Saved, stateRoom}
 use Rattle.protocol_state.specs.Give.{Reply, settled, givenTo}
 use Rattle.protocol_state.specs.Sound.{testedSound}
 use Rattle.mailbox_event.specs.Plain.{plain}
@@ -16,6 +16,6 @@ askedNumber Unknown = 11
 
 -- what the code's reading of a call answers: the reply to its event, or its refusal, after 19
 abbrev pub heard : Saved → Asked → Reply
-heard q (Known e) = givenTo base q (plain e)
-heard q Outside = settled (testedSound base q) (askedNumber Outside) q q 0
-heard q Unknown = settled (testedSound base q) (askedNumber Unknown) q q 0
+heard q (Known e) = givenTo stateRoom q (plain e)
+heard q Outside = settled (testedSound stateRoom q) (askedNumber Outside) q q 0
+heard q Unknown = settled (testedSound stateRoom q) (askedNumber Unknown) q q 0

@@ -1,7 +1,7 @@
 // An event as a host hands it over: a kind, which task or link, and a value.
 ghost use mathlib.Core.Path.{_≡_};
 ghost use Rattle.protocol.specs.Event.{start, read, finish};
-ghost use Rattle.protocol_state.specs.Saved.{Saved, base};
+ghost use Rattle.protocol_state.specs.Saved.{Saved, stateRoom};
 ghost use Rattle.protocol_state.specs.Give.{givenTo};
 ghost use Rattle.mailbox_call.specs.Calls.{called, callReply};
 ghost use Rattle.mailbox_call.specs.Replies.{heard, askedNumber};
@@ -19,7 +19,7 @@ const NAMED: u32 = 255;
 
 // The start of a task.
 fn start_of(which: u32) -> Asked
-    ensures { λ r. ⌜ ((q : Saved) → heard q r ≡ givenTo base q (start which)) ⌝ }
+    ensures { λ r. ⌜ ((q : Saved) → heard q r ≡ givenTo stateRoom q (start which)) ⌝ }
 {
     if NAMED < which {
         return Asked::Outside;
@@ -29,7 +29,7 @@ fn start_of(which: u32) -> Asked
 
 // The read by a link.
 fn read_of(which: u32) -> Asked
-    ensures { λ r. ⌜ ((q : Saved) → heard q r ≡ givenTo base q (read which)) ⌝ }
+    ensures { λ r. ⌜ ((q : Saved) → heard q r ≡ givenTo stateRoom q (read which)) ⌝ }
 {
     if NAMED < which {
         return Asked::Outside;
@@ -39,7 +39,7 @@ fn read_of(which: u32) -> Asked
 
 // The finish of a task with a value.
 fn finish_of(which: u32, value: u32) -> Asked
-    ensures { λ r. ⌜ ((q : Saved) → heard q r ≡ givenTo base q (finish which value)) ⌝ }
+    ensures { λ r. ⌜ ((q : Saved) → heard q r ≡ givenTo stateRoom q (finish which value)) ⌝ }
 {
     if NAMED < which {
         return Asked::Outside;

@@ -1,7 +1,7 @@
 // What a start, a read and a finish do.
 ghost use mathlib.Core.Path.{_≡_};
 ghost use Prim.Native.Nat.{ℕ, min};
-ghost use Rattle.protocol_state.specs.Saved.{at, base};
+ghost use Rattle.protocol_state.specs.Saved.{at, stateRoom};
 ghost use Rattle.protocol_state.specs.Next.{numberRead, freed, released, finished};
 ghost use Rattle.protocol_state.specs.Records.{earlier};
 ghost use Rattle.mailbox_layout.specs.Layout.{Becomes, stateOf, writerIn, pointerIn, markIn, startValueIn, cellsIn};
@@ -83,7 +83,7 @@ fn free_links(t: u8, links: usize, control: &mut [u8; CONTROL])
 // What a finish that is allowed does to the control: pointers become absent, their marks go, and `t` is idle.
 // A count above the room is taken as the room.
 pub fn release(t: u8, links: usize, control: &mut [u8; CONTROL])
-    ensures { λ _. ⌜ ((T : ℕ) → Becomes (released earlier t) T (min links (base .links)) (now (control .entry)) (now (control .exit))) ⌝ }
+    ensures { λ _. ⌜ ((T : ℕ) → Becomes (released earlier t) T (min links (stateRoom .links)) (now (control .entry)) (now (control .exit))) ⌝ }
 {
     free_links(t, few(links, LINKS), control);
     advance(FINISH, t, control);
@@ -91,7 +91,7 @@ pub fn release(t: u8, links: usize, control: &mut [u8; CONTROL])
 
 // A finish that is allowed: the value goes to the newest position besides.
 pub fn finish(t: u8, v: u32, links: usize, control: &mut [u8; CONTROL], values: &mut [u32; VALUES])
-    ensures { λ _. ⌜ ((T : ℕ) → stateOf T (min links (base .links)) (now (control .exit)) (now (values .exit)) ≡ finished earlier t v (stateOf T (min links (base .links)) (now (control .entry)) (now (values .entry)))) ⌝ }
+    ensures { λ _. ⌜ ((T : ℕ) → stateOf T (min links (stateRoom .links)) (now (control .exit)) (now (values .exit)) ≡ finished earlier t v (stateOf T (min links (stateRoom .links)) (now (control .entry)) (now (values .entry)))) ⌝ }
 {
     put_cell(values, t, control_at(control, NEWEST, t as usize), v);
     release(t, links, control);

@@ -1,7 +1,7 @@
 // One event given to a lent state: 19 where it isn't sound, then 12 to 16 in rising order, else it is done.
 ghost use mathlib.Core.Path.{_≡_};
 ghost use mathlib.Core.Logic.{_≢_};
-ghost use Rattle.protocol_state.specs.Saved.{base};
+ghost use Rattle.protocol_state.specs.Saved.{stateRoom};
 ghost use Rattle.protocol_state.specs.Give.{reply, givenTo};
 ghost use Rattle.mailbox_layout.specs.Layout.{stateOf};
 ghost use Rattle.mailbox_event.specs.Plain.{plain};
@@ -23,7 +23,7 @@ pub fn give(
     control: &mut [u8; CONTROL],
     values: &mut [u32; VALUES],
 ) -> u8
-    ensures answer { λ r. ⌜ reply (stateOf tasks links (now (control .exit)) (now (values .exit))) r (now (number .exit)) ≡ givenTo base (stateOf tasks links (now (control .entry)) (now (values .entry))) (plain e) ⌝ }
+    ensures answer { λ r. ⌜ reply (stateOf tasks links (now (control .exit)) (now (values .exit))) r (now (number .exit)) ≡ givenTo stateRoom (stateOf tasks links (now (control .entry)) (now (values .entry))) (plain e) ⌝ }
     ensures kept { λ r. ⌜ (r ≢ 0 → (now (control .exit) ≡ now (control .entry)) × (now (values .exit) ≡ now (values .entry))) ⌝ }
 {
     *number = 0;

@@ -4,7 +4,7 @@ ghost use mathlib.Core.Bool.{_||_, not};
 ghost use Prim.Native.Nat.{min};
 ghost use Rattle.lists.specs.Lists.{every, some};
 ghost use Rattle.protocol.specs.Event.{has};
-ghost use Rattle.protocol_state.specs.Saved.{at, base, activePhase};
+ghost use Rattle.protocol_state.specs.Saved.{at, stateRoom, activePhase};
 ghost use Rattle.protocol_state.specs.Decision.{decided};
 ghost use Rattle.protocol_state.specs.Judge.{allows, mayArrive, judgedArrival, judgedTask, judgedRead};
 ghost use Rattle.protocol_state.specs.Records.{earlier};
@@ -50,7 +50,7 @@ fn all_may(set: u32, tasks: usize, control: &[u8; CONTROL]) -> bool
 
 // The refusal of an arrival, 0 for none: 12 for the empty set and for a task that is none of the table's.
 pub fn judge_arrival(set: u32, tasks: usize, control: &[u8; CONTROL]) -> u8
-    ensures { λ r. ⌜ r ≡ judgedArrival set (min tasks (base .tasks)) (at (phaseIn (now (control .entry)))) ⌝ }
+    ensures { λ r. ⌜ r ≡ judgedArrival set (min tasks (stateRoom .tasks)) (at (phaseIn (now (control .entry)))) ⌝ }
 {
     let n = few(tasks, TASKS);
     let busy = pick(all_may(set, n, control), 0, 13);
@@ -82,7 +82,7 @@ fn some_before(t: usize, phase: &[u8]) -> bool
 
 // The refusal of a start, a read or a finish by task `t`, 0 for none.
 pub fn judge_task(kind: usize, t: u8, tasks: usize, control: &[u8; CONTROL]) -> u8
-    ensures { λ r. ⌜ r ≡ judgedTask earlier kind t (min tasks (base .tasks)) (at (phaseIn (now (control .entry)))) ⌝ }
+    ensures { λ r. ⌜ r ≡ judgedTask earlier kind t (min tasks (stateRoom .tasks)) (at (phaseIn (now (control .entry)))) ⌝ }
 {
     let i = t as usize;
     if few(tasks, TASKS) <= i {
@@ -95,7 +95,7 @@ pub fn judge_task(kind: usize, t: u8, tasks: usize, control: &[u8; CONTROL]) -> 
 
 // The refusal of a read by link `l`, 0 for none: its reader is the task that reads.
 pub fn judge_read(l: u8, tasks: usize, links: usize, control: &[u8; CONTROL]) -> u8
-    ensures { λ r. ⌜ r ≡ judgedRead earlier l (min tasks (base .tasks)) (min links (base .links)) (at (readerIn (now (control .entry)))) (at (phaseIn (now (control .entry)))) ⌝ }
+    ensures { λ r. ⌜ r ≡ judgedRead earlier l (min tasks (stateRoom .tasks)) (min links (stateRoom .links)) (at (readerIn (now (control .entry)))) (at (phaseIn (now (control .entry)))) ⌝ }
 {
     let i = l as usize;
     if few(links, LINKS) <= i {

@@ -6,26 +6,26 @@ use Prim.Native.Nat.{ℕ, _+_, _*_, _/_, _≤_}
 use lib.ListN.{set, replicate}
 use Rattle.lists.specs.Lists.{upto}
 use Rattle.lists.proofs.Lists.{at-bound, upto-none, upto-more}
-use Rattle.protocol_state.specs.Saved.{base, at, positions}
+use Rattle.protocol_state.specs.Saved.{stateRoom, at, positions}
 use Rattle.regions.specs.Regions.{regions, region}
 use Rattle.mailbox_layout.specs.Layout.{cellRegion, previousRegion, newestRegion, defaultRegion, controlSize, cut, cutValues, defaultsIn, startValueIn, cellsIn}
 use Rattle.mailbox_layout.specs.Fresh.{freshControl, withNumber, eachDefault}
 
 -- the first t tasks have the position 1
 ones : ℕ → List ℕ
-ones t = upto (λ i x. 1) t (replicate (base .tasks) 0)
+ones t = upto (λ i x. 1) t (replicate (stateRoom .tasks) 0)
 
 pub firstOnes : ℕ → List (List ℕ)
 firstOnes t =
-    replicate (base .tasks) 0
+    replicate (stateRoom .tasks) 0
     ∷ ones t
     ∷ ones t
-    ∷ replicate (base .tasks) 0
-    ∷ replicate (base .links) 0
-    ∷ replicate (base .links) 0
-    ∷ replicate (base .links) 0
-    ∷ replicate (base .links) 0
-    ∷ replicate (base .links) 0
+    ∷ replicate (stateRoom .tasks) 0
+    ∷ replicate (stateRoom .links) 0
+    ∷ replicate (stateRoom .links) 0
+    ∷ replicate (stateRoom .links) 0
+    ∷ replicate (stateRoom .links) 0
+    ∷ replicate (stateRoom .links) 0
     ∷ []
 
 pub ones-none : cut (replicate controlSize 0) ≡ firstOnes 0
@@ -35,11 +35,11 @@ ones-none = refl
 pub ones-more : (t : ℕ) {c c₁ c₂ : List (List ℕ)} → c ≡ firstOnes t → c₁ ≡ withNumber newestRegion t 1 c → c₂ ≡ withNumber previousRegion t 1 c₁ → c₂ ≡ firstOnes (t + 1)
 unfolding firstOnes ones
 ones-more t e e₁ e₂ =
-    e₂ ∙ ap (withNumber previousRegion t 1) (e₁ ∙ ap (withNumber newestRegion t 1) e) ∙ rw (upto-more {A = ℕ} (λ i x. 1) t (replicate (base .tasks) 0) 0 refl refl)
+    e₂ ∙ ap (withNumber previousRegion t 1) (e₁ ∙ ap (withNumber newestRegion t 1) e) ∙ rw (upto-more {A = ℕ} (λ i x. 1) t (replicate (stateRoom .tasks) 0) 0 refl refl)
 
-pub ones-end : (i : ℕ) {c : List (List ℕ)} → c ≡ firstOnes i → i ≤ base .tasks → base .tasks ≤ i → c ≡ freshControl []
+pub ones-end : (i : ℕ) {c : List (List ℕ)} → c ≡ firstOnes i → i ≤ stateRoom .tasks → stateRoom .tasks ≤ i → c ≡ freshControl []
 unfolding firstOnes ones upto
-ones-end i e l h = at-bound firstOnes i (base .tasks) e l h
+ones-end i e l h = at-bound firstOnes i (stateRoom .tasks) e l h
 
 -- the first i cells hold their task's default; the start values B stay
 pub firstCells : ℕ → List ℕ → List ℕ → List ℕ → List (List ℕ)
@@ -50,10 +50,10 @@ module _ (v : List ℕ) where
   unfolding regions firstCells
   cells-none = rw (upto-none (λ k x. at (defaultsIn v) (k / positions)) (cellsIn v))
 
-  pub cells-end : (i : ℕ) {n : List (List ℕ)} → n ≡ firstCells i (defaultsIn v) (startValueIn v) (cellsIn v) → i ≤ base .tasks * positions → base .tasks * positions ≤ i →
+  pub cells-end : (i : ℕ) {n : List (List ℕ)} → n ≡ firstCells i (defaultsIn v) (startValueIn v) (cellsIn v) → i ≤ stateRoom .tasks * positions → stateRoom .tasks * positions ≤ i →
       n ≡ set (cutValues v) cellRegion (eachDefault (defaultsIn v) (cellsIn v))
   unfolding regions firstCells
-  cells-end i e l h = at-bound (λ (k : ℕ). firstCells k (defaultsIn v) (startValueIn v) (cellsIn v)) i (base .tasks * positions) e l h
+  cells-end i e l h = at-bound (λ (k : ℕ). firstCells k (defaultsIn v) (startValueIn v) (cellsIn v)) i (stateRoom .tasks * positions) e l h
 
 pub cells-more : (i : ℕ) (D B C : List ℕ) {n n′ : List (List ℕ)} {x : ℕ} → n ≡ firstCells i D B C → x ≡ at (region n defaultRegion) (i / positions) → n′ ≡ withNumber cellRegion i x n →
     n′ ≡ firstCells (i + 1) D B C

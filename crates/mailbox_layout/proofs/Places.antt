@@ -7,13 +7,13 @@ use Prim.Native.Nat.{ℕ, _+_, _-_, _*_, _≤_, _<_}
 use native.Mathlib.Omega.{arith}
 use lib.ListN.{take, drop, replicate, List·getD-eq-default}
 use lib.Seq.{drop-drop}
-use Rattle.protocol_state.specs.Saved.{base, positions}
+use Rattle.protocol_state.specs.Saved.{stateRoom, positions}
 use Rattle.regions.specs.Regions.{regions, start, width, extent, place}
 use Rattle.regions.proofs.Regions.{start-even, start-after, width-even, width-after, place-is, place-none}
 use Rattle.mailbox_layout.specs.Layout.{byTask, byLink, defaultRegion, startValueRegion, cellRegion, controlWidths, valueWidths, controlSize, valueSize, cellsIn}
 
 byLinks : List ℕ
-byLinks = replicate byLink (base .links) ++ []
+byLinks = replicate byLink (stateRoom .links) ++ []
 
 pub control-extent : extent controlWidths ≡ controlSize
 unfolding start
@@ -25,51 +25,51 @@ value-extent = refl
 
 module _ (k i : ℕ) where
   -- the regions by task
-  task-start : k < byTask → start controlWidths k ≡ k * base .tasks
+  task-start : k < byTask → start controlWidths k ≡ k * stateRoom .tasks
   unfolding byLinks
-  task-start h = start-even (base .tasks) byLinks byTask k h
+  task-start h = start-even (stateRoom .tasks) byLinks byTask k h
 
-  task-width : k < byTask → width controlWidths k ≡ base .tasks
+  task-width : k < byTask → width controlWidths k ≡ stateRoom .tasks
   unfolding byLinks
-  task-width h = width-even (base .tasks) byLinks byTask k h
+  task-width h = width-even (stateRoom .tasks) byLinks byTask k h
 
-  pub task-place : k < byTask → i < base .tasks → k * base .tasks + i ≡ place controlWidths k i
+  pub task-place : k < byTask → i < stateRoom .tasks → k * stateRoom .tasks + i ≡ place controlWidths k i
   task-place h l =
       let w : i < width controlWidths k = omega (arith, task-width h) in
       sym (place-is controlWidths k i w ∙ ap (λ (s : ℕ). s + i) (task-start h))
 
-  pub task-none : k < byTask → base .tasks ≤ i → controlSize ≡ place controlWidths k i
+  pub task-none : k < byTask → stateRoom .tasks ≤ i → controlSize ≡ place controlWidths k i
   task-none h l = sym control-extent ∙ sym (place-none controlWidths k i (omega (arith, task-width h)))
 
 -- region number j of those by link
 module _ (j : ℕ) (h : j < byLink) where
-  link-start-at : start controlWidths (byTask + j) ≡ byTask * base .tasks + j * base .links
+  link-start-at : start controlWidths (byTask + j) ≡ byTask * stateRoom .tasks + j * stateRoom .links
   unfolding byLinks
   link-start-at =
-      start-after (base .tasks) byLinks byTask j ∙ ap (λ (i : ℕ). byTask * base .tasks + i) (start-even (base .links) [] byLink j h)
+      start-after (stateRoom .tasks) byLinks byTask j ∙ ap (λ (i : ℕ). byTask * stateRoom .tasks + i) (start-even (stateRoom .links) [] byLink j h)
 
-  link-width-at : width controlWidths (byTask + j) ≡ base .links
+  link-width-at : width controlWidths (byTask + j) ≡ stateRoom .links
   unfolding byLinks
-  link-width-at = width-after (base .tasks) byLinks byTask j ∙ width-even (base .links) [] byLink j h
+  link-width-at = width-after (stateRoom .tasks) byLinks byTask j ∙ width-even (stateRoom .links) [] byLink j h
 
 -- and by its own number
 module _ (k i : ℕ) (l : byTask ≤ k) (h : k < byTask + byLink) where
-  link-start : start controlWidths k ≡ byTask * base .tasks + (k - byTask) * base .links
+  link-start : start controlWidths k ≡ byTask * stateRoom .tasks + (k - byTask) * stateRoom .links
   link-start =
       let e : byTask + (k - byTask) ≡ k = omega arith in
       ap (start controlWidths) (sym e) ∙ link-start-at (k - byTask) (omega arith)
 
-  link-width : width controlWidths k ≡ base .links
+  link-width : width controlWidths k ≡ stateRoom .links
   link-width =
       let e : byTask + (k - byTask) ≡ k = omega arith in
       ap (width controlWidths) (sym e) ∙ link-width-at (k - byTask) (omega arith)
 
-  pub link-place : i < base .links → byTask * base .tasks + (k - byTask) * base .links + i ≡ place controlWidths k i
+  pub link-place : i < stateRoom .links → byTask * stateRoom .tasks + (k - byTask) * stateRoom .links + i ≡ place controlWidths k i
   link-place m =
       let w : i < width controlWidths k = omega (arith, link-width) in
       sym (place-is controlWidths k i w ∙ ap (λ (s : ℕ). s + i) link-start)
 
-  pub link-none : base .links ≤ i → controlSize ≡ place controlWidths k i
+  pub link-none : stateRoom .links ≤ i → controlSize ≡ place controlWidths k i
   link-none m = sym control-extent ∙ sym (place-none controlWidths k i (omega (arith, link-width)))
 
 -- past them there is none
@@ -80,15 +80,15 @@ no-region k i h =
 
 -- the regions of the values: the defaults, the start values, the cells, and none past them
 module _ (i : ℕ) where
-  pub default-place : i < base .tasks → i ≡ place valueWidths defaultRegion i
+  pub default-place : i < stateRoom .tasks → i ≡ place valueWidths defaultRegion i
   unfolding start
   default-place l = rw (place-is valueWidths defaultRegion i l) (omega arith)
 
-  pub start-place : i < base .links → base .tasks + i ≡ place valueWidths startValueRegion i
+  pub start-place : i < stateRoom .links → stateRoom .tasks + i ≡ place valueWidths startValueRegion i
   unfolding start
   start-place l = rw (place-is valueWidths startValueRegion i l) (omega arith)
 
-  pub cell-place : i < base .tasks * positions → base .tasks + base .links + i ≡ place valueWidths cellRegion i
+  pub cell-place : i < stateRoom .tasks * positions → stateRoom .tasks + stateRoom .links + i ≡ place valueWidths cellRegion i
   unfolding start
   cell-place l = rw (place-is valueWidths cellRegion i l) (omega arith)
 
@@ -102,6 +102,6 @@ module _ (i : ℕ) where
       value-none k k refl (omega arith)
 
 -- the cells are what follows the defaults and the start values
-pub cells-part : (v : List ℕ) → take (base .tasks * positions) (drop (base .tasks + base .links) v) ≡ cellsIn v
+pub cells-part : (v : List ℕ) → take (stateRoom .tasks * positions) (drop (stateRoom .tasks + stateRoom .links) v) ≡ cellsIn v
 unfolding regions
-cells-part v = ap (take (base .tasks * positions)) (sym (drop-drop (base .links) (base .tasks) v))
+cells-part v = ap (take (stateRoom .tasks * positions)) (sym (drop-drop (stateRoom .links) (stateRoom .tasks) v))

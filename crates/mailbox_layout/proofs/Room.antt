@@ -4,9 +4,9 @@ use mathlib.Core.Path.{_≡_}
 use mathlib.Core.List.{List}
 use Prim.Native.Nat.{ℕ, _≤_}
 use native.Mathlib.Nat.{min-eq-left}
-use Rattle.protocol_state.specs.Saved.{base}
+use Rattle.protocol_state.specs.Saved.{stateRoom}
 use Rattle.mailbox_layout.specs.Layout.{stateOf, viewOf}
 
 -- they are taken as they are
-pub view-within : (T L : ℕ) (c v : List ℕ) → T ≤ base .tasks → L ≤ base .links → viewOf T L c v ≡ stateOf T L c v
+pub view-within : (T L : ℕ) (c v : List ℕ) → T ≤ stateRoom .tasks → L ≤ stateRoom .links → viewOf T L c v ≡ stateOf T L c v
 view-within T L c v few less = rw (min-eq-left few, min-eq-left less)

@@ -8,7 +8,7 @@ use lib.Seq.{getD-append-seam}
 use Rattle.lists.specs.Lists.{upto}
 use Rattle.lists.proofs.Lists.{upto-more}
 use Rattle.protocol_state.specs.Records.{Task, defaultOf, Link, linkOf}
-use Rattle.protocol_state.specs.Saved.{Saved, base, at, positions, linkIn}
+use Rattle.protocol_state.specs.Saved.{Saved, stateRoom, at, positions, linkIn}
 use Rattle.protocol_state.specs.Fresh.{copied, column, freshOf}
 use Rattle.protocol_state.proofs.Records.{copied-same}
 use Rattle.protocol_state.proofs.Freshes.{fresh-link}
@@ -37,7 +37,7 @@ pub task-put : (ts : List Task) (d : Task) {t : ℕ} {rs rs′ : List (List ℕ)
     rs′ ≡ emptyValues (ts ++ (d ∷ []))
 task-put ts d {t} e n p =
     p ∙ ap (withNumber defaultRegion t (defaultOf d)) e ∙ ap (λ (i : ℕ). withNumber defaultRegion i (defaultOf d) (emptyValues ts)) n
-    ∙ ap (λ (ys : List ℕ). ys ∷ replicate {A = ℕ} (base .links) 0 ∷ replicate {A = ℕ} (base .tasks * positions) 0 ∷ []) (field-more (base .tasks) defaultOf ts d)
+    ∙ ap (λ (ys : List ℕ). ys ∷ replicate {A = ℕ} (stateRoom .links) 0 ∷ replicate {A = ℕ} (stateRoom .tasks * positions) 0 ∷ []) (field-more (stateRoom .tasks) defaultOf ts d)
 
 -- no task yet
 pub no-tasks : cutValues (replicate valueSize 0) ≡ emptyValues []
@@ -55,9 +55,9 @@ pub link-put : (ls : List Link) (k : Link) {l : ℕ} {rs rs′ : List (List ℕ)
 link-put ls k {l} e n p =
     p ∙ ap (λ (b : List (List ℕ)). linkPut b l k) e ∙ ap (λ (i : ℕ). linkPut (freshControl ls) i k) n
     ∙ rw (
-      field-more (base .links) (λ (k : Link). k .writer) ls k,
-      field-more (base .links) (λ (k : Link). k .reader) ls k,
-      field-more (base .links) (λ (k : Link). k .kind) ls k,
+      field-more (stateRoom .links) (λ (k : Link). k .writer) ls k,
+      field-more (stateRoom .links) (λ (k : Link). k .reader) ls k,
+      field-more (stateRoom .links) (λ (k : Link). k .kind) ls k,
     )
 
 -- and its start value
@@ -65,15 +65,15 @@ pub start-put : (ts : List Task) (ls : List Link) (k : Link) {l : ℕ} {rs rs′
     rs′ ≡ freshValues ts (ls ++ (k ∷ []))
 start-put ts ls k {l} e n p =
     p ∙ ap (λ (b : List (List ℕ)). startPut b l k) e ∙ ap (λ (i : ℕ). startPut (freshValues ts ls) i k) n
-    ∙ rw (field-more (base .links) (λ (k : Link). k .startValue) ls k)
+    ∙ rw (field-more (stateRoom .links) (λ (k : Link). k .startValue) ls k)
 
 -- so many tasks and links with these arrays are the fresh state
 pub fresh-state : (ts : List Task) (ls : List Link) (c v : List ℕ) {T L : ℕ} → T ≡ length ts → L ≡ length ls → cut c ≡ freshControl ls → cutValues v ≡ freshValues ts ls →
-    stateOf T L c v ≡ freshOf base ts ls
+    stateOf T L c v ≡ freshOf stateRoom ts ls
 unfolding freshOf
 fresh-state ts ls c v t l e f = λ i. fieldsOf (t i) (l i) (e i) (f i)
 
 -- whose link l is the one that was put
-pub link-held : (ts : List Task) (ls : List Link) (c v : List ℕ) → cut c ≡ freshControl ls → cutValues v ≡ freshValues ts ls → length ls ≤ base .links → (l : ℕ)
+pub link-held : (ts : List Task) (ls : List Link) (c v : List ℕ) → cut c ≡ freshControl ls → cutValues v ≡ freshValues ts ls → length ls ≤ stateRoom .links → (l : ℕ)
     → linkHeld c v l ≡ linkOf ls l
-link-held ts ls c v e f h l = ap (λ (q : Saved). linkIn q l) (fresh-state ts ls c v refl refl e f) ∙ fresh-link base ts ls h l
+link-held ts ls c v e f h l = ap (λ (q : Saved). linkIn q l) (fresh-state ts ls c v refl refl e f) ∙ fresh-link stateRoom ts ls h l

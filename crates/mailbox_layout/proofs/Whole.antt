@@ -5,7 +5,7 @@ use mathlib.Core.List.{List}
 use Prim.Native.Nat.{ℕ}
 use native.Mathlib.Omega.{arith}
 use lib.ListN.{length}
-use Rattle.protocol_state.specs.Saved.{Shape, base}
+use Rattle.protocol_state.specs.Saved.{Shape, stateRoom}
 use Rattle.regions.specs.Regions.{regions, region, width, start}
 use Rattle.regions.proofs.Regions.{regions-whole, region-full}
 use Rattle.mailbox_layout.proofs.Places.{control-extent, value-extent}
@@ -21,7 +21,7 @@ module _ (T L T′ L′ : ℕ) (c v c′ v′ : List ℕ) (e : stateOf T L c v �
   same-values = regions-whole valueWidths v v′ (omega (arith, f .values)) (omega (arith, f′ .values)) (ap valuesOf e)
 
 -- the parts of a state whose arrays have their lengths have theirs
-pub filled-shape : (T L : ℕ) (c v : List ℕ) → HasLengths c v → Shape base (stateOf T L c v)
+pub filled-shape : (T L : ℕ) (c v : List ℕ) → HasLengths c v → Shape stateRoom (stateOf T L c v)
 filled-shape T L c v f =
     let full : (k : ℕ) → length (region (cut c) k) ≡ width controlWidths k = region-full controlWidths c (f .control ∙ sym control-extent) in
     let filled : (k : ℕ) → length (region (cutValues v) k) ≡ width valueWidths k = region-full valueWidths v (f .values ∙ sym value-extent) in

@@ -5,7 +5,7 @@ use Prim.Native.Nat.{ℕ, _*_, _/_}
 use lib.ListN.{set, replicate}
 use Rattle.lists.specs.Lists.{upto}
 use Rattle.protocol_state.specs.Records.{Task, defaultOf, Link}
-use Rattle.protocol_state.specs.Saved.{base, at, positions}
+use Rattle.protocol_state.specs.Saved.{stateRoom, at, positions}
 use Rattle.protocol_state.specs.Fresh.{column, filled}
 use Rattle.regions.specs.Regions.{region}
 use Rattle.mailbox_layout.specs.Layout.{writerRegion, readerRegion, kindRegion, startValueRegion}
@@ -13,27 +13,27 @@ use Rattle.mailbox_layout.specs.Layout.{writerRegion, readerRegion, kind
 -- the control of a fresh state with the links ls, region by region: every task idle, newest and previous at 1, no arrivals; every pointer absent, no marks
 abbrev pub freshControl : List Link → List (List ℕ)
 freshControl ls =
-    replicate (base .tasks) 0
-    ∷ replicate (base .tasks) 1
-    ∷ replicate (base .tasks) 1
-    ∷ replicate (base .tasks) 0
-    ∷ replicate (base .links) 0
-    ∷ replicate (base .links) 0
-    ∷ column (base .links) (λ (k : Link). k .writer) ls
-    ∷ column (base .links) (λ (k : Link). k .reader) ls
-    ∷ column (base .links) (λ (k : Link). k .kind) ls
+    replicate (stateRoom .tasks) 0
+    ∷ replicate (stateRoom .tasks) 1
+    ∷ replicate (stateRoom .tasks) 1
+    ∷ replicate (stateRoom .tasks) 0
+    ∷ replicate (stateRoom .links) 0
+    ∷ replicate (stateRoom .links) 0
+    ∷ column (stateRoom .links) (λ (k : Link). k .writer) ls
+    ∷ column (stateRoom .links) (λ (k : Link). k .reader) ls
+    ∷ column (stateRoom .links) (λ (k : Link). k .kind) ls
     ∷ []
 
 -- the values of the tasks ts before a position is filled, and before any link
 abbrev pub emptyValues : List Task → List (List ℕ)
-emptyValues ts = column (base .tasks) defaultOf ts ∷ replicate (base .links) 0 ∷ replicate (base .tasks * positions) 0 ∷ []
+emptyValues ts = column (stateRoom .tasks) defaultOf ts ∷ replicate (stateRoom .links) 0 ∷ replicate (stateRoom .tasks * positions) 0 ∷ []
 
 -- and those of a fresh state with the links ls: each position of a task holds its default
 abbrev pub freshValues : List Task → List Link → List (List ℕ)
 freshValues ts ls =
-    column (base .tasks) defaultOf ts
-    ∷ column (base .links) (λ (k : Link). k .startValue) ls
-    ∷ filled (base .tasks) (column (base .tasks) defaultOf ts)
+    column (stateRoom .tasks) defaultOf ts
+    ∷ column (stateRoom .links) (λ (k : Link). k .startValue) ls
+    ∷ filled (stateRoom .tasks) (column (stateRoom .tasks) defaultOf ts)
     ∷ []
 
 -- with the number x at place l of region k
@@ -50,4 +50,4 @@ startPut rs l k = withNumber startValueRegion l (k .startValue) rs
 
 -- the cells C with each position of a task holding its default D
 abbrev pub eachDefault : List ℕ → List ℕ → List ℕ
-eachDefault D C = upto (λ i x. at D (i / positions)) (base .tasks * positions) C
+eachDefault D C = upto (λ i x. at D (i / positions)) (stateRoom .tasks * positions) C

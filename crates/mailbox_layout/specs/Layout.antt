@@ -5,7 +5,7 @@ use mathlib.Core.List.{List, [], _∷_, _++_}
 use Prim.Native.Nat.{ℕ, _+_, _*_, min}
 use lib.ListN.{length, replicate}
 use Rattle.protocol_state.specs.Records.{Link, linkFrom}
-use Rattle.protocol_state.specs.Saved.{Saved, base, positions}
+use Rattle.protocol_state.specs.Saved.{Saved, stateRoom, positions}
 use Rattle.regions.specs.Regions.{regions, region}
 
 -- so many regions of the control are by task: phase, newest, previous, seen
@@ -17,18 +17,18 @@ abbrev pub byLink : ℕ
 byLink = 5
 
 abbrev pub controlWidths : List ℕ
-controlWidths = replicate byTask (base .tasks) ++ (replicate byLink (base .links) ++ [])
+controlWidths = replicate byTask (stateRoom .tasks) ++ (replicate byLink (stateRoom .links) ++ [])
 
 -- the values: by task default; by link start value; the cells
 abbrev pub valueWidths : List ℕ
-valueWidths = base .tasks ∷ base .links ∷ base .tasks * positions ∷ []
+valueWidths = stateRoom .tasks ∷ stateRoom .links ∷ stateRoom .tasks * positions ∷ []
 
 -- how many bytes and numbers these are
 abbrev pub controlSize : ℕ
-controlSize = byTask * base .tasks + byLink * base .links
+controlSize = byTask * stateRoom .tasks + byLink * stateRoom .links
 
 abbrev pub valueSize : ℕ
-valueSize = base .tasks + base .links + base .tasks * positions
+valueSize = stateRoom .tasks + stateRoom .links + stateRoom .tasks * positions
 
 -- the number of each region: of the control
 abbrev pub phaseRegion : ℕ
@@ -146,7 +146,7 @@ stateOf T L c v = fieldsOf T L (cut c) (cutValues v)
 
 -- the same, where counts above the room are taken as the room
 abbrev pub viewOf : ℕ → ℕ → List ℕ → List ℕ → Saved
-viewOf T L c v = stateOf (min T (base .tasks)) (min L (base .links)) c v
+viewOf T L c v = stateOf (min T (stateRoom .tasks)) (min L (stateRoom .links)) c v
 
 -- arrays of a state have these lengths: an array's length is its type
 pub record HasLengths (c v : List ℕ) : Type 0 where

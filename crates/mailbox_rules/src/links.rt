@@ -5,7 +5,7 @@ ghost use Prim.Native.Nat.{_≤_, min};
 ghost use lib.Dec.{eqb, ltb};
 ghost use Rattle.lists.specs.Lists.{some};
 ghost use Rattle.protocol.specs.Table.{behinds};
-ghost use Rattle.protocol_state.specs.Saved.{at, base};
+ghost use Rattle.protocol_state.specs.Saved.{at, stateRoom};
 ghost use Rattle.protocol_state.specs.Records.{earlier};
 ghost use Rattle.mailbox_layout.specs.Layout.{writerIn, readerIn};
 use lists::few;
@@ -25,7 +25,7 @@ fn is_pair(w0: u8, r0: u8, w: u8, r: u8) -> bool
 
 // Whether one of the first `n` links goes from `w` to `r`.
 pub fn has_pair(control: &[u8; CONTROL], n: usize, w: u8, r: u8) -> bool
-    ensures { λ res. ⌜ res ≡ some (λ j. eqb (at (writerIn (now (control .entry))) j) w && eqb (at (readerIn (now (control .entry))) j) r) (min n (base .links)) ⌝ }
+    ensures { λ res. ⌜ res ≡ some (λ j. eqb (at (writerIn (now (control .entry))) j) w && eqb (at (readerIn (now (control .entry))) j) r) (min n (stateRoom .links)) ⌝ }
 {
     let end = few(n, LINKS);
     let mut found = false;
@@ -52,7 +52,7 @@ fn is_behind(w: u8, r: u8, t: usize) -> bool
 
 // N: how many of the first `n` links are task `t`'s to readers behind.
 pub fn readers_behind(control: &[u8; CONTROL], n: usize, t: usize) -> usize
-    ensures { λ r. ⌜ (r ≡ behinds earlier (at (writerIn (now (control .entry)))) (at (readerIn (now (control .entry)))) t (min n (base .links))) × (r ≤ base .links) ⌝ }
+    ensures { λ r. ⌜ (r ≡ behinds earlier (at (writerIn (now (control .entry)))) (at (readerIn (now (control .entry)))) t (min n (stateRoom .links))) × (r ≤ stateRoom .links) ⌝ }
 {
     let end = few(n, LINKS);
     let mut c = 0;

@@ -5,7 +5,7 @@ ghost use mathlib.Core.List.{List};
 ghost use Prim.Native.Nat.{ℕ, _≤_, _<_, min};
 ghost use lib.Dec.{eqb};
 ghost use Rattle.lists.specs.Lists.{leading};
-ghost use Rattle.protocol_state.specs.Saved.{base};
+ghost use Rattle.protocol_state.specs.Saved.{stateRoom};
 ghost use Rattle.mailbox_layout.specs.Layout.{linkHeld};
 ghost use Rattle.protocol_state.specs.Rules.{faultOf, faultAfter, fault, judgedTable};
 ghost use Rattle.protocol_state.specs.Records.{earlier};
@@ -48,7 +48,7 @@ pub fn fault_after(
     k: u8,
     v: u32,
 ) -> u8
-    ensures { λ res. ⌜ ((b : List ℕ) → res ≡ faultAfter earlier tasks (linkHeld (now (control .entry)) b) (min n (base .links)) (record { writer = w; reader = r; kind = k; startValue = v })) ⌝ }
+    ensures { λ res. ⌜ ((b : List ℕ) → res ≡ faultAfter earlier tasks (linkHeld (now (control .entry)) b) (min n (stateRoom .links)) (record { writer = w; reader = r; kind = k; startValue = v })) ⌝ }
 {
     let twice = has_pair(control, n, w, r);
     let behind = readers_behind(control, n, w as usize);
@@ -57,7 +57,7 @@ pub fn fault_after(
 
 // The refusal that link `l` earns, 0 for none.
 fn fault_at(tasks: usize, control: &[u8; CONTROL], values: &[u32; VALUES], l: usize) -> u8
-    requires { ⌜ l < base .links ⌝ }
+    requires { ⌜ l < stateRoom .links ⌝ }
     ensures { λ r. ⌜ r ≡ fault earlier tasks (linkHeld (now (control .entry)) (now (values .entry))) l ⌝ }
 {
     fault_after(
@@ -79,7 +79,7 @@ fn fault_or(
     values: &[u32; VALUES],
     l: usize,
 ) -> u8
-    requires { ⌜ l < base .links ⌝ }
+    requires { ⌜ l < stateRoom .links ⌝ }
     ensures { λ r. ⌜ r ≡ cond (eqb before 0) (fault earlier tasks (linkHeld (now (control .entry)) (now (values .entry))) l) before ⌝ }
 {
     pick(before == 0, fault_at(tasks, control, values, l), before)
@@ -87,7 +87,7 @@ fn fault_or(
 
 // The refusal of the first link at fault, 0 for none.
 fn first_fault(tasks: usize, links: usize, control: &[u8; CONTROL], values: &[u32; VALUES]) -> u8
-    requires { ⌜ links ≤ base .links ⌝ }
+    requires { ⌜ links ≤ stateRoom .links ⌝ }
     ensures { λ r. ⌜ r ≡ leading (fault earlier tasks (linkHeld (now (control .entry)) (now (values .entry)))) links ⌝ }
 {
     let mut found: u8 = 0;
@@ -106,7 +106,7 @@ pub fn judge_table(
     control: &[u8; CONTROL],
     values: &[u32; VALUES],
 ) -> u8
-    ensures { λ r. ⌜ r ≡ judgedTable earlier tasks (linkHeld (now (control .entry)) (now (values .entry))) base links ⌝ }
+    ensures { λ r. ⌜ r ≡ judgedTable earlier tasks (linkHeld (now (control .entry)) (now (values .entry))) stateRoom links ⌝ }
 {
     if (tasks == 0) | (TASKS < tasks) {
         return 2;

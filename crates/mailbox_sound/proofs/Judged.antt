@@ -6,16 +6,16 @@ use Prim.Native.Nat.{ℕ}
 use borrow.Author.Tests.{eq-eqb, ne-eqb}
 use Rattle.lists.specs.Lists.{every}
 use Rattle.protocol_state.specs.Records.{earlier}
-use Rattle.protocol_state.specs.Saved.{Saved, base, linkIn}
+use Rattle.protocol_state.specs.Saved.{Saved, stateRoom, linkIn}
 use Rattle.protocol_state.specs.Rules.{judgedTable}
 use Rattle.protocol_state.specs.Sound.{taskStands, linkStands, isSound}
 
 -- k is what its table is judged
-module _ (q : Saved) {k : ℕ} (e : k ≡ judgedTable earlier (q .tasks) (linkIn q) base (q .links)) where
-  pub unsound : (k ≡ 0 → ⊥) → false ≡ isSound earlier base q
+module _ (q : Saved) {k : ℕ} (e : k ≡ judgedTable earlier (q .tasks) (linkIn q) stateRoom (q .links)) where
+  pub unsound : (k ≡ 0 → ⊥) → false ≡ isSound earlier stateRoom q
   unfolding isSound
   unsound ne = rw (ne-eqb _ 0 (λ z. ne (e ∙ z)))
 
-  pub sound : {a b : Bool} → k ≡ 0 → a ≡ every (taskStands earlier q) (q .tasks) → b ≡ every (linkStands earlier q) (q .links) → (a && b) ≡ isSound earlier base q
+  pub sound : {a b : Bool} → k ≡ 0 → a ≡ every (taskStands earlier q) (q .tasks) → b ≡ every (linkStands earlier q) (q .links) → (a && b) ≡ isSound earlier stateRoom q
   unfolding isSound
   sound z ea eb = rw (eq-eqb _ 0 (sym e ∙ z), ea, eb)

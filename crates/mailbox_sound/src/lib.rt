@@ -4,7 +4,7 @@ ghost use mathlib.Core.Bool.{cond};
 ghost use mathlib.Core.List.{List};
 ghost use Prim.Native.Nat.{ℕ, _≤_};
 ghost use Rattle.lists.specs.Lists.{every};
-ghost use Rattle.protocol_state.specs.Saved.{base};
+ghost use Rattle.protocol_state.specs.Saved.{stateRoom};
 ghost use Rattle.protocol_state.specs.Sound.{within, taskIs, seenIs, markIs, taskOk, pointerIs, pointerOk, markOk, taskStands, linkStands, isSound};
 ghost use Rattle.protocol_state.specs.Records.{earlier};
 ghost use Rattle.mailbox_layout.specs.Layout.{stateOf};
@@ -25,7 +25,7 @@ use mailbox_rules::table::judge_table;
 
 // Whether `y` is one of a task's positions, 1 to `n` + 2.
 fn is_within(n: usize, y: u8) -> bool
-    requires { ⌜ n ≤ base .links ⌝ }
+    requires { ⌜ n ≤ stateRoom .links ⌝ }
     ensures { λ r. ⌜ r ≡ within n y ⌝ }
 {
     (1 <= y) & (y as usize <= n + 2)
@@ -33,7 +33,7 @@ fn is_within(n: usize, y: u8) -> bool
 
 // Whether a task with `n` links to readers behind may have this phase and these positions.
 fn task_is(phase: u8, newest: u8, previous: u8, n: usize) -> bool
-    requires { ⌜ n ≤ base .links ⌝ }
+    requires { ⌜ n ≤ stateRoom .links ⌝ }
     ensures { λ r. ⌜ r ≡ taskIs phase newest previous n ⌝ }
 {
     (phase < 3) & (is_within(n, newest) & is_within(n, previous))
@@ -48,7 +48,7 @@ fn seen_is(phase: u8, seen: u8) -> bool
 
 // Whether task `t` has a phase and positions that it may have: its links to readers behind are counted.
 fn task_ok(links: usize, control: &[u8; CONTROL], t: usize) -> bool
-    requires { ⌜ links ≤ base .links ⌝ }
+    requires { ⌜ links ≤ stateRoom .links ⌝ }
     ensures { λ r. ⌜ ((T : ℕ) (v : List ℕ) → r ≡ taskOk earlier (stateOf T links (now (control .entry)) v) t) ⌝ }
 {
     let n = readers_behind(control, links, t);
@@ -62,7 +62,7 @@ fn task_ok(links: usize, control: &[u8; CONTROL], t: usize) -> bool
 
 // Whether task `t` is as it may be.
 fn task_stands(links: usize, control: &[u8; CONTROL], t: usize) -> bool
-    requires { ⌜ links ≤ base .links ⌝ }
+    requires { ⌜ links ≤ stateRoom .links ⌝ }
     ensures { λ r. ⌜ ((T : ℕ) (v : List ℕ) → r ≡ taskStands earlier (stateOf T links (now (control .entry)) v) t) ⌝ }
 {
     let seen_stands = seen_is(control_at(control, PHASE, t), control_at(control, SEEN, t));
@@ -71,7 +71,7 @@ fn task_stands(links: usize, control: &[u8; CONTROL], t: usize) -> bool
 
 // Whether each task is as it may be.
 fn tasks_stand(tasks: usize, links: usize, control: &[u8; CONTROL]) -> bool
-    requires { ⌜ links ≤ base .links ⌝ }
+    requires { ⌜ links ≤ stateRoom .links ⌝ }
     ensures { λ r. ⌜ ((T : ℕ) (v : List ℕ) → r ≡ every (taskStands earlier (stateOf T links (now (control .entry)) v)) tasks) ⌝ }
 {
     let mut ok = true;
@@ -93,7 +93,7 @@ fn pick_test(b: bool, x: bool, y: bool) -> bool
 // Whether a link from `w` to `r` may have the pointer `y`, where the reader has this phase and the writer `n` links to readers behind:
 // present where the reader is active, absent where it is idle and the writer ahead of it.
 fn pointer_is(w: u8, r: u8, y: u8, phase: u8, n: usize) -> bool
-    requires { ⌜ n ≤ base .links ⌝ }
+    requires { ⌜ n ≤ stateRoom .links ⌝ }
     ensures { λ res. ⌜ res ≡ pointerIs earlier w r y phase n ⌝ }
 {
     (y as usize <= n + 2) & pick_test(phase == 0, !(w < r) | (y == 0), 1 <= y)
@@ -101,7 +101,7 @@ fn pointer_is(w: u8, r: u8, y: u8, phase: u8, n: usize) -> bool
 
 // Whether link `l` has a pointer that it may have: its reader's phase is looked up, its writer's links are counted.
 fn pointer_ok(links: usize, control: &[u8; CONTROL], l: usize) -> bool
-    requires { ⌜ links ≤ base .links ⌝ }
+    requires { ⌜ links ≤ stateRoom .links ⌝ }
     ensures { λ r. ⌜ ((T : ℕ) (v : List ℕ) → r ≡ pointerOk earlier (stateOf T links (now (control .entry)) v) l) ⌝ }
 {
     let w = control_at(control, WRITER, l);
@@ -139,7 +139,7 @@ fn mark_ok(control: &[u8; CONTROL], l: usize) -> bool
 
 // Whether link `l` is as it may be.
 fn link_stands(links: usize, control: &[u8; CONTROL], l: usize) -> bool
-    requires { ⌜ links ≤ base .links ⌝ }
+    requires { ⌜ links ≤ stateRoom .links ⌝ }
     ensures { λ r. ⌜ ((T : ℕ) (v : List ℕ) → r ≡ linkStands earlier (stateOf T links (now (control .entry)) v) l) ⌝ }
 {
     let mark_stands = mark_ok(control, l);
@@ -148,7 +148,7 @@ fn link_stands(links: usize, control: &[u8; CONTROL], l: usize) -> bool
 
 // Whether each link is as it may be.
 fn links_stand(links: usize, control: &[u8; CONTROL]) -> bool
-    requires { ⌜ links ≤ base .links ⌝ }
+    requires { ⌜ links ≤ stateRoom .links ⌝ }
     ensures { λ r. ⌜ ((T : ℕ) (v : List ℕ) → r ≡ every (linkStands earlier (stateOf T links (now (control .entry)) v)) links) ⌝ }
 {
     let mut ok = true;
@@ -162,7 +162,7 @@ fn links_stand(links: usize, control: &[u8; CONTROL]) -> bool
 
 // Whether a state is sound: its table keeps the rules, and each task and each link is as it may be.
 pub fn is_sound(tasks: usize, links: usize, control: &[u8; CONTROL], values: &[u32; VALUES]) -> bool
-    ensures { λ r. ⌜ r ≡ isSound earlier base (stateOf tasks links (now (control .entry)) (now (values .entry))) ⌝ }
+    ensures { λ r. ⌜ r ≡ isSound earlier stateRoom (stateOf tasks links (now (control .entry)) (now (values .entry))) ⌝ }
 {
     let refusal = judge_table(tasks, links, control, values);
     if refusal != 0 {

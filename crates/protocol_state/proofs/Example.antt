@@ -11,7 +11,7 @@ use Rattle.protocol.specs.ZeroTime.{dues, ideals}
 use Rattle.protocol.specs.Instant.{ask, readLinks, runWhole, work, come, carried, upward, sets, zeroRun, find, looked, theres}
 use Rattle.protocol.proofs.StartExample.{eight}
 use Rattle.protocol_state.specs.Records.{Link, earlier}
-use Rattle.protocol_state.specs.Saved.{Saved, base, at, table}
+use Rattle.protocol_state.specs.Saved.{Saved, stateRoom, at, table}
 use Rattle.protocol_state.specs.Rules.{fault, judgedTable}
 use Rattle.protocol_state.specs.Decision.{decided}
 use Rattle.protocol_state.specs.Judge.{judgedArrival, judgedTask, judgedRead}
@@ -22,7 +22,7 @@ use Rattle.protocol_state.specs.Give.{Progress, settled, begin, afterEve
 
 -- four tasks with defaults 0, 100, 0, 0; links 1 to 0 delayed with start value 90, 1 to 2 direct, 1 to 3 direct
 abbrev station : Saved
-station = freshOf base (0 ∷ 100 ∷ 0 ∷ 0 ∷ []) (link 1 0 1 90 ∷ link 1 2 0 0 ∷ link 1 3 0 0 ∷ [])
+station = freshOf stateRoom (0 ∷ 100 ∷ 0 ∷ 0 ∷ []) (link 1 0 1 90 ∷ link 1 2 0 0 ∷ link 1 3 0 0 ∷ [])
   where
     link : ℕ → ℕ → ℕ → ℕ → Link
     link w r k v = record { writer = w; reader = r; kind = k; startValue = v }
@@ -41,16 +41,16 @@ abbrev last-part : List (Event ℕ)
 last-part = start 0 ∷ read 0 ∷ finish 0 0 ∷ start 1 ∷ finish 1 103 ∷ read 2 ∷ finish 3 0 ∷ arrival 9 ∷ start 0 ∷ read 0 ∷ finish 0 0 ∷ start 3 ∷ read 2 ∷ finish 3 0 ∷ []
 
 abbrev one : Progress
-one = replay earlier base (begin station) first-part
+one = replay earlier stateRoom (begin station) first-part
 
 abbrev two : Progress
-two = replay earlier base one second-part
+two = replay earlier stateRoom one second-part
 
 abbrev three : Progress
-three = replay earlier base two third-part
+three = replay earlier stateRoom two third-part
 
 abbrev all : Progress
-all = replay earlier base three last-part
+all = replay earlier stateRoom three last-part
 
 abbrev newest-of-1 : Progress → ℕ
 newest-of-1 o = at (o .state .newest) 1

@@ -16,8 +16,8 @@ pub record Size : Type 0 where
   pub links : ℕ
 
 -- the room of a state: "T goes to 32, L to 96"
-abbrev pub base : Size
-base = record { tasks = 32; links = 96 }
+abbrev pub stateRoom : Size
+stateRoom = record { tasks = 32; links = 96 }
 
 -- N is at most 8, so a task has at most 10 positions
 abbrev pub positions : ℕ

@@ -7,7 +7,7 @@ use Prim.Native.Nat.{ℕ, _-_, _*_}
 use lib.ListN.{length, replicate}
 use Rattle.lists.specs.Lists.{upto, every, some, count, first, leading}
 use Rattle.protocol.specs.Event.{Event, arrival, start, read, finish, has}
-use Rattle.protocol_state.specs.Saved.{Saved, base, positions}
+use Rattle.protocol_state.specs.Saved.{Saved, stateRoom, positions}
 use Rattle.protocol_state.specs.Decision.{decided}
 use Rattle.protocol_state.specs.Judge.{judgedArrival, judgedTask, judgedRead}
 use Rattle.protocol_state.specs.Next.{newestAfter, previousAfter, seenAfter, pointerAfter, markAfter, phaseAfter}
@@ -29,7 +29,7 @@ filledUp n x xs = xs ++ replicate (n - length xs) x
 
 -- the answer to these bytes, with room for eight numbers, each 7 at first
 abbrev answer : List ℕ → Verdict Playing
-answer s = recording (kindIn s) (coreOf base (replicate 8 7)) s
+answer s = recording (kindIn s) (coreOf stateRoom (replicate 8 7)) s
 
 -- refusal r, 0 for none, at p, with this state and these counts: arrivals, starts, reads and finishes; and with these numbers read
 abbrev replied : ℕ → ℕ → Saved → ℕ → ℕ → ℕ → ℕ → List ℕ → Verdict Playing
@@ -52,18 +52,18 @@ abbrev fresh : ℕ → ℕ → List ℕ → List ℕ → List ℕ → Saved
 fresh T L W R K = record {
   tasks = T;
   links = L;
-  defaults = replicate (base .tasks) 0;
-  phase = replicate (base .tasks) 0;
-  newest = replicate (base .tasks) 1;
-  previous = replicate (base .tasks) 1;
-  seen = replicate (base .tasks) 0;
-  cells = replicate (base .tasks * positions) 0;
-  writer = filledUp (base .links) 0 W;
-  reader = filledUp (base .links) 0 R;
-  kind = filledUp (base .links) 0 K;
-  startValue = replicate (base .links) 0;
-  pointer = replicate (base .links) 0;
-  mark = replicate (base .links) 0;
+  defaults = replicate (stateRoom .tasks) 0;
+  phase = replicate (stateRoom .tasks) 0;
+  newest = replicate (stateRoom .tasks) 1;
+  previous = replicate (stateRoom .tasks) 1;
+  seen = replicate (stateRoom .tasks) 0;
+  cells = replicate (stateRoom .tasks * positions) 0;
+  writer = filledUp (stateRoom .links) 0 W;
+  reader = filledUp (stateRoom .links) 0 R;
+  kind = filledUp (stateRoom .links) 0 K;
+  startValue = replicate (stateRoom .links) 0;
+  pointer = replicate (stateRoom .links) 0;
+  mark = replicate (stateRoom .links) 0;
 }
 
 -- a single task with no links: the state at a refusal before the events
@@ -90,18 +90,18 @@ abbrev station : List ℕ → List ℕ → List ℕ → List ℕ → List ℕ �
 station ph n p a c x m = record {
   tasks = 4;
   links = 3;
-  defaults = filledUp (base .tasks) 0 (0 ∷ 100 ∷ []);
-  phase = filledUp (base .tasks) 0 ph;
-  newest = filledUp (base .tasks) 1 n;
-  previous = filledUp (base .tasks) 1 p;
-  seen = filledUp (base .tasks) 0 a;
-  cells = filledUp (base .tasks * positions) 0 (replicate positions 0 ++ filledUp positions 100 c);
-  writer = filledUp (base .links) 0 (1 ∷ 1 ∷ 1 ∷ []);
-  reader = filledUp (base .links) 0 (0 ∷ 2 ∷ 3 ∷ []);
-  kind = filledUp (base .links) 0 (1 ∷ []);
-  startValue = filledUp (base .links) 0 (90 ∷ []);
-  pointer = filledUp (base .links) 0 x;
-  mark = filledUp (base .links) 0 m;
+  defaults = filledUp (stateRoom .tasks) 0 (0 ∷ 100 ∷ []);
+  phase = filledUp (stateRoom .tasks) 0 ph;
+  newest = filledUp (stateRoom .tasks) 1 n;
+  previous = filledUp (stateRoom .tasks) 1 p;
+  seen = filledUp (stateRoom .tasks) 0 a;
+  cells = filledUp (stateRoom .tasks * positions) 0 (replicate positions 0 ++ filledUp positions 100 c);
+  writer = filledUp (stateRoom .links) 0 (1 ∷ 1 ∷ 1 ∷ []);
+  reader = filledUp (stateRoom .links) 0 (0 ∷ 2 ∷ 3 ∷ []);
+  kind = filledUp (stateRoom .links) 0 (1 ∷ []);
+  startValue = filledUp (stateRoom .links) 0 (90 ∷ []);
+  pointer = filledUp (stateRoom .links) 0 x;
+  mark = filledUp (stateRoom .links) 0 m;
 }
 
 -- after the first arrival, with these phases: the delayed link has settled on its start value
@@ -136,18 +136,18 @@ abbrev filtered : Saved
 filtered = record {
   tasks = 1;
   links = 1;
-  defaults = replicate (base .tasks) 0;
-  phase = replicate (base .tasks) 0;
-  newest = replicate (base .tasks) 1;
-  previous = filledUp (base .tasks) 1 (2 ∷ []);
-  seen = filledUp (base .tasks) 0 (2 ∷ []);
-  cells = filledUp (base .tasks * positions) 0 (42 ∷ 41 ∷ []);
-  writer = replicate (base .links) 0;
-  reader = replicate (base .links) 0;
-  kind = filledUp (base .links) 0 (1 ∷ []);
-  startValue = filledUp (base .links) 0 (40 ∷ []);
-  pointer = filledUp (base .links) 0 (2 ∷ []);
-  mark = replicate (base .links) 0;
+  defaults = replicate (stateRoom .tasks) 0;
+  phase = replicate (stateRoom .tasks) 0;
+  newest = replicate (stateRoom .tasks) 1;
+  previous = filledUp (stateRoom .tasks) 1 (2 ∷ []);
+  seen = filledUp (stateRoom .tasks) 0 (2 ∷ []);
+  cells = filledUp (stateRoom .tasks * positions) 0 (42 ∷ 41 ∷ []);
+  writer = replicate (stateRoom .links) 0;
+  reader = replicate (stateRoom .links) 0;
+  kind = filledUp (stateRoom .links) 0 (1 ∷ []);
+  startValue = filledUp (stateRoom .links) 0 (40 ∷ []);
+  pointer = filledUp (stateRoom .links) 0 (2 ∷ []);
+  mark = replicate (stateRoom .links) 0;
 }
 
 -- one task, no links, no events
@@ -170,18 +170,18 @@ abbrev lastArrived : ℕ → Saved
 lastArrived T = record {
   tasks = T;
   links = 0;
-  defaults = replicate (base .tasks) 0;
-  phase = filledUp (base .tasks) 0 (replicate (T - 1) 0 ++ (1 ∷ []));
-  newest = filledUp (base .tasks) 1 (replicate (T - 1) 1 ++ (2 ∷ []));
-  previous = replicate (base .tasks) 1;
-  seen = filledUp (base .tasks) 0 (replicate (T - 1) 0 ++ (1 ∷ []));
-  cells = replicate (base .tasks * positions) 0;
-  writer = replicate (base .links) 0;
-  reader = replicate (base .links) 0;
-  kind = replicate (base .links) 0;
-  startValue = replicate (base .links) 0;
-  pointer = replicate (base .links) 0;
-  mark = replicate (base .links) 0;
+  defaults = replicate (stateRoom .tasks) 0;
+  phase = filledUp (stateRoom .tasks) 0 (replicate (T - 1) 0 ++ (1 ∷ []));
+  newest = filledUp (stateRoom .tasks) 1 (replicate (T - 1) 1 ++ (2 ∷ []));
+  previous = replicate (stateRoom .tasks) 1;
+  seen = filledUp (stateRoom .tasks) 0 (replicate (T - 1) 0 ++ (1 ∷ []));
+  cells = replicate (stateRoom .tasks * positions) 0;
+  writer = replicate (stateRoom .links) 0;
+  reader = replicate (stateRoom .links) 0;
+  kind = replicate (stateRoom .links) 0;
+  startValue = replicate (stateRoom .links) 0;
+  pointer = replicate (stateRoom .links) 0;
+  mark = replicate (stateRoom .links) 0;
 }
 
 abbrev cases : List (List ℕ)

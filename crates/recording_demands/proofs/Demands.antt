@@ -8,7 +8,7 @@ use native.Mathlib.Omega.{arith}
 use lib.ListN.{length, take, drop}
 use lib.Seq.{drop-length}
 use Rattle.protocol.specs.Event.{Event}
-use Rattle.protocol_state.specs.Saved.{base}
+use Rattle.protocol_state.specs.Saved.{stateRoom}
 use Rattle.byte_format.specs.Play.{Verdict, verdict, Cut}
 use Rattle.recording_format.specs.Link.{Link}
 use Rattle.recording_format.specs.Event.{events}
@@ -30,26 +30,26 @@ use Rattle.recording_demands.specs.Ensured.{Replays}
 
 module _ {s out list : List ℕ} {a : Answer} (said : Replays s out a list) where
   -- where the first fault lies, or that there is none
-  pub answered : RecordingOutcome (kindIn s) (coreOf base out) s (replied a list)
+  pub answered : RecordingOutcome (kindIn s) (coreOf stateRoom out) s (replied a list)
   answered =
-      subst (λ (x : Verdict Playing). RecordingOutcome (kindIn s) (coreOf base out) s x) (sym (said .answer)) (recording-outcome (kindIn s) (coreOf base out) s (said .bytes))
+      subst (λ (x : Verdict Playing). RecordingOutcome (kindIn s) (coreOf stateRoom out) s x) (sym (said .answer)) (recording-outcome (kindIn s) (coreOf stateRoom out) s (said .bytes))
 
   -- and no other answer has the first fault of these bytes
-  pub only-answer : {x : Verdict Playing} → RecordingOutcome (kindIn s) (coreOf base out) s x → x ≡ replied a list
-  only-answer o = outcome-is (kindIn s) (coreOf base out) s o ∙ sym (said .answer)
+  pub only-answer : {x : Verdict Playing} → RecordingOutcome (kindIn s) (coreOf stateRoom out) s x → x ≡ replied a list
+  only-answer o = outcome-is (kindIn s) (coreOf stateRoom out) s o ∙ sym (said .answer)
 
   -- accepted only if there are a table, links and events whose encoding the bytes are, and so on
-  pub accepted-only : a .refusal ≡ 0 → (ds : List ℕ) × ((ls : List Link) × ((es : List (Event ℕ)) × CoreGenuine (kindIn s) base s out ds ls es))
-  accepted-only z = accepted-genuine (kindIn s) base (kind-room (wideIn s)) out s (said .bytes) (sym (ap (λ (x : Verdict Playing). x .refusal) (said .answer)) ∙ z)
+  pub accepted-only : a .refusal ≡ 0 → (ds : List ℕ) × ((ls : List Link) × ((es : List (Event ℕ)) × CoreGenuine (kindIn s) stateRoom s out ds ls es))
+  accepted-only z = accepted-genuine (kindIn s) stateRoom (kind-room (wideIn s)) out s (said .bytes) (sym (ap (λ (x : Verdict Playing). x .refusal) (said .answer)) ∙ z)
 
   module _ (wide : Bool) where
     -- the answer by a kind whose first byte the bytes have
-    pub answer-by : wideIn s ≡ wide → replied a list ≡ recording (eitherKind wide) (coreOf base out) s
-    answer-by e = said .answer ∙ ap (λ (w : Bool). recording (eitherKind w) (coreOf base out) s) e
+    pub answer-by : wideIn s ≡ wide → replied a list ≡ recording (eitherKind wide) (coreOf stateRoom out) s
+    answer-by e = said .answer ∙ ap (λ (w : Bool). recording (eitherKind w) (coreOf stateRoom out) s) e
 
-    module _ {ds : List ℕ} {ls : List Link} {es : List (Event ℕ)} (g : CoreGenuine (eitherKind wide) base s out ds ls es) where
-      genuine : (q : Playing) × (recording (eitherKind wide) (coreOf base out) s ≡ verdict 0 (length s) q) × Right base (freshOf base ds ls) out (past [] es) q
-      genuine = genuine-accepted (eitherKind wide) base (kind-room wide) out (kind-counts wide) g
+    module _ {ds : List ℕ} {ls : List Link} {es : List (Event ℕ)} (g : CoreGenuine (eitherKind wide) stateRoom s out ds ls es) where
+      genuine : (q : Playing) × (recording (eitherKind wide) (coreOf stateRoom out) s ≡ verdict 0 (length s) q) × Right stateRoom (freshOf stateRoom ds ls) out (past [] es) q
+      genuine = genuine-accepted (eitherKind wide) stateRoom (kind-room wide) out (kind-counts wide) g
 
       answer-is : replied a list ≡ verdict 0 (length s) (genuine .0)
       answer-is = answer-by (ap wideIn (g .bytes) ∙ kind-said wide) ∙ genuine .1
@@ -63,7 +63,7 @@ module _ {s out list : List ℕ} {a : Answer} (said : Replays s out a list) wher
       accepted-rest = ap (λ (n : ℕ). drop n s) (accepted-all .1) ∙ drop-length s
 
 -- the power cut: of a recording that is accepted only the first m bytes are kept, at least through E
-module _ (wide : Bool) {s out list ds : List ℕ} {ls : List Link} {es : List (Event ℕ)} {a : Answer} (g : CoreGenuine (eitherKind wide) base s out ds ls es) (m : ℕ)
+module _ (wide : Bool) {s out list ds : List ℕ} {ls : List Link} {es : List (Event ℕ)} {a : Answer} (g : CoreGenuine (eitherKind wide) stateRoom s out ds ls es) (m : ℕ)
     (said : Replays (take m s) out a list) where
   module _ (through : throughE (eitherKind wide) ds ls ≤ m) (lost : m < length s) where
     -- the first byte is among them
@@ -71,13 +71,13 @@ module _ (wide : Bool) {s out list ds : List ℕ} {ls : List Link} {es : List (E
     still-said = ap (λ (b : List ℕ). wideIn (take m b)) (g .bytes) ∙ kind-said-cut wide _ m (omega (arith, through))
 
     -- 1 at the first record that isn't whole, and the state, the counts and the list after the whole records
-    pub after-cut : Cut (events (eitherKind wide)) steppedIn (coreOf base out .start ds ls) es (throughE (eitherKind wide) ds ls) m (replied a list)
+    pub after-cut : Cut (events (eitherKind wide)) steppedIn (coreOf stateRoom out .start ds ls) es (throughE (eitherKind wide) ds ls) m (replied a list)
     after-cut =
-        subst (λ (x : Verdict Playing). Cut (events (eitherKind wide)) steppedIn (coreOf base out .start ds ls) es (throughE (eitherKind wide) ds ls) m x) (sym (answer-by said wide still-said))
-        (power-cut (eitherKind wide) base (kind-room wide) out (kind-counts wide) g m through lost)
+        subst (λ (x : Verdict Playing). Cut (events (eitherKind wide)) steppedIn (coreOf stateRoom out .start ds ls) es (throughE (eitherKind wide) ds ls) m x) (sym (answer-by said wide still-said))
+        (power-cut (eitherKind wide) stateRoom (kind-room wide) out (kind-counts wide) g m through lost)
 
     -- "The answer is that of its whole records (state, counts, list)": of a replay of those records alone, with 1 in place of 0
     pub as-whole :
         {b : Answer} {after : List ℕ} → Replays (encodeRecording (eitherKind wide) ds ls (after-cut .whole)) out b after →
         replied b after ≡ verdict 0 (a .place) (replied a list .state)
-    as-whole whole = answer-by whole wide (kind-said wide) ∙ cut-whole (eitherKind wide) base (kind-room wide) out (kind-counts wide) g m after-cut
+    as-whole whole = answer-by whole wide (kind-said wide) ∙ cut-whole (eitherKind wide) stateRoom (kind-room wide) out (kind-counts wide) g m after-cut

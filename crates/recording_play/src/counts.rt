@@ -3,7 +3,7 @@ ghost use mathlib.Core.Path.{_≡_};
 ghost use Prim.Native.Nat.{_≤_, min};
 ghost use Rattle.lists.specs.Lists.{count};
 ghost use Rattle.protocol.specs.Event.{has};
-ghost use Rattle.protocol_state.specs.Saved.{base};
+ghost use Rattle.protocol_state.specs.Saved.{stateRoom};
 ghost use Rattle.recording_core.specs.Playing.{noCounts};
 ghost use Rattle.recording_play.specs.Parts.{countsOf};
 use lists::few;
@@ -33,7 +33,7 @@ pub fn none() -> Counts
 
 // How many tasks of the table are in a set.
 pub fn tasks_in(set: u32, tasks: usize) -> usize
-    ensures { λ r. ⌜ (r ≡ count (has set) (min tasks (base .tasks))) × (r ≤ base .tasks) ⌝ }
+    ensures { λ r. ⌜ (r ≡ count (has set) (min tasks (stateRoom .tasks))) × (r ≤ stateRoom .tasks) ⌝ }
 {
     let end = few(tasks, TASKS);
     let mut c = 0;

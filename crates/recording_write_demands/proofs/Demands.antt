@@ -12,7 +12,7 @@ use lib.ListN.{length, take, drop, replicate, length-replicate}
 use lib.Seq.{take-at, drop-at}
 use Rattle.protocol.specs.Event.{Event}
 use Rattle.protocol.specs.History.{reads, past}
-use Rattle.protocol_state.specs.Saved.{Saved, base, aheadIn}
+use Rattle.protocol_state.specs.Saved.{Saved, stateRoom, aheadIn}
 use Rattle.protocol_state.proofs.Give.{judged-small}
 use Rattle.byte_format.specs.Play.{Verdict, verdict}
 use Rattle.byte_format.specs.Handed.{Handed, handed}
@@ -40,7 +40,7 @@ use Rattle.recording_write_demands.specs.Ensured.{Writes, RecordingOf}
 
 -- what is judged: the tasks, and the links and events that the numbers say
 abbrev weighs : Bool → List ℕ → List ℕ → List ℕ → Verdict Saved
-weighs wide ds lw ew = recordingWeighed (eitherKind wide) (stateCore base) ds (linksSaid lw) (eventsSaid ew)
+weighs wide ds lw ew = recordingWeighed (eitherKind wide) (stateCore stateRoom) ds (linksSaid lw) (eventsSaid ew)
 
 -- their bytes
 abbrev bytes : Bool → List ℕ → List ℕ → List ℕ → List ℕ
@@ -49,16 +49,16 @@ bytes wide ds lw ew = encodeRecording (eitherKind wide) ds (linksSaid lw .whole)
 -- no refusal of them is 18
 not-eighteen : (wide : Bool) (ds lw ew : List ℕ) → weighs wide ds lw ew .refusal ≢ 18
 not-eighteen wide ds lw ew =
-    not-room (eitherKind wide) (stateCore base) ds (linksSaid lw) (eventsSaid ew) (λ q e z. omega (arith, judged-small (aheadIn q) q e)) (λ q z. omega arith)
+    not-room (eitherKind wide) (stateCore stateRoom) ds (linksSaid lw) (eventsSaid ew) (λ q e z. omega (arith, judged-small (aheadIn q) q e)) (λ q z. omega arith)
     (λ z. omega (arith, links-ending lw)) (λ z. omega (arith, events-ending ew))
 
 -- a recording that is handed over as what it says is refused nothing
 genuine-weighs :
-    (wide : Bool) {s out ds : List ℕ} {ls : List Link} {es : List (Event ℕ)} → core.CoreGenuine (eitherKind wide) base s out ds ls es →
-    recordingWeighed (eitherKind wide) (stateCore base) ds (handed ls 0) (handed es 0) ≡ verdict 0 (length s) (stateAfter (stateCore base) ds ls es)
+    (wide : Bool) {s out ds : List ℕ} {ls : List Link} {es : List (Event ℕ)} → core.CoreGenuine (eitherKind wide) stateRoom s out ds ls es →
+    recordingWeighed (eitherKind wide) (stateCore stateRoom) ds (handed ls 0) (handed es 0) ≡ verdict 0 (length s) (stateAfter (stateCore stateRoom) ds ls es)
 genuine-weighs wide {s} {out} {ds} {ls} {es} g =
-    recorded-whole (eitherKind wide) (stateCore base) ds s ls es
-    (recorded-by-state (eitherKind wide) base out (genuine-recorded (eitherKind wide) base (kind-room wide) out (kind-counts wide) g)) refl
+    recorded-whole (eitherKind wide) (stateCore stateRoom) ds s ls es
+    (recorded-by-state (eitherKind wide) stateRoom out (genuine-recorded (eitherKind wide) stateRoom (kind-room wide) out (kind-counts wide) g)) refl
 
 -- as many reads in either order
 pub room-past : (es : List (Event ℕ)) {n : ℕ} → reads es ≤ n → reads (past [] es) ≤ n
@@ -70,7 +70,7 @@ roomOf : List ℕ → List ℕ
 roomOf ew = replicate (reads (past [] (eventsSaid ew .whole))) 0
 
 -- for it a recording that the numbers say is one
-recording-genuine : {wide : Bool} {ds lw ew s : List ℕ} → RecordingOf wide ds lw ew s → core.CoreGenuine (eitherKind wide) base s (roomOf ew) ds (linksSaid lw .whole) (eventsSaid ew .whole)
+recording-genuine : {wide : Bool} {ds lw ew s : List ℕ} → RecordingOf wide ds lw ew s → core.CoreGenuine (eitherKind wide) stateRoom s (roomOf ew) ds (linksSaid lw .whole) (eventsSaid ew .whole)
 unfolding roomOf reads
 recording-genuine {ew = ew} r =
     let n = reads (past [] (eventsSaid ew .whole)) in
@@ -80,9 +80,9 @@ recording-genuine {ew = ew} r =
 recording-weighs : {wide : Bool} {ds lw ew s : List ℕ} → RecordingOf wide ds lw ew s → (weighs wide ds lw ew .refusal ≡ 0) × (weighs wide ds lw ew .place ≡ length s)
 recording-weighs {wide} {ds} {lw} {ew} {s} r =
     let g = genuine-weighs wide (recording-genuine r) in
-    let e : weighs wide ds lw ew ≡ recordingWeighed (eitherKind wide) (stateCore base) ds (handed (linksSaid lw .whole) 0) (handed (eventsSaid ew .whole) 0) =
-    ap (λ (k : ℕ). recordingWeighed (eitherKind wide) (stateCore base) ds (handed (linksSaid lw .whole) k) (eventsSaid ew)) (r .links-whole)
-    ∙ ap (λ (k : ℕ). recordingWeighed (eitherKind wide) (stateCore base) ds (handed (linksSaid lw .whole) 0) (handed (eventsSaid ew .whole) k)) (r .events-whole) in
+    let e : weighs wide ds lw ew ≡ recordingWeighed (eitherKind wide) (stateCore stateRoom) ds (handed (linksSaid lw .whole) 0) (handed (eventsSaid ew .whole) 0) =
+    ap (λ (k : ℕ). recordingWeighed (eitherKind wide) (stateCore stateRoom) ds (handed (linksSaid lw .whole) k) (eventsSaid ew)) (r .links-whole)
+    ∙ ap (λ (k : ℕ). recordingWeighed (eitherKind wide) (stateCore stateRoom) ds (handed (linksSaid lw .whole) 0) (handed (eventsSaid ew .whole) k)) (r .events-whole) in
     (ap (λ (x : Verdict Saved). x .refusal) (e ∙ g), ap (λ (x : Verdict Saved). x .place) (e ∙ g))
 
 -- the room for the bytes asks nothing of the state
@@ -114,9 +114,9 @@ told-kind told = go (eqb told 253) (eqb told 254) refl refl
     go false true e f = inl (true, eqb-true told 254 f)
     go false false e f = inr (eqb-false told 253 e, eqb-false told 254 f)
 
-module _ {told : ℕ} {ds lw ew old new : List ℕ} {a : Written} (said : Writes told ds lw ew old a new) (base : told ≢ baseRecording .first) (wide : told ≢ wideRecording .first) where
+module _ {told : ℕ} {ds lw ew old new : List ℕ} {a : Written} (said : Writes told ds lw ew old a new) (not-base : told ≢ baseRecording .first) (not-wide : told ≢ wideRecording .first) where
   none : isKind told ≡ false
-  none = rw (ne-eqb told (baseRecording .first) base, ne-eqb told (wideRecording .first) wide)
+  none = rw (ne-eqb told (baseRecording .first) not-base, ne-eqb told (wideRecording .first) not-wide)
 
   -- of none: 2 at 0
   pub unknown-kind : (a .refusal ≡ 2) × (a .place ≡ 0)
@@ -128,26 +128,26 @@ module _ {told : ℕ} {ds lw ew old new : List ℕ} {a : Written} (said : Writes
 
 module _ {wide : Bool} {ds lw ew old new : List ℕ} {a : Written} (said : WritesAs wide ds lw ew old a new) where
   -- the refusal of the answer
-  refusal-is : a .refusal ≡ writing (eitherKind wide) (stateCore base) ds (linksSaid lw) (eventsSaid ew) (length old) .refusal
+  refusal-is : a .refusal ≡ writing (eitherKind wide) (stateCore stateRoom) ds (linksSaid lw) (eventsSaid ew) (length old) .refusal
   refusal-is = ap (λ (w : Written). w .refusal) (said .answer)
 
   -- and the place
-  place-is : a .place ≡ writing (eitherKind wide) (stateCore base) ds (linksSaid lw) (eventsSaid ew) (length old) .place
+  place-is : a .place ≡ writing (eitherKind wide) (stateCore stateRoom) ds (linksSaid lw) (eventsSaid ew) (length old) .place
   place-is = ap (λ (w : Written). w .place) (said .answer)
 
   -- which of the three it is
-  way : Way (eitherKind wide) (stateCore base) ds (linksSaid lw) (eventsSaid ew) (length old)
-  way = which-way (eitherKind wide) (stateCore base) ds (linksSaid lw) (eventsSaid ew) (length old)
+  way : Way (eitherKind wide) (stateCore stateRoom) ds (linksSaid lw) (eventsSaid ew) (length old)
+  way = which-way (eitherKind wide) (stateCore stateRoom) ds (linksSaid lw) (eventsSaid ew) (length old)
 
   -- an answer that is this reply
-  is : {x : Verdict Saved} → writing (eitherKind wide) (stateCore base) ds (linksSaid lw) (eventsSaid ew) (length old) ≡ x → (a .refusal ≡ x .refusal) × (a .place ≡ x .place)
+  is : {x : Verdict Saved} → writing (eitherKind wide) (stateCore stateRoom) ds (linksSaid lw) (eventsSaid ew) (length old) ≡ x → (a .refusal ≡ x .refusal) × (a .place ≡ x .place)
   is e = (refusal-is ∙ ap (λ (y : Verdict Saved). y .refusal) e, place-is ∙ ap (λ (y : Verdict Saved). y .place) e)
 
   -- no refusal: nothing is at fault, and there is room
   accepted : a .refusal ≡ 0 → (weighs wide ds lw ew .refusal ≡ 0) × (a .place ≡ weighs wide ds lw ew .place) × (weighs wide ds lw ew .place ≤ length old)
   accepted z = go way
     where
-      go : Way (eitherKind wide) (stateCore base) ds (linksSaid lw) (eventsSaid ew) (length old) → (weighs wide ds lw ew .refusal ≡ 0) × (a .place ≡ weighs wide ds lw ew .place) × (weighs wide ds lw ew .place ≤ length old)
+      go : Way (eitherKind wide) (stateCore stateRoom) ds (linksSaid lw) (eventsSaid ew) (length old) → (weighs wide ds lw ew .refusal ≡ 0) × (a .place ≡ weighs wide ds lw ew .place) × (weighs wide ds lw ew .place ≤ length old)
       go (refused n e) = absurd (n (sym (is e .0) ∙ z))
       go (short w l e) = absurd (omega (arith, is e .0))
       go (fits w l e) = (w, is e .1, l)
@@ -156,7 +156,7 @@ module _ {wide : Bool} {ds lw ew old new : List ℕ} {a : Written} (said : Write
   eighteen : a .refusal ≡ 18 → (weighs wide ds lw ew .refusal ≡ 0) × (a .place ≡ weighs wide ds lw ew .place) × (length old < weighs wide ds lw ew .place)
   eighteen z = go way
     where
-      go : Way (eitherKind wide) (stateCore base) ds (linksSaid lw) (eventsSaid ew) (length old) → (weighs wide ds lw ew .refusal ≡ 0) × (a .place ≡ weighs wide ds lw ew .place) × (length old < weighs wide ds lw ew .place)
+      go : Way (eitherKind wide) (stateCore stateRoom) ds (linksSaid lw) (eventsSaid ew) (length old) → (weighs wide ds lw ew .refusal ≡ 0) × (a .place ≡ weighs wide ds lw ew .place) × (length old < weighs wide ds lw ew .place)
       go (refused n e) = absurd (not-eighteen wide ds lw ew (sym (is e .0) ∙ z))
       go (short w l e) = (w, is e .1, l)
       go (fits w l e) = absurd (omega (arith, is e .0))
@@ -165,7 +165,7 @@ module _ {wide : Bool} {ds lw ew old new : List ℕ} {a : Written} (said : Write
   roomy : weighs wide ds lw ew .refusal ≡ 0 → weighs wide ds lw ew .place ≤ length old → (a .refusal ≡ 0) × (a .place ≡ weighs wide ds lw ew .place)
   roomy z h = go way
     where
-      go : Way (eitherKind wide) (stateCore base) ds (linksSaid lw) (eventsSaid ew) (length old) → (a .refusal ≡ 0) × (a .place ≡ weighs wide ds lw ew .place)
+      go : Way (eitherKind wide) (stateCore stateRoom) ds (linksSaid lw) (eventsSaid ew) (length old) → (a .refusal ≡ 0) × (a .place ≡ weighs wide ds lw ew .place)
       go (refused n e) = absurd (n z)
       go (short w l e) = absurd (omega arith)
       go (fits w l e) = (is e .0 ∙ w, is e .1)
@@ -174,7 +174,7 @@ module _ {wide : Bool} {ds lw ew old new : List ℕ} {a : Written} (said : Write
   roomless : weighs wide ds lw ew .refusal ≡ 0 → length old < weighs wide ds lw ew .place → (a .refusal ≡ 18) × (a .place ≡ weighs wide ds lw ew .place)
   roomless z h = go way
     where
-      go : Way (eitherKind wide) (stateCore base) ds (linksSaid lw) (eventsSaid ew) (length old) → (a .refusal ≡ 18) × (a .place ≡ weighs wide ds lw ew .place)
+      go : Way (eitherKind wide) (stateCore stateRoom) ds (linksSaid lw) (eventsSaid ew) (length old) → (a .refusal ≡ 18) × (a .place ≡ weighs wide ds lw ew .place)
       go (refused n e) = absurd (n z)
       go (short w l e) = is e
       go (fits w l e) = absurd (omega arith)
@@ -183,22 +183,22 @@ module _ {wide : Bool} {ds lw ew old new : List ℕ} {a : Written} (said : Write
     -- what is refused nothing is a recording
     fine : RecordingOf wide ds lw ew (bytes wide ds lw ew)
     fine =
-        let f = whole-fine (eitherKind wide) (stateCore base) ds (linksSaid lw) (eventsSaid ew) z in
-        let r = written-recorded (eitherKind wide) (kind-numbers wide) base (kind-counts wide) ds (linksSaid lw) (eventsSaid ew) (said .numbers .0) (starts-said lw (said .numbers .1 .0)) (values-said ew (said .numbers .1 .1)) z in
-        record { links-whole = f .0; events-whole = f .1 .0; genuine = λ out l. core-genuine (recorded-genuine (eitherKind wide) base (kind-room wide) out (recorded-with-room (eitherKind wide) base out (room-past (eventsSaid ew .whole) l) r)) }
+        let f = whole-fine (eitherKind wide) (stateCore stateRoom) ds (linksSaid lw) (eventsSaid ew) z in
+        let r = written-recorded (eitherKind wide) (kind-numbers wide) stateRoom (kind-counts wide) ds (linksSaid lw) (eventsSaid ew) (said .numbers .0) (starts-said lw (said .numbers .1 .0)) (values-said ew (said .numbers .1 .1)) z in
+        record { links-whole = f .0; events-whole = f .1 .0; genuine = λ out l. core-genuine (recorded-genuine (eitherKind wide) stateRoom (kind-room wide) out (recorded-with-room (eitherKind wide) stateRoom out (room-past (eventsSaid ew .whole) l) r)) }
 
     -- and its place the length
     long : weighs wide ds lw ew .place ≡ length (bytes wide ds lw ew)
-    long = ap (λ (x : Verdict Saved). x .place) (whole-reply (eitherKind wide) (stateCore base) ds (linksSaid lw) (eventsSaid ew) z)
+    long = ap (λ (x : Verdict Saved). x .place) (whole-reply (eitherKind wide) (stateCore stateRoom) ds (linksSaid lw) (eventsSaid ew) z)
 
   -- "On a refusal the buffer is untouched"
   pub refused-untouched : a .refusal ≢ 0 → new ≡ old
-  refused-untouched n = said .buffer ∙ buffer-refused (eitherKind wide) (stateCore base) ds (linksSaid lw) (eventsSaid ew) old (λ z. n (refusal-is ∙ z))
+  refused-untouched n = said .buffer ∙ buffer-refused (eitherKind wide) (stateCore stateRoom) ds (linksSaid lw) (eventsSaid ew) old (λ z. n (refusal-is ∙ z))
 
   module _ (z : a .refusal ≡ 0) where
     -- the buffer: the recording, and what stood after its place
     parts : new ≡ bytes wide ds lw ew ++ drop (a .place) old
-    parts = said .buffer ∙ buffer-written (eitherKind wide) (stateCore base) ds (linksSaid lw) (eventsSaid ew) old (sym refusal-is ∙ z) ∙ rw place-is
+    parts = said .buffer ∙ buffer-written (eitherKind wide) (stateCore stateRoom) ds (linksSaid lw) (eventsSaid ew) old (sym refusal-is ∙ z) ∙ rw place-is
 
     -- the place is the length of the recording
     ends : length (bytes wide ds lw ew) ≡ a .place
@@ -244,19 +244,19 @@ module _ {wide : Bool} {ds lw ew old new : List ℕ} {a : Written} (said : Write
   module _ (out : List ℕ) (b : InBytes (eitherKind wide) ds (linksSaid lw) (eventsSaid ew)) (room : reads (past [] (eventsSaid ew .whole)) ≤ length out) where
     -- where each number fits its bytes: the answer is the reader's to the bytes as written, with room for its numbers; only that a recording may find no
     -- room in the buffer
-    pub as-the-reader : a ≡ writtenOf (heldToRoom (length old) (recording (eitherKind wide) (coreOf base out) (bytesAsWritten (eitherKind wide) ds lw ew)))
+    pub as-the-reader : a ≡ writtenOf (heldToRoom (length old) (recording (eitherKind wide) (coreOf stateRoom out) (bytesAsWritten (eitherKind wide) ds lw ew)))
     unfolding writing
     as-the-reader =
         said .answer
-        ∙ ap (λ (x : Verdict Saved). writtenOf (heldToRoom (length old) x)) (whole-with-room (eitherKind wide) base out ds (linksSaid lw) (eventsSaid ew) room)
-        ∙ held-alone (length old) (recordingWeighed (eitherKind wide) (coreOf base out) ds (linksSaid lw) (eventsSaid ew))
-        ∙ ap (λ (x : Verdict Playing). writtenOf (heldToRoom (length old) x)) (sym (numbers-as-read (eitherKind wide) (kind-bytes wide) (coreOf base out) ds lw ew b))
+        ∙ ap (λ (x : Verdict Saved). writtenOf (heldToRoom (length old) x)) (whole-with-room (eitherKind wide) stateRoom out ds (linksSaid lw) (eventsSaid ew) room)
+        ∙ held-alone (length old) (recordingWeighed (eitherKind wide) (coreOf stateRoom out) ds (linksSaid lw) (eventsSaid ew))
+        ∙ ap (λ (x : Verdict Playing). writtenOf (heldToRoom (length old) x)) (sym (numbers-as-read (eitherKind wide) (kind-bytes wide) (coreOf stateRoom out) ds lw ew b))
 
     -- so a fault has the reader's number and place
     pub same-fault :
-        let x = recording (eitherKind wide) (coreOf base out) (bytesAsWritten (eitherKind wide) ds lw ew) in x .refusal ≢ 0 → (a .refusal ≡ x .refusal) × (a .place ≡ x .place)
+        let x = recording (eitherKind wide) (coreOf stateRoom out) (bytesAsWritten (eitherKind wide) ds lw ew) in x .refusal ≢ 0 → (a .refusal ≡ x .refusal) × (a .place ≡ x .place)
     same-fault n =
-        let x = recording (eitherKind wide) (coreOf base out) (bytesAsWritten (eitherKind wide) ds lw ew) in
+        let x = recording (eitherKind wide) (coreOf stateRoom out) (bytesAsWritten (eitherKind wide) ds lw ew) in
         let e : a ≡ writtenOf x = rw (ne-eqb (x .refusal) 0 n) at as-the-reader in
         (ap (λ (w : Written). w .refusal) e, ap (λ (w : Written). w .place) e)
 
@@ -268,11 +268,11 @@ written-kind wide ds lw ew = kind-said wide
 -- what the reader accepts, handed over as its tasks and the numbers of its links and events, is a recording that these say
 pub genuine-recording : {wide : Bool} {s out ds : List ℕ} {ls : List Link} {es : List (Event ℕ)} → Genuine wide s out ds ls es → RecordingOf wide ds (linkWords ls) (eventWords es) s
 genuine-recording {wide} {s} {out} {ds} {ls} {es} g =
-    let r = recorded-by-state (eitherKind wide) base out (genuine-recorded (eitherKind wide) base (kind-room wide) out (kind-counts wide) (genuine-core g)) in
+    let r = recorded-by-state (eitherKind wide) stateRoom out (genuine-recorded (eitherKind wide) stateRoom (kind-room wide) out (kind-counts wide) (genuine-core g)) in
     record {
       links-whole = ap (λ (h : Handed Link). h .ending) (links-said ls);
       events-whole = ap (λ (h : Handed (Event ℕ)). h .ending) (events-said es);
-      genuine = rw (links-said ls, events-said es) (λ (o : List ℕ) (l : reads es ≤ length o). core-genuine (recorded-genuine (eitherKind wide) base (kind-room wide) o (recorded-with-room (eitherKind wide) base o (room-past es l) r)));
+      genuine = rw (links-said ls, events-said es) (λ (o : List ℕ) (l : reads es ≤ length o). core-genuine (recorded-genuine (eitherKind wide) stateRoom (kind-room wide) o (recorded-with-room (eitherKind wide) stateRoom o (room-past es l) r)));
     }
 
 -- so it is written again, byte for byte

@@ -3,7 +3,7 @@
 use Rattle.mailbox.proofs.Makes.{made-refused, made-fresh, makes-sound}
 use Prim.Native.Nat.{min}
 use Rattle.protocol_state.specs.Records.{firstTasks}
-use Rattle.protocol_state.specs.Saved.{base}
+use Rattle.protocol_state.specs.Saved.{stateRoom}
 use borrow.Author.Needs.{needs}
 use Rattle.mailbox.proofs.State.fresh.Statement.{statement}
 use Rattle.mailbox.proofs.State.fresh.Tie as tie
@@ -30,7 +30,7 @@ returns c =
     let o = p .before .before .before .before .before .before .before in
     let a = o .before .before .before .args in
     let h = p .put-links .ensures .0 (o .before .before .fresh-control .ensures) in
-    let v = p .put-links .ensures .1 (firstTasks (min (a .tasks) (base .tasks)) (a .t3)) (o .values-of .ensures) in
+    let v = p .put-links .ensures .1 (firstTasks (min (a .tasks) (stateRoom .tasks)) (a .t3)) (o .values-of .ensures) in
     let e = made-refused (a .tasks) (a .links) (a .t3) (a .t4) (a .t5) (a .t6) (a .t7) _ _ h v (j .judge-table .ensures) (c .single .result) (c .before .if1 .taken) (c .single .ensures .0) in
     (record { answer = e; whole = c .single .ensures .1 }, makes-sound (a .tasks) (a .links) (a .t3) (a .t4) (a .t5) (a .t6) (a .t7) _ e)
 
@@ -44,7 +44,7 @@ returns-2 c =
     let o = p .before .before .before .before .before .before .before in
     let a = o .before .before .before .args in
     let h = p .put-links .ensures .0 (o .before .before .fresh-control .ensures) in
-    let v = p .put-links .ensures .1 (firstTasks (min (a .tasks) (base .tasks)) (a .t3)) (o .values-of .ensures) in
+    let v = p .put-links .ensures .1 (firstTasks (min (a .tasks) (stateRoom .tasks)) (a .t3)) (o .values-of .ensures) in
     let e = made-fresh (a .tasks) (a .links) (a .t3) (a .t4) (a .t5) (a .t6) (a .t7) _ _ h v (j .judge-table .ensures) (c .itself .result) (c .itself .ensures .0) (c .before .if1 .left) in
     (record { answer = e; whole = c .itself .ensures .1 }, makes-sound (a .tasks) (a .links) (a .t3) (a .t4) (a .t5) (a .t6) (a .t7) _ e)
 

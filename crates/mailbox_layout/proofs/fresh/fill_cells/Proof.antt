@@ -4,7 +4,7 @@ use mathlib.Core.Path.{_≡_}
 use Prim.Native.Nat.{_*_, _≤_, _-_}
 use native.Mathlib.Omega.{arith}
 use borrow.Author.Needs.{needs}
-use Rattle.protocol_state.specs.Saved.{base, positions}
+use Rattle.protocol_state.specs.Saved.{stateRoom, positions}
 use Rattle.mailbox_layout.specs.Layout.{cutValues, defaultsIn, startValueIn, cellsIn}
 use Rattle.mailbox_layout.proofs.Filling.{firstCells, cells-none, cells-more, cells-end}
 use Rattle.mailbox_layout.proofs.fresh.fill_cells.Statement.{statement}
@@ -12,10 +12,10 @@ use Rattle.mailbox_layout.proofs.fresh.fill_cells.Tie as tie
 
 abbrev Inv-loop : tie.InvT-loop
 Inv-loop values₀ i₀ values i =
-    (i ≤ base .tasks * positions) × (cutValues values ≡ firstCells i (defaultsIn values₀) (startValueIn values₀) (cellsIn values₀))
+    (i ≤ stateRoom .tasks * positions) × (cutValues values ≡ firstCells i (defaultsIn values₀) (startValueIn values₀) (cellsIn values₀))
 
 abbrev μ-loop : tie.MeasureT-loop
-μ-loop values₀ i₀ values i = base .tasks * positions - i
+μ-loop values₀ i₀ values i = stateRoom .tasks * positions - i
 
 loop-holds : tie.Need-loop-holds Inv-loop μ-loop
 loop-holds c = (omega arith, cells-none _)

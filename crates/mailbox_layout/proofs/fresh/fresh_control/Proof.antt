@@ -4,17 +4,17 @@ use mathlib.Core.Path.{_≡_}
 use Prim.Native.Nat.{_≤_, _-_}
 use native.Mathlib.Omega.{arith}
 use borrow.Author.Needs.{needs}
-use Rattle.protocol_state.specs.Saved.{base}
+use Rattle.protocol_state.specs.Saved.{stateRoom}
 use Rattle.mailbox_layout.specs.Layout.{cut}
 use Rattle.mailbox_layout.proofs.Filling.{firstOnes, ones-none, ones-more, ones-end}
 use Rattle.mailbox_layout.proofs.fresh.fresh_control.Statement.{statement}
 use Rattle.mailbox_layout.proofs.fresh.fresh_control.Tie as tie
 
 abbrev Inv-loop : tie.InvT-loop
-Inv-loop control₀ t₀ control t = (t ≤ base .tasks) × (cut control ≡ firstOnes t)
+Inv-loop control₀ t₀ control t = (t ≤ stateRoom .tasks) × (cut control ≡ firstOnes t)
 
 abbrev μ-loop : tie.MeasureT-loop
-μ-loop control₀ t₀ control t = base .tasks - t
+μ-loop control₀ t₀ control t = stateRoom .tasks - t
 
 loop-holds : tie.Need-loop-holds Inv-loop μ-loop
 loop-holds c = (omega arith, ones-none)

@@ -3,7 +3,7 @@
 use Prim.Native.Nat.{_≤_}
 use native.Mathlib.Nat.{min-eq-left}
 use native.Mathlib.Omega.{arith}
-use Rattle.protocol_state.specs.Saved.{base}
+use Rattle.protocol_state.specs.Saved.{stateRoom}
 use Rattle.protocol_state.specs.Rules.{fault}
 use borrow.Author.Needs.{needs}
 use Rattle.mailbox_rules.proofs.table.fault_at.Statement.{statement}
@@ -28,7 +28,7 @@ returns : tie.Need-returns
 unfolding fault
 returns c =
     let a = c .before .before .before .before .before in
-    let l : a .args .l ≤ base .links = omega (arith, a .pre) in
+    let l : a .args .l ≤ stateRoom .links = omega (arith, a .pre) in
     rw (
       min-eq-left l,
       c .before .before .before .before .control-at .ensures,
