@@ -8,7 +8,7 @@ use lib.ListN.{length, take, drop}
 use lib.Seq.{take-append-seam}
 use Rattle.recording_write.specs.Answers.{replyTo, bufferTo}
 use Rattle.recording_text.specs.declared.Read.{Read}
-use Rattle.recording_text.specs.Text.{readOf, over, kindOf, defaultsOf, linksOf, eventsOf}
+use Rattle.recording_text.specs.Text.{readOf, over, kindSaid, defaultsOf, linksOf, eventsOf}
 use Rattle.recording_make.specs.declared.Made.{Made}
 use Rattle.recording_make.specs.Made.{unread, makeReply, madeOf, bufferOf}
 
@@ -43,7 +43,7 @@ module _ (text : List ℕ) (r : Read) (e : r ≡ readOf text) where
     buffer-unread old = rw (← e, ne-eqb (r .fault) 0 n)
 
   -- the kind that the answer says is the text's
-  kind-is : r .kind ≡ kindOf text
+  kind-is : r .kind ≡ kindSaid text
   unfolding readOf
   kind-is = ap (λ (x : Read). x .kind) e
 

@@ -8,7 +8,7 @@ use Rattle.protocol_state.specs.Saved.{Saved}
 use Rattle.byte_format.specs.Play.{Verdict}
 use Rattle.recording_format.specs.RecordingKind.{wideRecording}
 use Rattle.recording_write.specs.Answers.{replyTo, bufferTo}
-use Rattle.recording_text.specs.Text.{readOf, kindOf, defaultsOf, linksOf, eventsOf}
+use Rattle.recording_text.specs.Text.{readOf, kindSaid, defaultsOf, linksOf, eventsOf}
 use Rattle.recording_text_place.specs.Place.{lineOf}
 use Rattle.recording_make.specs.declared.Made.{Made}
 
@@ -26,15 +26,15 @@ makeReply told text x = record { fault = 0; line = lineTold told text (x .refusa
 
 -- the reply of the writer to the kind and the numbers of a text, with room for so many bytes
 abbrev pub writingOf : List ℕ → ℕ → Verdict Saved
-writingOf text room = replyTo (kindOf text) (defaultsOf text) (linksOf text) (eventsOf text) room
+writingOf text room = replyTo (kindSaid text) (defaultsOf text) (linksOf text) (eventsOf text) room
 
 -- what is made of a text, with room for so many bytes: a fault of the text comes before a refusal
 unfoldable pub madeOf : List ℕ → ℕ → Made
-madeOf text room = cond (eqb (readOf text .fault) 0) (makeReply (kindOf text) text (writingOf text room)) (unread (readOf text .fault) (readOf text .line))
+madeOf text room = cond (eqb (readOf text .fault) 0) (makeReply (kindSaid text) text (writingOf text room)) (unread (readOf text .fault) (readOf text .line))
 
 -- the buffer as the writer leaves it
 abbrev pub writtenIn : List ℕ → List ℕ → List ℕ
-writtenIn text old = bufferTo (kindOf text) (defaultsOf text) (linksOf text) (eventsOf text) old
+writtenIn text old = bufferTo (kindSaid text) (defaultsOf text) (linksOf text) (eventsOf text) old
 
 -- the buffer after making: untouched where the text cannot be read
 unfoldable pub bufferOf : List ℕ → List ℕ → List ℕ

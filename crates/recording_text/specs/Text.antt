@@ -62,8 +62,8 @@ abbrev pub storedOf : ℕ → ℕ → List ℕ → List ℕ
 storedOf k most text = stored k most (readableOf text)
 
 -- the number of the kind; 0 where it is not said
-abbrev pub kindOf : List ℕ → ℕ
-kindOf text = getD (storedOf 4 1 text) 0 0
+abbrev pub kindSaid : List ℕ → ℕ
+kindSaid text = getD (storedOf 4 1 text) 0 0
 
 -- so many tasks are stored: one more than the wide kind may have, so that the writer sees too many
 abbrev pub tasksKept : ℕ
@@ -103,7 +103,7 @@ answerOf fault line kind tasks links events = record { fault = fault; line = lin
 
 -- the answer to a text
 unfoldable pub readOf : List ℕ → Read
-readOf text = answerOf (faultOf text) (faultLine text) (kindOf text) (length (defaultsOf text)) (length (linksOf text)) (length (eventsOf text))
+readOf text = answerOf (faultOf text) (faultLine text) (kindSaid text) (length (defaultsOf text)) (length (linksOf text)) (length (eventsOf text))
 
 -- nothing is stored
 abbrev pub noneKept : Kept
