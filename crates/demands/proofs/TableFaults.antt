@@ -21,7 +21,7 @@ use Rattle.byte_format.proofs.Sized.{sized-reads, sized-ends}
 use Rattle.byte_format.proofs.Standing.{stands-join, stands-first, stands-left}
 use Rattle.recording_format.specs.Task.{tasks, anyTask, andTask}
 use Rattle.recording_format.specs.Link.{Link, links, linkAt, andLink, linkFault}
-use Rattle.recording_format.specs.RecordingKind.{RecordingKind, baseRecording, wideRecording, eitherKind, kindNamed, kindIn, firstLimit, taskLimit, linkLimit, eventLimit}
+use Rattle.recording_format.specs.RecordingKind.{RecordingKind, baseRecording, wideRecording, eitherKind, isWide, kindIn, firstLimit, taskLimit, linkLimit, eventLimit}
 use Rattle.recording_format.specs.Recording.{encodeFirst, taskPlace, tasksEnd, firstAt, taskCountAt, linkCountAt, eventCountAt}
 use Rattle.recording_format.specs.Outcome.{Begins, TasksTo, TableTo, RecordingOutcome, firstByte, taskCount, taskRecord, linkCount, linkRecord, eventCount}
 use Rattle.recording_format.proofs.BothKinds.{kind-room, kind-counts, kind-begun}
@@ -72,11 +72,11 @@ module _ (w : ℕ) (limit : ℕ → ℕ) (s : List ℕ) (p : ℕ) where
           subst (λ (k : ℕ). CountFault w limit s p k) (stopped (sym (count-stops h (cut l)) ∙ e)) (cut l)
 
 -- the first byte, where it is that of no kind
-first-other : {n b : ℕ} → n ≡ b → b ≢ baseRecording .first → b ≢ wideRecording .first → firstLimit (kindNamed b) n ≡ 2
+first-other : {n b : ℕ} → n ≡ b → b ≢ baseRecording .first → b ≢ wideRecording .first → firstLimit (eitherKind (isWide b)) n ≡ 2
 first-other {n} {b} e other wide = rw (ne-eqb b (wideRecording .first) wide, ne-eqb n (baseRecording .first) (λ z. other (sym e ∙ z)))
 
 -- and where it is refused
-first-over : {n b : ℕ} → n ≡ b → firstLimit (kindNamed b) n ≢ 0 → (firstLimit (kindNamed b) n ≡ 2) × ((b ≢ baseRecording .first) × (b ≢ wideRecording .first))
+first-over : {n b : ℕ} → n ≡ b → firstLimit (eitherKind (isWide b)) n ≢ 0 → (firstLimit (eitherKind (isWide b)) n ≡ 2) × ((b ≢ baseRecording .first) × (b ≢ wideRecording .first))
 first-over {n} {b} e ne = go (eqb b 254) refl (eqb n 253) (eqb n 254) refl refl ne
   where
     go :

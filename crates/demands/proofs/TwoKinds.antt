@@ -18,7 +18,7 @@ use Rattle.byte_format.proofs.Counts.{count-above}
 use Rattle.recording_format.specs.RecordingKind.{baseRecording, wideRecording, eitherKind, firstLimit}
 use Rattle.recording_format.specs.Link.{Link}
 use Rattle.recording_format.specs.Event.{EventFits, events}
-use Rattle.recording_format.specs.Recording.{recording, eventsFrom, taskPlace}
+use Rattle.recording_format.specs.Recording.{Core, recording, eventsFrom, taskPlace}
 use Rattle.recording_format.specs.Outcome.{Begins}
 use Rattle.recording_format.proofs.Onward.{first-refused}
 use Rattle.recording_format.proofs.BothKinds.{kind-begun}
@@ -57,12 +57,12 @@ many-links {wide} {s} {p = p} said b h = answered said (badLinkCount wide b (ome
 
 -- ---- the reader from before
 
-reader-before : (s out : List ℕ) → recording baseRecording (coreOf stateRoom out) (wideRecording .first ∷ s) ≡ verdict 2 0 (coreOf stateRoom out .single)
+reader-before : {S : Type 0} (core : Core S) (s : List ℕ) → recording baseRecording core (wideRecording .first ∷ s) ≡ verdict 2 0 (core .single)
 unfolding recording
-reader-before s out =
+reader-before core s =
     let bytes = wideRecording .first ∷ s in
     let two : firstLimit baseRecording (numberAt 1 bytes 0) ≡ 2 = rw (number-one bytes 0) in
-    first-refused baseRecording (coreOf stateRoom out .single) (eventsFrom baseRecording (coreOf stateRoom out) bytes) bytes
+    first-refused baseRecording (core .single) (eventsFrom baseRecording core bytes) bytes
     (count-above 1 (firstLimit baseRecording) bytes 0 (omega arith) two (λ y. omega arith))
 
 still-taken : {s out list : List ℕ} {a : Answer} → Replays s out a list → Begins baseRecording s → replied a list ≡ recording baseRecording (coreOf stateRoom out) s

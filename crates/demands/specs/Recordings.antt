@@ -38,6 +38,13 @@ eventBytes wide es = encodes (events (eitherKind wide)) es
 abbrev pub throughCount : Bool → List Task → List Link → ℕ
 throughCount wide ds ls = throughE (eitherKind wide) ds ls
 
+-- no more tasks, and no more links, than the kind allows
+abbrev pub FewTasks : Bool → List Task → Type 0
+FewTasks wide ds = length ds ≤ eitherKind wide .tasks
+
+abbrev pub FewLinks : Bool → List Link → Type 0
+FewLinks wide ls = length ls ≤ eitherKind wide .links
+
 -- the bytes s are the tasks ds, the links ls and the events es, within every limit of their kind, with room for the numbers of its reads in the lent list out,
 -- and could happen
 pub record Genuine (wide : Bool) (s out : List ℕ) (ds : List Task) (ls : List Link) (es : List (Event ℕ)) : Type 0 where
@@ -46,8 +53,8 @@ pub record Genuine (wide : Bool) (s out : List ℕ) (ds : List Task) (ls : List 
   -- "its bytes .. the stated limits"
   pub bytes : s ≡ recordingBytes wide ds ls es
   pub fits : FitEach (tasks (eitherKind wide)) ds × (FitEach (links (eitherKind wide)) ls × FitEach (events (eitherKind wide)) es)
-  pub few-tasks : length ds ≤ eitherKind wide .tasks
-  pub few-links : length ls ≤ eitherKind wide .links
+  pub few-tasks : FewTasks wide ds
+  pub few-links : FewLinks wide ls
   pub few : length es ≤ eitherKind wide .events
   -- "and list room"
   pub room : reads es ≤ length out
@@ -64,7 +71,7 @@ pub record TasksBegun (wide : Bool) (s : List ℕ) (T : ℕ) (ds : List Task) (p
 
 -- the first byte, all tasks, a count of links, and the first links, which keep the rules
 pub record LinksBegun (wide : Bool) (s : List ℕ) (ds : List Task) (L : ℕ) (ls : List Link) (p : ℕ) : Type 0 where
-  pub few-tasks : length ds ≤ eitherKind wide .tasks
+  pub few-tasks : FewTasks wide ds
   pub few : L ≤ eitherKind wide .links
   pub keeps : Keeps ds ls
   pub fits : FitEach (tasks (eitherKind wide)) ds × FitEach (links (eitherKind wide)) ls
@@ -72,8 +79,8 @@ pub record LinksBegun (wide : Bool) (s : List ℕ) (ds : List Task) (L : ℕ) (l
 
 -- the first byte, the table, a count of events, and the first events
 pub record EventsBegun (wide : Bool) (s : List ℕ) (ds : List Task) (ls : List Link) (E : ℕ) (es : List (Event ℕ)) (p : ℕ) : Type 0 where
-  pub few-tasks : length ds ≤ eitherKind wide .tasks
-  pub few-links : length ls ≤ eitherKind wide .links
+  pub few-tasks : FewTasks wide ds
+  pub few-links : FewLinks wide ls
   pub few : E ≤ eitherKind wide .events
   pub keeps : Keeps ds ls
   pub fits : FitEach (tasks (eitherKind wide)) ds × (FitEach (links (eitherKind wide)) ls × FitEach (events (eitherKind wide)) es)

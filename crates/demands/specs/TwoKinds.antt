@@ -12,7 +12,7 @@ use Rattle.protocol_state.specs.Records.{Task}
 use Rattle.byte_format.specs.Play.{verdict}
 use Rattle.recording_format.specs.RecordingKind.{baseRecording, wideRecording, eitherKind}
 use Rattle.recording_format.specs.Link.{Link}
-use Rattle.recording_format.specs.Recording.{recording, taskPlace}
+use Rattle.recording_format.specs.Recording.{Core, recording, taskPlace}
 use Rattle.recording_format.specs.Outcome.{Begins}
 use Rattle.recording_core.specs.Playing.{coreOf}
 use Rattle.recording.specs.Answers.{replied}
@@ -27,16 +27,16 @@ pub record SaysTheSame (out list : List ℕ) (a : Answer) (out′ list′ : List
   pub state : a .state ≡ a′ .state
   pub counted : fourCounts a ≡ fourCounts a′
 
-pub record TwoKinds : Type 0 where
+pub record TwoKinds : Type 1 where
   -- "T goes to 32", "with the old limits": more tasks than the kind allows are 2 at T, whatever room the state has
   pub many-tasks : {s out list : List ℕ} {a : Answer} → Replays s out a list → (wide : Bool) → Begins (eitherKind wide) s →
       eitherKind wide .tasks < getD s taskPlace 0 → (a .refusal ≡ 2) × (a .place ≡ taskPlace)
   -- "L to 96": more links than the kind allows are 3 at L
   pub many-links : {wide : Bool} {s out list ds : List ℕ} {a : Answer} {p : ℕ} → Replays s out a list → TasksBegun wide s (length ds) ds p →
       eitherKind wide .links < getD s p 0 → (a .refusal ≡ 3) × (a .place ≡ p)
-  -- "a reader from before refuses them with 2": the definition by which it judged, with the old kind alone
-  pub reader-before : (s out : List ℕ) → recording baseRecording (coreOf stateRoom out) (wideRecording .first ∷ s) ≡ verdict 2 0 (coreOf stateRoom out .single)
-  -- "The new reader still takes 253": of every recording that begins so the answer is the one of that definition
+  -- "a reader from before refuses them with 2": a reader of the old kind alone, over whatever core
+  pub reader-before : {S : Type 0} (core : Core S) (s : List ℕ) → recording baseRecording core (wideRecording .first ∷ s) ≡ verdict 2 0 (core .single)
+  -- "The new reader still takes 253, with the old limits and arrival sets": to bytes that begin so it answers as such a reader does, with today's room
   pub still-taken : {s out list : List ℕ} {a : Answer} → Replays s out a list → Begins baseRecording s → replied a list ≡ recording baseRecording (coreOf stateRoom out) s
   -- what a recording of 253 holds one of 254 can hold
   pub widened : {s out : List ℕ} {ds : List Task} {ls : List Link} {es : List (Event ℕ)} → Genuine false s out ds ls es →

@@ -194,7 +194,8 @@ cases =
     ∷ least
     -- and one byte
     ∷ (least ++ (0 ∷ []))
-    -- T is 17
+    -- T is 16, whose tasks are missing, and 17
+    ∷ (253 ∷ 16 ∷ [])
     ∷ (253 ∷ 17 ∷ [])
     -- the wide kind: the least, T is 17, whose tasks are missing, 32 and 33
     ∷ wide 1 []
@@ -249,6 +250,7 @@ pub marked-cases : map answer cases ≡
     ∷ untouched 2 0 alone
     ∷ untouched 0 9 alone
     ∷ untouched 17 9 alone
+    ∷ untouched 1 2 alone
     ∷ untouched 2 1 alone
     ∷ untouched 0 9 alone
     ∷ untouched 1 2 alone

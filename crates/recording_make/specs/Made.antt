@@ -6,7 +6,7 @@ use Prim.Native.Nat.{ℕ}
 use lib.Dec.{eqb}
 use Rattle.protocol_state.specs.Saved.{Saved}
 use Rattle.byte_format.specs.Play.{Verdict}
-use Rattle.recording_format.specs.RecordingKind.{wideRecording}
+use Rattle.recording_format.specs.RecordingKind.{isWide}
 use Rattle.recording_write.specs.Answers.{replyTo, bufferTo}
 use Rattle.recording_text.specs.Text.{readOf, kindSaid, defaultsOf, linksOf, eventsOf}
 use Rattle.recording_text_place.specs.Place.{lineOf}
@@ -18,7 +18,7 @@ unread fault line = record { fault = fault; line = line; refusal = 0; place = 0 
 
 -- the line of a refusal of the writer that was told a kind, 0 for none
 unfoldable pub lineTold : ℕ → List ℕ → ℕ → ℕ → ℕ
-lineTold told text refusal place = cond (eqb refusal 0) 0 (lineOf (eqb told (wideRecording .first)) text refusal place)
+lineTold told text refusal place = cond (eqb refusal 0) 0 (lineOf (isWide told) text refusal place)
 
 -- a text that can be read, whose numbers got this reply from the writer that was told a kind
 abbrev pub makeReply : ℕ → List ℕ → Verdict Saved → Made

@@ -11,7 +11,7 @@ use lib.ListN.{length, take, getD}
 use lib.Seq.{getD-take}
 use Rattle.lists.proofs.Bools.{else-zero}
 use Rattle.recording_text_line.specs.declared.Said.{Said}
-use Rattle.recording_text.specs.declared.Kind.{Kind}
+use Rattle.recording_text.specs.declared.KnownKind.{KnownKind}
 use Rattle.recording_text_line.specs.Line.{Says, says, saidOf, sort, Padded}
 use Rattle.recording_text.specs.Text.{inPlace, faultIn, knownAfter, readable, textFault, recordsOf, joined, stored, noKind, kindAfter}
 use Rattle.recording_text.proofs.Stores.{records-more}
@@ -36,16 +36,16 @@ first-number zero ns p = sym (ap (λ (l : List ℕ). getD l 0 0) (p .rest))
 first-number (suc n) ns p = getD-take (suc n) ns 0 0 (omega arith)
 
 -- what is known of the kind after these lines is what they say of it
-pub record Told (done : List (List ℕ)) (kind : Kind) : Type 0 where
+pub record Told (done : List (List ℕ)) (kind : KnownKind) : Type 0 where
   pub none : kind .known ≡ false → recordsOf 4 done ≡ []
   pub number : kind .number ≡ getD (stored 4 1 done) 0 0
 
-pub told-none : {kind : Kind} → kind ≡ noKind → Told [] kind
+pub told-none : {kind : KnownKind} → kind ≡ noKind → Told [] kind
 unfolding recordsOf joined stored
 told-none e = rw e (record { none = λ q. refl; number = refl })
 
 -- a line more
-module _ {done : List (List ℕ)} {kind : Kind} (told : Told done kind) (l : List ℕ) (said : Said) (q : saidOf said ≡ says l) (padded : Padded (said .letter) (said .size) (said .numbers)) (z : faultIn (kind .known) (says l) ≡ 0) {next : Kind} (e : next ≡ kindAfter kind said) where
+module _ {done : List (List ℕ)} {kind : KnownKind} (told : Told done kind) (l : List ℕ) (said : Said) (q : saidOf said ≡ says l) (padded : Padded (said .letter) (said .size) (said .numbers)) (z : faultIn (kind .known) (says l) ≡ 0) {next : KnownKind} (e : next ≡ kindAfter kind said) where
   here : eqb (sort (said .letter)) 4 ≡ eqb (sort (says l .letter)) 4
   here = ap (λ (s : Says). eqb (sort (s .letter)) 4) q
 

@@ -9,7 +9,7 @@ use Rattle.recording_format.specs.RecordingKind.{wideRecording}
 use Rattle.recording_text.specs.declared.Read.{Read}
 use Rattle.recording_text_line.specs.declared.Said.{Said}
 use Rattle.recording_text.specs.declared.Kept.{Kept}
-use Rattle.recording_text.specs.declared.Kind.{Kind}
+use Rattle.recording_text.specs.declared.KnownKind.{KnownKind}
 use Rattle.recording_text_fields.specs.Pieces.{lines}
 use Rattle.recording_text_line.specs.Line.{Says, says, sort, widest}
 
@@ -125,9 +125,9 @@ abbrev pub andRecord : Said → Kept → Kept
 andRecord said kept = record { records = kept .records + 1; numbers = kept .numbers + said .size }
 
 -- the kind is not known
-abbrev pub noKind : Kind
+abbrev pub noKind : KnownKind
 noKind = record { known = false; number = 0 }
 
 -- the kind as it is known after a line
-abbrev pub kindAfter : Kind → Said → Kind
+abbrev pub kindAfter : KnownKind → Said → KnownKind
 kindAfter kind said = cond (eqb (sort (said .letter)) 4) (record { known = true; number = getD (said .numbers) 0 0 }) kind

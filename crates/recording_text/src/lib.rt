@@ -7,17 +7,20 @@ ghost use lib.Seq.{paste};
 ghost use Rattle.recording_text.specs.Text.{readOf, answerOf, noneKept, takes, andRecord, RoomFor, defaultsOf, linksOf, eventsOf, over, inPlace, faultIn, noKind, kindAfter};
 ghost use Rattle.recording_text_line.specs.Line.{saidOf};
 ghost use Rattle.recording_text_place.specs.Place.{lineOf};
+use mailbox_base::numbers;
+use recording_format::WIDE_LINKS;
+use recording_format::WIDE_TASKS;
 use recording_text_fields::piece::piece_end;
 use recording_text_line::Said;
 use recording_text_line::line_says;
 use recording_text_line::sort_of;
 
 // So many tasks, links and events are stored: one more than a recording of the wide kind may have, so that the writer sees that there are too many.
-const MOST_TASKS: usize = 33;
+const MOST_TASKS: usize = WIDE_TASKS + 1;
 
-const MOST_LINKS: usize = 97;
+const MOST_LINKS: usize = WIDE_LINKS + 1;
 
-const MOST_EVENTS: usize = 10001;
+const MOST_EVENTS: usize = numbers::EVENTS + 1;
 
 // The room for the defaults of tasks,
 pub const TASKS: usize = MOST_TASKS;
@@ -40,7 +43,7 @@ pub struct Read {
 }
 
 // What is known of the kind: whether a line has said it, and its number, 0 before.
-pub struct Kind {
+pub struct KnownKind {
     pub known: bool,
     pub number: u32,
 }
@@ -98,10 +101,10 @@ fn none_kept() -> Kept
 }
 
 // The kind is not known yet.
-fn no_kind() -> Kind
+fn no_kind() -> KnownKind
     ensures { λ r. ⌜ r ≡ noKind ⌝ }
 {
-    Kind {
+    KnownKind {
         known: false,
         number: 0,
     }
@@ -132,21 +135,21 @@ fn fault_in(known: bool, said: Said) -> u8
 }
 
 // The kind as it is known after a line.
-fn kind_after(kind: Kind, said: Said) -> Kind
+fn kind_after(kind: KnownKind, said: Said) -> KnownKind
     ensures { λ r. ⌜ r ≡ kindAfter kind said ⌝ }
 {
     if sort_of(said.letter) != 4 {
         return kind;
     }
     let numbers = said.numbers;
-    Kind {
+    KnownKind {
         known: true,
         number: numbers[0],
     }
 }
 
 // The answer: the fault and its line, the number of the kind, and how many numbers are stored.
-fn answer(fault: u8, line: usize, kind: Kind, task: Kept, link: Kept, event: Kept) -> Read
+fn answer(fault: u8, line: usize, kind: KnownKind, task: Kept, link: Kept, event: Kept) -> Read
     ensures { λ r. ⌜ r ≡ answerOf fault line (kind .number) (task .numbers) (link .numbers) (event .numbers) ⌝ }
 {
     Read {

@@ -13,7 +13,7 @@ use lib.Seq.{drop-cons}
 use Rattle.recording_text_fields.specs.declared.number.Number.{Number}
 use Rattle.recording_text_fields.specs.declared.number.Numbers.{Numbers}
 use Rattle.recording_text_fields.specs.Pieces.{separator, fields, between, Ends}
-use Rattle.recording_text_fields.specs.Numeral.{isDigit, allDigits, valueFrom, value, numberFault, fieldNumber, firstFault, fieldValues, lastOfSet, setWith, setOf, gathered, noNumbers, numbersWith}
+use Rattle.recording_text_fields.specs.Numeral.{isDigit, allDigits, valueFrom, value, numberFault, fieldNumber, firstFault, fieldValues, lastOfSet, clipped, setWith, setOf, gathered, noNumbers, numbersWith}
 use Rattle.recording_text_fields.proofs.Splits.{fields-some, fields-past}
 
 -- a digit more
@@ -50,7 +50,7 @@ unfolding numberFault
 number-good f e h = rw (e, le-ltb 4294967295 (value f) h)
 
 -- one number more
-set-more : (set : ℕ) (ns : List ℕ) (n : ℕ) → bitOr (setWith set ns) (2 ^ min n lastOfSet) ≡ setWith set (ns ++ (n ∷ []))
+set-more : (set : ℕ) (ns : List ℕ) (n : ℕ) → bitOr (setWith clipped set ns) (2 ^ clipped n) ≡ setWith clipped set (ns ++ (n ∷ []))
 unfolding setWith
 set-more set [] n = refl
 set-more set (a ∷ ns) n = set-more (bitOr set (2 ^ min a lastOfSet)) ns n

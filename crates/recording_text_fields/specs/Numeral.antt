@@ -48,14 +48,22 @@ fieldValues fs = map value fs
 abbrev pub lastOfSet : ℕ
 lastOfSet = 32
 
--- a set and the tasks of these numbers: bit t is task t
-unfoldable pub setWith : ℕ → List ℕ → ℕ
-setWith set [] = set
-setWith set (n ∷ ns) = setWith (bitOr set (2 ^ min n lastOfSet)) ns
+-- the bit for a task, as a set is gathered
+abbrev pub clipped : ℕ → ℕ
+clipped t = min t lastOfSet
 
--- the set of tasks of these numbers, as it is gathered
+-- a set and the bits of these numbers
+unfoldable pub setWith : (ℕ → ℕ) → ℕ → List ℕ → ℕ
+setWith bit set [] = set
+setWith bit set (n ∷ ns) = setWith bit (bitOr set (2 ^ bit n)) ns
+
+-- the set of tasks that these numbers name: bit t is task t
+abbrev pub namedSet : List ℕ → ℕ
+namedSet ns = setWith (λ n. n) 0 ns
+
+-- and as it is gathered
 abbrev pub setOf : List ℕ → ℕ
-setOf ns = setWith 0 ns
+setOf ns = setWith clipped 0 ns
 
 -- a set as it is handed over: one with the last bit becomes the empty one, which is refused like it
 abbrev pub handedSet : ℕ → ℕ

@@ -6,15 +6,19 @@ use Prim.Native.Nat.{ℕ, suc, _+_, _-_}
 use lib.Dec.{eqb, leb}
 use lib.ListN.{length}
 use Rattle.recording_format.specs.RecordingKind.{eitherKind}
+use Rattle.recording_format.specs.Link.{linkSize}
+use Rattle.recording_format.specs.Event.{anArrival, aStart, aRead, aFinish, sizeOf}
 use Rattle.recording_format.specs.Recording.{taskPlace}
 use Rattle.recording_text_fields.specs.Pieces.{lines}
 use Rattle.recording_text_line.specs.Line.{says, sort}
 use Rattle.recording_text_place.specs.declared.Measure.{Measure}
 use Rattle.recording_text_place.specs.declared.Measure.the-variants.{Records, Bytes}
 
--- the bytes of a task, a link or an event in a recording: T 4, L 7, S 2, R 2, F 6, A by the kind
+-- the bytes of a task, a link or an event in a recording of a kind: T, L, F, S and R, and A
 unfoldable pub bytesOf : Bool → ℕ → ℕ
-bytesOf wide b = cond (eqb b 84) 4 (cond (eqb b 76) 7 (cond (eqb b 70) 6 (cond (eqb b 83 || eqb b 82) 2 (1 + eitherKind wide .setWidth))))
+bytesOf wide b =
+    let kind = eitherKind wide in
+    cond (eqb b 84) (kind .valueWidth) (cond (eqb b 76) (linkSize kind) (cond (eqb b 70) (sizeOf kind aFinish) (cond (eqb b 83) (sizeOf kind aStart) (cond (eqb b 82) (sizeOf kind aRead) (sizeOf kind anArrival)))))
 
 -- what a record counts on the way to another: one, or its bytes in a recording of a kind
 abbrev pub weight : Measure → ℕ → ℕ
@@ -47,11 +51,11 @@ placed wide k bytes ls = lineAfter (Bytes wide) k bytes 1 ls
 
 -- where the links of a recording begin: behind the first byte, T, the tasks, and L
 abbrev pub linksAt : Bool → List (List ℕ) → ℕ
-linksAt wide ls = taskPlace + 2 + allBytes wide 1 ls
+linksAt wide ls = taskPlace + eitherKind wide .taskCountWidth + eitherKind wide .linkCountWidth + allBytes wide 1 ls
 
 -- where its events begin: behind the links, and E
 abbrev pub eventsAt : Bool → List (List ℕ) → ℕ
-eventsAt wide ls = taskPlace + 4 + allBytes wide 1 ls + allBytes wide 2 ls
+eventsAt wide ls = taskPlace + eitherKind wide .taskCountWidth + eitherKind wide .linkCountWidth + eitherKind wide .eventCountWidth + allBytes wide 1 ls + allBytes wide 2 ls
 
 -- the line after the last
 abbrev pub afterLast : List (List ℕ) → ℕ

@@ -3,12 +3,12 @@
 use mathlib.Core.Path.{_≡_, sym, ap, subst, _∙_}
 use mathlib.Core.Logic.{_≢_, _↔_, _⊎_, inl, inr}
 use mathlib.Core.Bool.{Bool}
-use mathlib.Core.List.{List, _++_}
+use mathlib.Core.List.{List, [], _++_}
 use Prim.Native.Nat.{ℕ, _≤_, _<_}
 use native.Mathlib.Omega.{arith}
 use lib.ListN.{length, take, drop, take-append-drop}
-use Rattle.protocol.specs.Event.{Event}
-use Rattle.protocol.specs.History.{reads}
+use Rattle.protocol.specs.Event.{Event, arrival}
+use Rattle.protocol.specs.History.{reads, past}
 use Rattle.byte_format.specs.Play.{Verdict}
 use Rattle.recording_format.specs.RecordingKind.{baseRecording, wideRecording, eitherKind}
 use Rattle.recording_format.specs.Link.{Link}
@@ -23,6 +23,7 @@ use Rattle.demands.specs.Recordings.{Genuine}
 use Rattle.demands.proofs.Genuine.{exactly, accepted-calls}
 use Rattle.recording_write_demands.specs.Ensured.{Writes, RecordingOf}
 use Rattle.recording_write_demands.specs.Writer.{Writer}
+use Rattle.recording_write_demands.proofs.AsHanded.{handed-so, earned-judged, beyond-judged}
 use Rattle.recording_write_demands.proofs.Contract.{learnt-ensured, ensured-learnt}
 use Rattle.recording_write_demands.proofs.Demands.{WritesAs, writes-as, told-kind, unknown-kind, unknown-untouched, written-kind, room-past, what-is-written-is-read, written-length, written-within, rest-untouched, refused-untouched, short-buffer, shorter-refused, recording-written, same-fault, accepted-written-again}
 
@@ -93,6 +94,9 @@ writer = record {
   unknown-kind = unknown-kind;
   written = written;
   bytes = λ wide said r h. bytes wide said r h;
+  as-handed = λ wide es x rest said linked begun few g room earned n. handed-so es x rest (writes-as wide said) linked begun few g room (earned-judged _ _ x earned) n;
+  set-beyond = λ wide es m rest {ds = ds} {ls = ls} said linked begun few g room reach.
+      handed-so es (arrival m) rest (writes-as wide said) linked begun few g room (beyond-judged wide ds ls (past [] es) (g .few-tasks) reach) (λ z. omega arith);
   as-the-reader = λ wide said fit room read n. as-the-reader wide said fit room read n;
   short = short;
   read-back = λ wide said z room read. read-back wide said z room read;

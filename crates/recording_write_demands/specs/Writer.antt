@@ -4,15 +4,16 @@
 use mathlib.Core.Path.{_≡_}
 use mathlib.Core.Logic.{_≢_, _↔_}
 use mathlib.Core.Bool.{Bool}
-use mathlib.Core.List.{List, _++_}
-use Prim.Native.Nat.{ℕ, _≤_, _<_}
+use mathlib.Core.List.{List, [], _∷_, _++_}
+use Prim.Native.Nat.{ℕ, _^_, _≤_, _<_}
 use lib.ListN.{length, take, drop}
 use contract.Lifetimes.{Lfts}
 use denote.Ref.{now}
 use denote.Triple.Clauses.{AtExit}
 use borrow.Fn.Kinds.{Dens, resT, endedOf}
-use Rattle.protocol.specs.Event.{Event}
-use Rattle.protocol.specs.History.{reads}
+use Rattle.protocol.specs.Event.{Event, arrival}
+use Rattle.protocol.specs.History.{reads, past}
+use Rattle.byte_format.specs.Handed.{handed, tally}
 use Rattle.recording_format.specs.RecordingKind.{baseRecording, wideRecording, eitherKind}
 use Rattle.recording_format.specs.Link.{Link}
 use Rattle.recording_format.specs.Words.{linksSaid, eventsSaid, linkWords, eventWords}
@@ -22,7 +23,9 @@ use Rattle.recording_demands.specs.Ensured.{Replays}
 use Rattle.recording_write.specs.declared.Written.{Written}
 use Rattle.recording_write.proofs.write.Kinds as of-write
 use Rattle.recording_write.proofs.write.Reads as on-write
-use Rattle.demands.specs.Recordings.{Genuine}
+use Rattle.demands.specs.Station.{station}
+use Rattle.demands.specs.Refusals.{Earns, EventBreaks, byHistory}
+use Rattle.demands.specs.Recordings.{recordingBytes, Genuine}
 use Rattle.recording_write_demands.specs.Ensured.{Writes, RecordingOf}
 
 pub record Writer : Type 0 where
@@ -44,6 +47,17 @@ pub record Writer : Type 0 where
   -- fits its bytes, and there is room for the numbers
   pub as-the-reader : (wide : Bool) {ds lw ew old new out list : List ℕ} {a : Written} {b : Answer} → Writes (eitherKind wide .first) ds lw ew old a new → InBytes (eitherKind wide) ds (linksSaid lw) (eventsSaid ew) →
       reads (eventsSaid ew .whole) ≤ length out → Replays (bytesAsWritten (eitherKind wide) ds lw ew) out b list → b .refusal ≢ 0 → (a .refusal ≡ b .refusal) × (a .place ≡ b .place)
+  -- no number is cut to its field: after a table and events that could happen an event is refused with what it earns as it is handed over, at the place where
+  -- its record would begin; `out` is any list with room for the reads
+  pub as-handed : (wide : Bool) (es : List (Event ℕ)) (x : Event ℕ) (rest : List (Event ℕ)) {ds lw ew old new out : List ℕ} {a : Written} {ls : List Link} {r : ℕ} →
+      Writes (eitherKind wide .first) ds lw ew old a new → linksSaid lw ≡ handed ls 0 → eventsSaid ew .whole ≡ es ++ (x ∷ rest) →
+      tally (eventsSaid ew) ≤ eitherKind wide .events → Genuine wide (recordingBytes wide ds ls es) out ds ls es → reads (eventsSaid ew .whole) ≤ length out →
+      Earns (EventBreaks (station ds ls) (byHistory (past [] es)) x) r → r ≢ 0 → (a .refusal ≡ r) × (a .place ≡ length (recordingBytes wide ds ls es))
+  -- so an arrival with a task above those that the kind can have, in 253 a bit above 15, is 12
+  pub set-beyond : (wide : Bool) (es : List (Event ℕ)) (m : ℕ) (rest : List (Event ℕ)) {ds lw ew old new out : List ℕ} {a : Written} {ls : List Link} →
+      Writes (eitherKind wide .first) ds lw ew old a new → linksSaid lw ≡ handed ls 0 → eventsSaid ew .whole ≡ es ++ (arrival m ∷ rest) →
+      tally (eventsSaid ew) ≤ eitherKind wide .events → Genuine wide (recordingBytes wide ds ls es) out ds ls es → reads (eventsSaid ew .whole) ≤ length out →
+      2 ^ (eitherKind wide .tasks) ≤ m → (a .refusal ≡ 12) × (a .place ≡ length (recordingBytes wide ds ls es))
   -- "and with 18 when the buffer is too short for the whole"; "18 is tried last, with the whole length as place"
   pub short : (wide : Bool) {ds lw ew old new : List ℕ} {a : Written} → Writes (eitherKind wide .first) ds lw ew old a new →
       (a .refusal ≡ 18) ↔ ((s : List ℕ) × (RecordingOf wide ds lw ew s × ((length old < length s) × (a .place ≡ length s))))

@@ -6,7 +6,7 @@ use Prim.Native.Nat.{ℕ, _-_}
 use native.Mathlib.Omega.{arith}
 use borrow.Author.Tests.{not-true, not-false, ne-eqb}
 use lib.ListN.{length}
-use Rattle.recording_text.specs.declared.Kind.{Kind}
+use Rattle.recording_text.specs.declared.KnownKind.{KnownKind}
 use Rattle.recording_text_fields.specs.Pieces.{between}
 use Rattle.recording_text_line.specs.Line.{says}
 use Rattle.recording_text.specs.Text.{faultIn, tasksKept, linksKept, eventsKept}
@@ -45,7 +45,7 @@ loop-holds c =
     let a = c .before .before .before .before .before .args in (
       [],
       (
-        before-none (a .text .now) (ap (λ (k : Kind). k .known) (kind .ensures)),
+        before-none (a .text .now) (ap (λ (k : KnownKind). k .known) (kind .ensures)),
         (
           told-none (kind .ensures),
           (held-none 1 tasksKept (a .defaults .now) (c .before .before .none-kept .ensures), (held-none 2 linksKept (a .links .now) (c .before .none-kept2 .ensures), held-none 3 eventsKept (a .events .now) (c .none-kept3 .ensures))),

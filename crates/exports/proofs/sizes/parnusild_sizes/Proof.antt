@@ -1,7 +1,6 @@
 -- `exports::sizes::parnusild_sizes` meets its contract: the sizes of the source are those of the layout.
 -- Assumes nothing.
 use mathlib.Core.Path.{refl}
-use borrow.Author.Needs.{needs}
 use Rattle.exports.proofs.sizes.parnusild_sizes.Statement.{statement}
 use Rattle.exports.proofs.sizes.parnusild_sizes.Tie as tie
 

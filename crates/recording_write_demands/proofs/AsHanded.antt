@@ -1,0 +1,140 @@
+-- An event that is refused is refused as it is handed over: no number of it is cut to its field.
+-- Assumes nothing.
+use mathlib.Core.Path.{_≡_, sym, ap, _∙_}
+use mathlib.Core.Logic.{_≢_}
+use mathlib.Core.Bool.{Bool, true, or-true}
+use mathlib.Core.List.{List, [], _∷_, _++_}
+use Prim.Native.Nat.{ℕ, _+_, _^_, _≤_}
+use native.Mathlib.Nat.{le-trans}
+use native.Mathlib.Omega.{arith}
+use borrow.Author.Tests.{eq-eqb, ne-eqb, le-leb}
+use lib.Dec.{eqb, leb}
+use lib.ListN.{length, length-append}
+use lib.Pow.{pow-mono}
+use Rattle.protocol.specs.Event.{Event, arrival}
+use Rattle.protocol.specs.Table.{Table}
+use Rattle.protocol.specs.History.{reads, past}
+use Rattle.protocol.specs.Schedule.{policyOf, judged}
+use Rattle.protocol_state.specs.Saved.{stateRoom}
+use Rattle.protocol_state.specs.Records.{aheadOf}
+use Rattle.byte_format.specs.Number.{bytesOf}
+use Rattle.byte_format.specs.Format.{Format, encodes, encodeSection}
+use Rattle.byte_format.specs.Play.{verdict, finally, Allowed}
+use Rattle.byte_format.specs.Handed.{Handed, handed, tally, weighed, weighedSection}
+use Rattle.byte_format.proofs.Numbers.{length-bytes}
+use Rattle.byte_format.proofs.Weighing.{section-allowed}
+use Rattle.recording_format.specs.Link.{Link, links, andLink, linkFault}
+use Rattle.recording_format.specs.Event.{events}
+use Rattle.recording_format.specs.Task.{tasks}
+use Rattle.recording_format.specs.RecordingKind.{RecordingKind, eitherKind, linkLimit, eventLimit}
+use Rattle.recording_format.specs.Recording.{encodeRecording, tasksEnd, tableEnd, Core, stateAfter, Recorded}
+use Rattle.recording_format.specs.Writing.{tableWeighed, recordingWeighed, writing}
+use Rattle.recording_format.specs.Words.{linksSaid, eventsSaid}
+use Rattle.recording_format.proofs.BothKinds.{kind-room}
+use Rattle.recording_format.proofs.Onward.{in-order}
+use Rattle.recording_format.proofs.LinkRules.{recorded-judged}
+use Rattle.recording_format.proofs.AsWritten.{tasks-weighed}
+use Rattle.recording_format.proofs.Sizes.{within-events}
+use Rattle.recording_core.specs.Playing.{coreOf, judgedIn, alone}
+use Rattle.recording_core.specs.Promise.{refusedBy}
+use Rattle.recording_core.proofs.Right.{refused-by}
+use Rattle.recording_core.proofs.Rooms.{whole-with-room}
+use Rattle.recording_write.specs.declared.Written.{Written}
+use Rattle.demands.specs.Station.{station}
+use Rattle.demands.specs.Refusals.{Earns, EventBreaks, byHistory}
+use Rattle.demands.specs.Recordings.{recordingBytes, Genuine}
+use Rattle.demands.proofs.Earned.{earns-one}
+use Rattle.demands.proofs.Events.{judged-earned}
+use Rattle.demands.proofs.Replays.{went}
+use Rattle.demands.proofs.Genuine.{genuine-kept}
+use Rattle.recording_write_demands.proofs.Demands.{WritesAs, room-past}
+
+module _ {A S : Type 0} (F : Format A) (judge : S → A → ℕ) (step : S → A → S) where
+  -- the first record that is refused decides, whatever stands after it
+  weighed-stops :
+      (ending : ℕ) (q : S) (xs : List A) (x : A) (ys : List A) (p : ℕ) → Allowed judge step q xs → judge (finally step q xs) x ≢ 0 →
+      weighed F judge step ending q (xs ++ (x ∷ ys)) p ≡ verdict (judge (finally step q xs) x) (p + length (encodes F xs)) (finally step q xs)
+  unfolding weighed Allowed encodes finally
+  weighed-stops ending q [] x ys p a n = let z : p + 0 ≡ p = omega arith in rw (ne-eqb (judge q x) 0 n, z)
+  weighed-stops ending q (y ∷ xs) x ys p a n =
+      let i = weighed-stops ending (step q y) xs x ys (p + length (F .encode y)) (a .1) n in
+      let e : p + length (F .encode y) + length (encodes F xs) ≡ p + length (encodes F (y ∷ xs)) = omega (arith, length-append (F .encode y) (encodes F xs)) in
+      rw (eq-eqb (judge q y) 0 (a .0)) (rw e at i)
+
+module _ {S : Type 0} (kind : RecordingKind) (core : Core S) {s ds : List ℕ} {ls : List Link} {es : List (Event ℕ)} (k : Recorded kind core s ds ls es) where
+  -- an event that is refused after a recording, whatever stands after it: the place is where the recording ends
+  whole-stops :
+      (ending : ℕ) (x : Event ℕ) (rest : List (Event ℕ)) → eventLimit kind (tally (handed (es ++ (x ∷ rest)) ending)) ≡ 0 → core .judge (stateAfter core ds ls es) x ≢ 0 →
+      recordingWeighed kind core ds (handed ls 0) (handed (es ++ (x ∷ rest)) ending)
+      ≡ verdict (core .judge (stateAfter core ds ls es) x) (length (encodeRecording kind ds ls es)) (stateAfter core ds ls es)
+  unfolding recordingWeighed tableWeighed weighedSection
+  whole-stops ending x rest few n =
+      let t = encodeSection (tasks kind) ds in
+      let y = encodeSection (links kind) ls in
+      let z = encodeSection (events kind) es in
+      let e : tableEnd kind ds ls + kind .eventCountWidth + length (encodes (events kind) es) ≡ length (encodeRecording kind ds ls es) =
+      omega (
+        arith,
+        length-append t (y ++ z),
+        length-append y z,
+        length-append (bytesOf (kind .eventCountWidth) (length es)) (encodes (events kind) es),
+        length-bytes (kind .eventCountWidth) (length es),
+      ) in
+      rw (
+        tasks-weighed kind ds (k .tasked .few),
+        section-allowed (links kind) (linkLimit kind) (linkFault (aheadOf ds) (length ds)) andLink [] [] ls (tasksEnd kind ds) (k .linked .few) (k .linked .allowed),
+        in-order [] ls,
+        few,
+        weighed-stops (events kind) (core .judge) (core .step) ending (core .start ds ls) es x rest (tableEnd kind ds ls + kind .eventCountWidth) (k .played .allowed) n,
+        ne-eqb (core .judge (stateAfter core ds ls es) x) 0 n,
+        e,
+      )
+
+module _
+    {wide : Bool} (es : List (Event ℕ)) (x : Event ℕ) (rest : List (Event ℕ)) {ds lw ew old new out : List ℕ} {a : Written} {ls : List Link} {r : ℕ}
+    (said : WritesAs wide ds lw ew old a new) (linked : linksSaid lw ≡ handed ls 0) (begun : eventsSaid ew .whole ≡ es ++ (x ∷ rest))
+    (few : tally (eventsSaid ew) ≤ eitherKind wide .events) (g : Genuine wide (recordingBytes wide ds ls es) out ds ls es) (room : reads (eventsSaid ew .whole) ≤ length out)
+    (earned : r ≡ judged (station ds ls) (policyOf (station ds ls)) (past [] es) x) (n : r ≢ 0) where
+  kept : Recorded (eitherKind wide) (coreOf stateRoom out) (recordingBytes wide ds ls es) ds ls es
+  kept = genuine-kept g
+
+  -- the core refuses it so, by the table and the events before it
+  refused : judgedIn (stateAfter (coreOf stateRoom out) ds ls es) x ≡ r
+  refused =
+      let w = went out ds ls es (recorded-judged (eitherKind wide) stateRoom (kind-room wide) (coreOf stateRoom out) (recordingBytes wide ds ls es) ds ls es kept) (kept .played .allowed) in
+      refused-by (w .right) x ∙ ap (λ (T : Table ℕ). refusedBy T out (past [] es) x) (w .same) ∙ rw (← earned, ne-eqb r 0 n)
+
+  -- what is judged of all that is handed over
+  all-judged :
+      recordingWeighed (eitherKind wide) (coreOf stateRoom out) ds (linksSaid lw) (eventsSaid ew)
+      ≡ verdict r (length (recordingBytes wide ds ls es)) (stateAfter (coreOf stateRoom out) ds ls es)
+  all-judged =
+      let ending = eventsSaid ew .ending in
+      let limit : eventLimit (eitherKind wide) (tally (handed (es ++ (x ∷ rest)) ending)) ≡ 0 = rw (← begun) (within-events (eitherKind wide) (tally (eventsSaid ew)) few) in
+      let stops = whole-stops (eitherKind wide) (coreOf stateRoom out) kept ending x rest limit (λ z. n (sym refused ∙ z)) in
+      ap (λ (h : Handed Link). recordingWeighed (eitherKind wide) (coreOf stateRoom out) ds h (eventsSaid ew)) linked
+      ∙ ap (λ (xs : List (Event ℕ)). recordingWeighed (eitherKind wide) (coreOf stateRoom out) ds (handed ls 0) (handed xs ending)) begun
+      ∙ stops
+      ∙ ap (λ (k : ℕ). verdict k (length (recordingBytes wide ds ls es)) (stateAfter (coreOf stateRoom out) ds ls es)) refused
+
+  -- so the writer refuses it so, before it asks for room
+  pub handed-so : (a .refusal ≡ r) × (a .place ≡ length (recordingBytes wide ds ls es))
+  unfolding writing
+  handed-so =
+      let whole = whole-with-room (eitherKind wide) stateRoom out ds (linksSaid lw) (eventsSaid ew) (room-past (eventsSaid ew .whole) room) ∙ ap alone all-judged in
+      let e : a ≡ record { refusal = r; place = length (recordingBytes wide ds ls es) } = said .answer ∙ rw (whole, ne-eqb r 0 n) in
+      (ap (λ (w : Written). w .refusal) e, ap (λ (w : Written). w .place) e)
+
+-- what an event earns is what it is judged
+pub earned-judged :
+    (T : Table ℕ) (h : List (Event ℕ)) (x : Event ℕ) {r : ℕ} → Earns (EventBreaks T (byHistory h) x) r → r ≡ judged T (policyOf T) h x
+earned-judged T h x e = earns-one e (judged-earned T h x)
+
+-- a set that reaches past the tasks of the kind is 12
+pub beyond-judged :
+    (wide : Bool) (ds : List ℕ) (ls : List Link) (h : List (Event ℕ)) {m : ℕ} → length ds ≤ eitherKind wide .tasks → 2 ^ (eitherKind wide .tasks) ≤ m →
+    12 ≡ judged (station ds ls) (policyOf (station ds ls)) h (arrival m)
+unfolding judged
+beyond-judged wide ds ls h {m} few reach =
+    let past : leb (2 ^ length ds) m ≡ true = le-leb (2 ^ length ds) m (le-trans (pow-mono few) reach) in
+    rw (past, or-true (eqb m 0))
