@@ -11,7 +11,8 @@
  * Refusals are numbers: 0 is none, 1 to 20 are explained in docs/REFUSALS.md. docs/FORMAT.md has the rules of a table, of events and of
  * a recording.
  *
- * Link with the library that `tools/native-staticlib exports` writes, for the machine at hand.
+ * Link with the library that `tools/native-staticlib exports` writes, for the machine at hand. A host that was built for states with room for
+ * other numbers of tasks and links does not link with it.
  */
 #ifndef PARNUSILD_H
 #define PARNUSILD_H
@@ -27,13 +28,22 @@ extern "C" {
 #endif
 
 enum {
-    PARNUSILD_TASKS = 16,     /* at most so many tasks */
-    PARNUSILD_LINKS = 32,     /* and so many links */
-    PARNUSILD_EVENTS = 10000, /* and so many events in a recording */
+    PARNUSILD_TASKS = 32,     /* a state has room for so many tasks */
+    PARNUSILD_LINKS = 96,     /* and so many links */
+    PARNUSILD_EVENTS = 10000, /* a recording has at most so many events */
     PARNUSILD_POSITIONS = 10, /* a task has N + 2 positions, N at most 8 */
     PARNUSILD_CELLS = PARNUSILD_TASKS * PARNUSILD_POSITIONS,
-    PARNUSILD_CONTROL = 4 * PARNUSILD_TASKS + 5 * PARNUSILD_LINKS,         /* so many bytes in a state's control */
-    PARNUSILD_VALUES = PARNUSILD_TASKS + PARNUSILD_LINKS + PARNUSILD_CELLS /* so many numbers in a state's values */
+    PARNUSILD_CONTROL = 4 * PARNUSILD_TASKS + 5 * PARNUSILD_LINKS,          /* so many bytes in a state's control */
+    PARNUSILD_VALUES = PARNUSILD_TASKS + PARNUSILD_LINKS + PARNUSILD_CELLS, /* so many numbers in a state's values */
+    PARNUSILD_SIZES = 4, /* so many sizes does parnusild_sizes answer */
+    /* no recording has more bytes: the first one and the three counts, 4 for each task, 7 for each link, and 6 for each event, a finish */
+    PARNUSILD_RECORDING = 5 + 4 * PARNUSILD_TASKS + 7 * PARNUSILD_LINKS + 6 * PARNUSILD_EVENTS
+};
+
+/* The kinds of a recording, by its first byte. Any other first byte is refusal 2, at place 0. */
+enum {
+    PARNUSILD_KIND_BASE = 253, /* at most 16 tasks and 32 links; the set of an arrival has 2 bytes */
+    PARNUSILD_KIND_WIDE = 254  /* at most 32 tasks and 96 links; the set of an arrival has 4 bytes */
 };
 
 /* The kinds of an event. Any other is unknown, refusal 11. */
@@ -46,8 +56,8 @@ enum {
 
 /* A table. Tasks are numbered from 0 and the earlier one is more urgent; slots past the counts are not looked at. */
 struct parnusild_table {
-    size_t tasks; /* 1 to 16 */
-    size_t links; /* 0 to 32 */
+    size_t tasks; /* 1 to 32 */
+    size_t links; /* 0 to 96 */
     uint32_t defaults[PARNUSILD_TASKS];
     uint8_t writer[PARNUSILD_LINKS];
     uint8_t reader[PARNUSILD_LINKS];
@@ -79,7 +89,8 @@ struct parnusild_values {
 typedef char parnusild_control_has_no_gaps[sizeof(struct parnusild_control) == PARNUSILD_CONTROL ? 1 : -1];
 typedef char parnusild_values_have_no_gaps[sizeof(struct parnusild_values) == PARNUSILD_VALUES * sizeof(uint32_t) ? 1 : -1];
 
-/* All that a station has to keep between events. Slots past the counts are never touched by an event. */
+/* All that a station has to keep between events. Slots past the counts are never touched by an event. A state that was kept with room for
+ * other numbers of tasks and links has its fields elsewhere, and has to be carried over field by field. */
 struct parnusild_state {
     size_t tasks;
     size_t links;
@@ -96,6 +107,18 @@ struct parnusild_answer {
     size_t reads;    /* so many first entries of the list hold the numbers read */
     size_t finishes;
 };
+
+/* The name of a call ends in the library with the room of a state, for so many tasks and links; a host writes it without. So an object that
+ * was built for another room misses the name and does not link: it would lend arrays of another size, and the call would write past their
+ * end. ICU has its version in its names likewise. */
+#define parnusild_event parnusild_event_32_96
+#define parnusild_fresh parnusild_fresh_32_96
+#define parnusild_replay parnusild_replay_32_96
+#define parnusild_rest parnusild_rest_32_96
+#define parnusild_write parnusild_write_32_96
+
+/* Where the room is changed and the names are not, this does not compile. */
+typedef char parnusild_names_have_the_room[PARNUSILD_TASKS == 32 && PARNUSILD_LINKS == 96 ? 1 : -1];
 
 /* The calls of the library, on the parts of a state; the functions below take the struct. A slice is a pointer, not null even where
  * its length is 0, and a length; an array is a pointer. `control` has PARNUSILD_CONTROL bytes, in the order of struct parnusild_control,
@@ -114,7 +137,7 @@ uint8_t parnusild_event(uint8_t kind, uint32_t which, uint32_t value, uint32_t *
 
 /* The fresh state of a table, put into the parts lent from `tasks` on: both `newest` and `previous` at 1, every position holding the
  * task's default, every pointer absent, no mark, every task idle and without arrivals. Answers 0, or the refusal that the table earns: 2 the
- * count of tasks is 0 or above 16; 3 the count of links is above 32; else of the first link at fault, in rising order, 4 it names no task of
+ * count of tasks is 0 or above 32; 3 the count of links is above 96; else of the first link at fault, in rising order, 4 it names no task of
  * the table; 5 a direct link from a task to itself; 6 its kind is neither 0 nor 1; 7 a direct link to a reader ahead; 8 its writer has an
  * earlier link to its reader; 9 it is the writer's ninth link to a reader behind; 20 a direct link whose start value isn't 0. On a refusal
  * the state is the fresh one of a single task with default 0 and no links. */
@@ -122,12 +145,13 @@ uint8_t parnusild_fresh(size_t table_tasks, size_t table_links, const uint32_t *
                         const uint8_t *table_reader, const uint8_t *table_kind, const uint32_t *table_start_value,
                         size_t *tasks, size_t *links, uint8_t *control, uint32_t *values);
 
-/* A whole recording, `size` lent bytes, with a lent list of `room` numbers. Bytes are judged from the left and the first fault decides; the
- * first one must be 253. Answers the refusal, 0 accepted, 1 to 18 or 20 (docs/FORMAT.md). `place`: the first byte of the recording, count
- * or record at fault; for 17 the first extra byte; on acceptance the length. `counts`, four of them: arrivals task by task, starts, reads,
- * finishes. At a refusal whose place is the recording's first byte, in the tasks, in the links or one of the three counts, the state (the
- * parts lent from `tasks` on) is the fresh one of a single task with default 0 and no links, all counts are 0, and the list is untouched.
- * Later, state and counts are those after the last accepted event; the list's first entries hold the numbers read, the rest is untouched. */
+/* A whole recording, `size` lent bytes, with a lent list of `room` numbers. Bytes are judged from the left and the first fault decides. The
+ * first one is the kind, 253 or 254, whose limits hold: with 253 17 tasks are 2, though a state has room for them. Answers the refusal, 0
+ * accepted, 1 to 18 or 20 (docs/FORMAT.md). `place`: the first byte of the recording, count or record at fault; for 17 the first extra byte;
+ * on acceptance the length. `counts`, four of them: arrivals task by task, starts, reads, finishes. At a refusal whose place is the
+ * recording's first byte, in the tasks, in the links or one of the three counts, the state (the parts lent from `tasks` on) is the fresh one
+ * of a single task with default 0 and no links, all counts are 0, and the list is untouched. Later, state and counts are those after the last
+ * accepted event; the list's first entries hold the numbers read, the rest is untouched. */
 uint8_t parnusild_replay(const uint8_t *bytes, size_t size, uint32_t *numbers, size_t room, size_t *place, size_t *counts,
                          size_t *tasks, size_t *links, uint8_t *control, uint32_t *values);
 
@@ -135,16 +159,29 @@ uint8_t parnusild_replay(const uint8_t *bytes, size_t size, uint32_t *numbers, s
  * recording, from the place on; none past the end, and none after acceptance. */
 size_t parnusild_rest(const uint8_t *bytes, size_t size, size_t place);
 
-/* A recording, written into a lent buffer of `room` bytes. `defaults`: one for each of `tasks` tasks. `links`, `links_size` numbers:
- * four of each link, its writer, reader, kind and start value. `events`, `events_size` numbers: the kind of each event and what it has, so 1
- * and a set (bit t is task t); 2 and a task; 3 and a link; 4, a task and a value. Judged from the left as a replay would judge the bytes, and
- * the first fault decides. Answers the refusal, 0 accepted, 1 to 16 or 20 (docs/FORMAT.md), at the `place` where a replay would find the
- * fault: the first byte of the count or record. No number is cut to its field: a task 256 is not in the table. A link or an event whose
- * numbers are not all there counts as one, and is 1; a kind outside 1 to 4 counts as one event, is 11, and nothing after it is looked at.
- * Tried last: 18, the buffer is too short, and `place` is the length of the whole recording. On acceptance `place` is how many bytes were
- * written, which a replay accepts with room for the numbers; no byte after them is touched, and on a refusal none at all. */
-uint8_t parnusild_write(const uint32_t *defaults, size_t tasks, const uint32_t *links, size_t links_size, const uint32_t *events,
-                        size_t events_size, uint8_t *bytes, size_t room, size_t *place);
+/* A recording of the kind `kind`, 253 or 254, written into a lent buffer of `room` bytes. `defaults`: one for each of `tasks` tasks. `links`,
+ * `links_size` numbers: four of each link, its writer, reader, kind and start value. `events`, `events_size` numbers: the kind of each event
+ * and what it has, so 1 and a set (bit t is task t); 2 and a task; 3 and a link; 4, a task and a value. Judged from the left as a replay would
+ * judge the bytes, by that kind's limits, and the first fault decides; another `kind` is 2 at place 0. Answers the refusal, 0 accepted, 1 to 16
+ * or 20 (docs/FORMAT.md), at the `place` where a replay would find the fault: the first byte of the recording, count or record. No number is
+ * cut to its field: a task 256 is not in the table, nor is with 253 a task above 15 in a set. A link or an event whose numbers are not all there
+ * counts as one, and is 1; a kind of event outside 1 to 4 counts as one event, is 11, and nothing after it is looked at. Tried last: 18, the
+ * buffer is too short, and `place` is the length of the whole recording. On acceptance `place` is how many bytes were written, which a replay
+ * accepts with room for the numbers; no byte after them is touched, and on a refusal none at all. */
+uint8_t parnusild_write(uint32_t kind, const uint32_t *defaults, size_t tasks, const uint32_t *links, size_t links_size,
+                        const uint32_t *events, size_t events_size, uint8_t *bytes, size_t room, size_t *place);
+
+/* The sizes of the library, PARNUSILD_SIZES of them: how many tasks and how many links a state has room for, how many bytes its control has, and
+ * how many numbers its values have. This call alone has no room in its name: a host may ask any library for it. */
+void parnusild_sizes(size_t *sizes);
+
+/* Whether the sizes that a library answered are this header's; else no other call of it may be made. For a host that looks the calls up at run
+ * time, where no linker would tell. */
+static inline int parnusild_fits(const size_t *sizes)
+{
+    return sizes[0] == PARNUSILD_TASKS && sizes[1] == PARNUSILD_LINKS && sizes[2] == PARNUSILD_CONTROL
+        && sizes[3] == PARNUSILD_VALUES;
+}
 
 /* The fresh state of a table: `newest` and `previous` at 1, every position holding the task's default, every pointer absent, no mark,
  * every task idle and without arrivals. Answers 0, or the refusal that the table earns, 2 to 9 or 20; the state is then the fresh one of
@@ -201,7 +238,7 @@ static inline uint8_t parnusild_state_finish(struct parnusild_state *state, uint
     return parnusild_state_event(state, PARNUSILD_FINISH, task, value, &number);
 }
 
-/* A whole recording, read from the lent bytes. Bytes are judged from the left and the first fault decides. The answer has the
+/* A whole recording of either kind, read from the lent bytes. Bytes are judged from the left and the first fault decides. The answer has the
  * refusal, the place and the four counts; state and counts are those after the last accepted event; the list's first entries hold the
  * numbers read, the rest is untouched. At a refusal whose place is the recording's first byte, in the tasks, in the links or one of the
  * three counts, the state is the fresh one of a single task with default 0 and no links, all counts are 0, and the list is untouched.
@@ -235,8 +272,9 @@ static inline const uint8_t *parnusild_recording_rest(const struct parnusild_ans
     return size ? bytes + (size - *left) : bytes;
 }
 
-/* A recording, written into a lent buffer, as parnusild_write says. Each of the four slices may be null where its length is 0. */
-static inline uint8_t parnusild_recording_write(const uint32_t *PARNUSILD_RESTRICT defaults, size_t tasks,
+/* A recording of a kind, PARNUSILD_KIND_BASE or PARNUSILD_KIND_WIDE, written into a lent buffer, as parnusild_write says. Each of the four
+ * slices may be null where its length is 0. */
+static inline uint8_t parnusild_recording_write(uint32_t kind, const uint32_t *PARNUSILD_RESTRICT defaults, size_t tasks,
                                                 const uint32_t *PARNUSILD_RESTRICT links, size_t links_size,
                                                 const uint32_t *PARNUSILD_RESTRICT events, size_t events_size,
                                                 uint8_t *PARNUSILD_RESTRICT bytes, size_t room,
@@ -244,7 +282,7 @@ static inline uint8_t parnusild_recording_write(const uint32_t *PARNUSILD_RESTRI
 {
     const uint32_t no_default = 0, no_link = 0, no_event = 0;
     uint8_t no_byte = 0;
-    return parnusild_write(tasks ? defaults : &no_default, tasks, links_size ? links : &no_link, links_size,
+    return parnusild_write(kind, tasks ? defaults : &no_default, tasks, links_size ? links : &no_link, links_size,
                            events_size ? events : &no_event, events_size, room ? bytes : &no_byte, room, place);
 }
 

@@ -1,8 +1,9 @@
-/* A host in C. It replays a recording and prints what was read and counted, then gives the same events one by one to a saved state
- * of its own and sees that both end in the same state; then gives some events that are refused; then tries each call at edge sizes;
- * then writes the recording itself, replays what it wrote, and has some writing refused; then reads the start value of a delayed link up
- * to its writer's second arrival, and has a state refused after each change that makes it unsound; then has a task read its own last
- * output; then sees that each named field of a state stands where the library has it.
+/* A host in C. It asks the library for its sizes, and sees that they are the header's; replays a recording and prints what was read and
+ * counted, then gives the same events one by one to a saved state of its own and sees that both end in the same state; then gives some
+ * events that are refused; then tries each call at edge sizes; then writes the recording itself, in both kinds, replays what it wrote, and
+ * has some writing refused; then holds each kind to its limits, and a state to its room; then reads the start value of a delayed link up to
+ * its writer's second arrival, and has a state refused after each change that makes it unsound; then has a task read its own last output;
+ * then sees that each named field of a state stands where the library has it.
  *
  *     host FILE       the long example of docs/FORMAT.md (recordings/figure-17.rec)
  */
@@ -13,7 +14,7 @@
 #include "parnusild.h"
 
 /* the longest recording and one byte more; as many numbers as a recording can read */
-static uint8_t bytes[60294];
+static uint8_t bytes[PARNUSILD_RECORDING + 1];
 static uint32_t numbers[PARNUSILD_EVENTS];
 
 struct event {
@@ -46,6 +47,24 @@ static const struct parnusild_table table = {
     .start_value = { 90, 0, 0 },
 };
 
+/* what the library says of its sizes, and whether the header's are the same; then with each of them off by one */
+static void sizes(void)
+{
+    size_t of_library[PARNUSILD_SIZES] = { 0 };
+    int i;
+    parnusild_sizes(of_library);
+    printf("sizes");
+    for (i = 0; i < PARNUSILD_SIZES; i++)
+        printf(" %zu", of_library[i]);
+    printf(": %s\n", parnusild_fits(of_library) ? "the header's" : "NOT the header's");
+    for (i = 0; i < PARNUSILD_SIZES; i++) {
+        of_library[i]++;
+        printf("size %d one more: %s\n", i, parnusild_fits(of_library) ? "FITS" : "does not fit");
+        of_library[i]--;
+    }
+    printf("a recording has at most %d bytes\n", PARNUSILD_RECORDING);
+}
+
 /* whether two states hold the same */
 static int same(const struct parnusild_state *a, const struct parnusild_state *b)
 {
@@ -54,11 +73,11 @@ static int same(const struct parnusild_state *a, const struct parnusild_state *b
 }
 
 /* the replay of a whole recording */
-static void replay(size_t size, struct parnusild_state *state)
+static void replay(const uint8_t *recording, size_t size, struct parnusild_state *state)
 {
     struct parnusild_answer answer;
     size_t i;
-    parnusild_state_replay(state, &answer, bytes, size, numbers, PARNUSILD_EVENTS);
+    parnusild_state_replay(state, &answer, recording, size, numbers, PARNUSILD_EVENTS);
     printf("refusal %u at %zu of %zu\n", answer.refusal, answer.place, size);
     printf("arrivals %zu, starts %zu, reads %zu, finishes %zu\n", answer.arrivals, answer.starts, answer.reads, answer.finishes);
     for (i = 0; i < answer.reads; i++)
@@ -127,35 +146,40 @@ static void refusals(struct parnusild_state *state)
     refuse("unsound, task 256", state, PARNUSILD_START, 256);
 }
 
-/* a table that is refused: its number, and the single task's state instead */
-static void refuse_table(const char *what, const struct parnusild_table *refused)
+/* a table: the refusal that it earns, and its state, or the single task's instead */
+static void make(const char *what, const struct parnusild_table *tried)
 {
     struct parnusild_state state;
     unsigned refusal;
     memset(&state, 0x55, sizeof state);
-    refusal = parnusild_state_fresh(&state, refused);
+    refusal = parnusild_state_fresh(&state, tried);
     printf("%s: refusal %u, tasks %zu, links %zu\n", what, refusal, state.tasks, state.links);
 }
 
-static void refused_tables(void)
+/* tables on either side of the room for tasks, and past that for links; then refused ones */
+static void tables(void)
 {
     struct parnusild_table other = table;
-    other.tasks = PARNUSILD_TASKS + 1;
-    refuse_table("17 tasks", &other);
+    other.tasks = 17;
+    make("17 tasks", &other);
+    other.tasks = 32;
+    make("32 tasks", &other);
+    other.tasks = 33;
+    make("33 tasks", &other);
     other.tasks = 4;
-    other.links = PARNUSILD_LINKS + 1;
-    refuse_table("33 links", &other);
+    other.links = 97;
+    make("97 links", &other);
     other.links = 3;
     other.kind[0] = 0;
-    refuse_table("direct link to a reader ahead", &other);
+    make("direct link to a reader ahead", &other);
     other.kind[0] = 1;
     other.start_value[2] = 1;
-    refuse_table("direct link with a start value", &other);
+    make("direct link with a start value", &other);
     other.start_value[2] = 0;
     other.writer[2] = 3;
-    refuse_table("direct link from a task to itself", &other);
+    make("direct link from a task to itself", &other);
     other.kind[2] = 2;
-    refuse_table("link of kind 2 from a task to itself", &other);
+    make("link of kind 2 from a task to itself", &other);
 }
 
 /* the entry past the lent ones, which was 77 before; without a list there is none that a replay could reach */
@@ -182,25 +206,33 @@ static void edge(const char *what, const uint8_t *lent, size_t size, uint32_t *l
            state.tasks, left, rest == (lent ? lent + answer.place : lent) ? "" : " ELSEWHERE", past(list, room));
 }
 
+/* the least recording of a kind, and on either side of it */
+static void least_of_kind(uint8_t kind)
+{
+    const uint8_t least[10] = { kind, 1 }; /* one task, no links, no events; and a byte more */
+    printf("kind %u\n", kind);
+    edge("least recording", least, 9, NULL, 0);
+    edge("one byte short", least, 8, NULL, 0);
+    edge("one byte more", least, 10, NULL, 0);
+    edge("first byte alone", least, 1, NULL, 0);
+}
+
 static void edge_sizes(size_t size)
 {
-    const uint8_t least[10] = { 253, 1 }; /* one task, no links, no events; and a byte more */
-    const uint8_t other_first[9] = { 252, 1 };
     edge("room one more", bytes, size, numbers, 9);
     edge("room exact", bytes, size, numbers, 8);
     edge("room one short", bytes, size, numbers, 7);
     edge("room 0", bytes, size, numbers, 0);
     edge("room 0, no list", bytes, size, NULL, 0);
     edge("no bytes", NULL, 0, NULL, 0);
-    edge("least recording", least, 9, NULL, 0);
-    edge("one byte short", least, 8, NULL, 0);
-    edge("one byte more", least, 10, NULL, 0);
-    edge("first byte alone", least, 1, NULL, 0);
-    edge("first byte 252", other_first, 9, NULL, 0);
+    least_of_kind(252);
+    least_of_kind(PARNUSILD_KIND_BASE);
+    least_of_kind(PARNUSILD_KIND_WIDE);
+    least_of_kind(255);
 }
 
-/* the buffer that is written to, 77 in each byte before */
-static uint8_t written[176];
+/* the buffer that is written to, 77 in each byte before; the longest that is written here has 1258 */
+static uint8_t written[1280];
 
 /* whether a byte of the buffer is no longer 77, from a place on */
 static int touched(size_t from)
@@ -224,50 +256,200 @@ static size_t as_numbers(uint32_t *list)
     return size;
 }
 
-/* the example's table with so many numbers of its links, and events, written with so much room: the refusal, the place, and whether the
- * bytes that must be as they were are so, all of them on a refusal and else the rest; the place */
-static size_t put(const char *what, size_t links_size, const uint32_t *events, size_t events_size, size_t room)
+/* what is handed over to be written */
+struct handover {
+    uint32_t kind;
+    const uint32_t *defaults;
+    size_t tasks;
+    const uint32_t *links;
+    size_t links_size;
+    const uint32_t *events;
+    size_t events_size;
+};
+
+/* written with so much room: the refusal, the place, and whether the bytes that must be as they were are so, all of them on a refusal and
+ * else the rest; how many bytes were written */
+static size_t put(const char *what, const struct handover *h, size_t room)
 {
-    uint32_t links[12];
-    size_t i, place = 77;
+    size_t place = 77;
     unsigned refusal;
-    for (i = 0; i < table.links; i++) {
-        links[4 * i] = table.writer[i];
-        links[4 * i + 1] = table.reader[i];
-        links[4 * i + 2] = table.kind[i];
-        links[4 * i + 3] = table.start_value[i];
-    }
     memset(written, 77, sizeof written);
-    refusal = parnusild_recording_write(table.defaults, table.tasks, links, links_size, events, events_size, written, room, &place);
+    refusal = parnusild_recording_write(h->kind, h->defaults, h->tasks, h->links, h->links_size, h->events, h->events_size, written,
+                                        room, &place);
     printf("%s: refusal %u at %zu, %s %s\n", what, refusal, place, refusal ? "buffer" : "rest",
            touched(refusal ? 0 : place) ? "CHANGED" : "kept");
-    return place;
+    return refusal ? 0 : place;
 }
 
-/* the long example is written as it stands in the file, and is accepted; then what is refused */
+/* the example's links as numbers */
+static const uint32_t example_links[] = { 1, 0, 1, 90, 1, 2, 0, 0, 1, 3, 0, 0 };
+
+/* the example of a kind, with its events as numbers */
+static struct handover example_of(uint32_t kind, const uint32_t *events, size_t events_size)
+{
+    const struct handover whole = { kind, table.defaults, table.tasks, example_links, 12, events, events_size };
+    return whole;
+}
+
+/* the example with one of its events' numbers changed, which is then put back */
+static void put_with(const char *what, const struct handover *h, uint32_t *number, uint32_t changed, size_t room)
+{
+    const uint32_t kept = *number;
+    *number = changed;
+    put(what, h, room);
+    *number = kept;
+}
+
+/* the example of the first kind is written as it stands in the file, and is accepted; then what is refused */
 static void writing(size_t size)
 {
     uint32_t events[3 * sizeof example / sizeof example[0]];
     const size_t all = as_numbers(events);
-    size_t place = put("written", 12, events, all, sizeof written);
+    const struct handover whole = example_of(PARNUSILD_KIND_BASE, events, all);
+    struct handover other = whole;
+    const size_t place = put("written", &whole, sizeof written);
     printf("bytes %s\n", place == size && !memcmp(written, bytes, size) ? "as in the file" : "DIFFER");
     edge("replay of what was written", written, place, numbers, 9);
-    put("exact room", 12, events, all, size);
-    put("one byte short", 12, events, all, size - 1);
-    put("no room", 12, events, all, 0);
-    put("no events", 12, NULL, 0, sizeof written);
-    put("link begun", 11, events, all, sizeof written);
-    put("event begun", 12, events, all - 1, sizeof written);
-    events[2] = 256 + PARNUSILD_START;
-    put("unknown kind 258", 12, events, all, sizeof written);
-    events[2] = PARNUSILD_START;
-    events[3] = 256;
-    put("start of task 256", 12, events, all, sizeof written);
-    events[3] = 1;
-    put("start of task 1 before task 0", 12, events, all, 0);
-    place = 77;
-    printf("nothing to write: refusal %u", parnusild_recording_write(NULL, 0, NULL, 0, NULL, 0, NULL, 0, &place));
-    printf(" at %zu\n", place);
+    put("exact room", &whole, size);
+    put("one byte short", &whole, size - 1);
+    put("no room", &whole, 0);
+    other.events_size = all - 1;
+    put("event begun", &other, sizeof written);
+    other.events = NULL;
+    other.events_size = 0;
+    put("no events", &other, sizeof written);
+    other = whole;
+    other.links_size = 11;
+    put("link begun", &other, sizeof written);
+    put_with("unknown kind 258", &whole, &events[2], 256 + PARNUSILD_START, sizeof written);
+    put_with("start of task 256", &whole, &events[3], 256, sizeof written);
+    put_with("start of task 1 before task 0", &whole, &events[3], 1, 0);
+}
+
+/* the example of the other kind: two bytes more for each of its five arrivals, and nothing else of the answer is another; then kinds that
+ * there are not, before all else */
+static void writing_wide(const struct parnusild_state *state_of_file)
+{
+    static const uint32_t none[] = { 0, 252, 255, 256 + PARNUSILD_KIND_BASE, 256 + PARNUSILD_KIND_WIDE, 0xffffffff };
+    uint32_t events[3 * sizeof example / sizeof example[0]];
+    const size_t all = as_numbers(events);
+    const struct handover whole = example_of(PARNUSILD_KIND_WIDE, events, all);
+    const struct handover nothing = { 0, NULL, 0, NULL, 0, NULL, 0 };
+    struct parnusild_state state;
+    struct handover other = whole;
+    const size_t place = put("written, wide", &whole, sizeof written);
+    size_t i;
+    replay(written, place, &state);
+    printf("states %s\n", same(&state, state_of_file) ? "alike" : "DIFFER");
+    put("exact room, wide", &whole, place);
+    put("one byte short, wide", &whole, place - 1);
+    put_with("start of task 256, wide", &whole, &events[3], 256, sizeof written);
+    for (i = 0; i < sizeof none / sizeof none[0]; i++) {
+        other.kind = none[i];
+        printf("kind %u, ", (unsigned)other.kind);
+        put("to be written", &other, sizeof written);
+    }
+    put("nothing to write, of kind 0", &nothing, 0);
+    other = nothing;
+    other.kind = PARNUSILD_KIND_BASE;
+    put("nothing to write", &other, 0);
+}
+
+/* as many links as there are, in rings of so many tasks: each task writes to the next one, then each to the one before, then each to itself */
+static size_t ring_reader(size_t tasks, size_t link)
+{
+    const size_t steps[] = { 1, tasks - 1, 0 };
+    return (link + steps[link / tasks % 3]) % tasks;
+}
+
+/* direct where the reader is behind */
+static uint8_t ring_kind(size_t tasks, size_t link)
+{
+    return ring_reader(tasks, link) <= link % tasks;
+}
+
+/* a delayed one has a start value of its own */
+static uint32_t ring_start_value(size_t tasks, size_t link)
+{
+    return ring_kind(tasks, link) ? 2000 + (uint32_t)link : 0;
+}
+
+/* so many links of rings as numbers; how many numbers those are */
+static size_t rings_as_numbers(uint32_t *list, size_t tasks, size_t links)
+{
+    size_t i, size = 0;
+    for (i = 0; i < links; i++) {
+        list[size++] = (uint32_t)(i % tasks);
+        list[size++] = (uint32_t)ring_reader(tasks, i);
+        list[size++] = ring_kind(tasks, i);
+        list[size++] = ring_start_value(tasks, i);
+    }
+    return size;
+}
+
+/* a round of the rings as numbers: a set arrives, then each task starts, reads by all its links and finishes with 500 and its number; how many
+ * numbers those are */
+static size_t round_as_numbers(uint32_t *list, uint32_t set, size_t tasks, size_t links)
+{
+    size_t task, link, size = 0;
+    list[size++] = PARNUSILD_ARRIVAL;
+    list[size++] = set;
+    for (task = 0; task < tasks; task++) {
+        list[size++] = PARNUSILD_START;
+        list[size++] = (uint32_t)task;
+        for (link = 0; link < links; link++)
+            if (ring_reader(tasks, link) == task) {
+                list[size++] = PARNUSILD_READ;
+                list[size++] = (uint32_t)link;
+            }
+        list[size++] = PARNUSILD_FINISH;
+        list[size++] = (uint32_t)task;
+        list[size++] = 500 + (uint32_t)task;
+    }
+    return size;
+}
+
+/* a round of so many tasks and links, written in a kind; how many bytes were written */
+static size_t put_rings(uint32_t kind, size_t tasks, size_t links, uint32_t set)
+{
+    static uint32_t defaults[PARNUSILD_TASKS + 1], list[4 * (PARNUSILD_LINKS + 1)];
+    static uint32_t events[2 + 5 * (PARNUSILD_TASKS + 1) + 2 * (PARNUSILD_LINKS + 1)];
+    struct handover h = { 0, defaults, 0, list, 0, events, 0 };
+    h.kind = kind;
+    h.tasks = tasks;
+    h.links_size = rings_as_numbers(list, tasks, links);
+    h.events_size = round_as_numbers(events, set, tasks, links);
+    printf("kind %u, %zu tasks, %zu links, set %x, ", (unsigned)kind, tasks, links, (unsigned)set);
+    return put("to be written", &h, sizeof written);
+}
+
+/* likewise, and then replayed: what is said of it, and the last number read; then with the other kind in its first byte */
+static void try_rings(uint32_t kind, size_t tasks, size_t links, uint32_t set)
+{
+    const size_t size = put_rings(kind, tasks, links, set);
+    if (size == 0)
+        return;
+    edge("replayed", written, size, numbers, links);
+    printf("the last number read: %u\n", (unsigned)numbers[links - 1]);
+    written[0] = kind == PARNUSILD_KIND_BASE ? PARNUSILD_KIND_WIDE : PARNUSILD_KIND_BASE;
+    edge("replayed in the other kind", written, size, numbers, links);
+}
+
+/* either side of each limit: 16 tasks, 32 links, and task 15 in a set for the first kind; 32, 96 and 31 for the other */
+static void limits(void)
+{
+    try_rings(PARNUSILD_KIND_BASE, 16, 32, 0xffff);
+    try_rings(PARNUSILD_KIND_BASE, 17, 32, 0x1ffff);
+    try_rings(PARNUSILD_KIND_BASE, 16, 33, 0xffff);
+    try_rings(PARNUSILD_KIND_BASE, 16, 32, 0x1ffff);
+    try_rings(PARNUSILD_KIND_WIDE, 16, 32, 0xffff);
+    try_rings(PARNUSILD_KIND_WIDE, 17, 32, 0x1ffff);
+    try_rings(PARNUSILD_KIND_WIDE, 16, 33, 0xffff);
+    try_rings(PARNUSILD_KIND_WIDE, 16, 32, 0x1ffff);
+    try_rings(PARNUSILD_KIND_WIDE, 32, 96, 0xffffffff);
+    try_rings(PARNUSILD_KIND_WIDE, 33, 96, 0xffffffff);
+    try_rings(PARNUSILD_KIND_WIDE, 32, 97, 0xffffffff);
+    try_rings(PARNUSILD_KIND_WIDE, 31, 93, 0xffffffff);
 }
 
 /* a waiting task starts and finishes; 0 where neither is refused */
@@ -412,8 +594,7 @@ static void layout(const struct parnusild_state *state)
     STANDS(values, cells);
 }
 
-/* as many tasks and links as there can be, so that no slot of a field is left out: each task writes to the next one, then each to the one
- * before, direct where the reader is behind; a delayed one has a start value of its own */
+/* as many tasks and links as there can be, so that no slot of a field is left out: in rings */
 static void full_table(struct parnusild_table *full)
 {
     size_t i;
@@ -423,13 +604,34 @@ static void full_table(struct parnusild_table *full)
         full->defaults[i] = 1000 + (uint32_t)i;
     for (i = 0; i < PARNUSILD_LINKS; i++) {
         full->writer[i] = i % PARNUSILD_TASKS;
-        full->reader[i] = (i < PARNUSILD_TASKS ? i + 1 : i + PARNUSILD_TASKS - 1) % PARNUSILD_TASKS;
-        full->kind[i] = full->reader[i] < full->writer[i];
-        full->start_value[i] = full->kind[i] ? 2000 + (uint32_t)i : 0;
+        full->reader[i] = (uint8_t)ring_reader(PARNUSILD_TASKS, i);
+        full->kind[i] = ring_kind(PARNUSILD_TASKS, i);
+        full->start_value[i] = ring_start_value(PARNUSILD_TASKS, i);
     }
 }
 
-/* a state in which no two fields hold the same: the odd tasks have run once; then all but task 14 have arrived, tasks 0 and 1 have run,
+/* the last task and the last link that a state has room for, and the first ones that it has not: by single events, and as counts of a state */
+static void end_of_the_room(void)
+{
+    struct parnusild_table full;
+    struct parnusild_state state;
+    full_table(&full);
+    printf("fresh with all the room %u\n", parnusild_state_fresh(&state, &full));
+    printf("arrival of task 31 %u\n", parnusild_state_arrival(&state, 0x80000000));
+    refuse("task 31 arrives again", &state, PARNUSILD_ARRIVAL, 0x80000000);
+    run_and_read(&state, 31, 95, 9);
+    refuse("task 32", &state, PARNUSILD_START, 32);
+    refuse("link 96", &state, PARNUSILD_READ, 96);
+    state.tasks = 33;
+    refuse("33 tasks in a state", &state, PARNUSILD_START, 31);
+    state.tasks = 32;
+    state.links = 97;
+    refuse("97 links in a state", &state, PARNUSILD_START, 31);
+    state.links = 96;
+    refuse("32 tasks and 96 links in a state", &state, PARNUSILD_START, 31);
+}
+
+/* a state in which no two fields hold the same: the odd tasks have run once; then all but task 30 have arrived, tasks 0 and 1 have run,
  * and task 2 runs */
 static void amid_a_round(struct parnusild_state *state)
 {
@@ -438,10 +640,10 @@ static void amid_a_round(struct parnusild_state *state)
     uint32_t task;
     full_table(&full);
     refusals = parnusild_state_fresh(state, &full);
-    refusals |= parnusild_state_arrival(state, 0xaaaa);
+    refusals |= parnusild_state_arrival(state, 0xaaaaaaaa);
     for (task = 1; task < PARNUSILD_TASKS; task += 2)
         refusals |= run(state, task, 100 + task);
-    refusals |= parnusild_state_arrival(state, 0xbfff);
+    refusals |= parnusild_state_arrival(state, 0xbfffffff);
     refusals |= run(state, 0, 500);
     refusals |= run(state, 1, 501);
     refusals |= parnusild_state_start(state, 2);
@@ -606,17 +808,21 @@ int main(int argc, char **argv)
     }
     size = fread(bytes, 1, sizeof bytes, file);
     fclose(file);
-    replay(size, &whole);
+    sizes();
+    replay(bytes, size, &whole);
     one_by_one(&state);
     printf("states %s\n", same(&whole, &state) ? "alike" : "DIFFER");
     run_whole(&state);
     refusals(&state);
-    refused_tables();
+    tables();
     edge_sizes(size);
     writing(size);
+    writing_wide(&whole);
+    limits();
     start_values();
     unsound_by_one_change();
     filter();
+    end_of_the_room();
     layout(&state);
     fields_put();
     fields_taken();
