@@ -2,10 +2,17 @@
 //!
 //! The library asks that each points to what its type says and that what it writes to overlaps nothing else of the call: references give
 //! both. A state's control and values pass as raw pointers, since the host has each as a struct with named fields.
-use crate::{CONTROL, LINKS, TASKS, VALUES};
+//!
+//! In the library a call's name ends with the room of a state, for so many tasks and links, so that a host that was built for another room
+//! does not link: it would lend arrays of another size.
+use crate::{CONTROL, LINKS, SIZES, TASKS, VALUES};
+
+// Where the room is changed and the names are not, this does not compile.
+const _: () = assert!(TASKS == 32 && LINKS == 96);
 
 extern "C" {
-    pub fn parnusild_event(
+    #[link_name = "parnusild_event_32_96"]
+    pub fn event(
         kind: u8,
         which: u32,
         value: u32,
@@ -16,7 +23,8 @@ extern "C" {
         values: *mut [u32; VALUES],
     ) -> u8;
 
-    pub fn parnusild_fresh(
+    #[link_name = "parnusild_fresh_32_96"]
+    pub fn fresh(
         table_tasks: usize,
         table_links: usize,
         table_defaults: &[u32; TASKS],
@@ -30,7 +38,8 @@ extern "C" {
         values: *mut [u32; VALUES],
     ) -> u8;
 
-    pub fn parnusild_replay(
+    #[link_name = "parnusild_replay_32_96"]
+    pub fn replay(
         bytes: *const u8,
         size: usize,
         numbers: *mut u32,
@@ -43,9 +52,12 @@ extern "C" {
         values: *mut [u32; VALUES],
     ) -> u8;
 
-    pub fn parnusild_rest(bytes: *const u8, size: usize, place: usize) -> usize;
+    #[link_name = "parnusild_rest_32_96"]
+    pub fn rest(bytes: *const u8, size: usize, place: usize) -> usize;
 
-    pub fn parnusild_write(
+    #[link_name = "parnusild_write_32_96"]
+    pub fn write(
+        kind: u32,
         defaults: *const u32,
         tasks: usize,
         links: *const u32,
@@ -56,4 +68,8 @@ extern "C" {
         room: usize,
         place: &mut usize,
     ) -> u8;
+
+    /// This one alone has no room in its name: a host may ask any library for it.
+    #[link_name = "parnusild_sizes"]
+    pub fn sizes(sizes: &mut [usize; SIZES]);
 }

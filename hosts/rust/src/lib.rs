@@ -7,11 +7,11 @@ mod calls;
 
 use std::mem::size_of;
 
-/// At most so many tasks.
-pub const TASKS: usize = 16;
-/// At most so many links.
-pub const LINKS: usize = 32;
-/// And so many events in a recording.
+/// A state has room for so many tasks.
+pub const TASKS: usize = 32;
+/// And so many links.
+pub const LINKS: usize = 96;
+/// A recording has at most so many events.
 pub const EVENTS: usize = 10_000;
 /// A task has N + 2 positions, N at most 8.
 pub const POSITIONS: usize = 10;
@@ -21,6 +21,15 @@ pub const CELLS: usize = TASKS * POSITIONS;
 pub const CONTROL: usize = 4 * TASKS + 5 * LINKS;
 /// So many numbers in a state's values.
 pub const VALUES: usize = TASKS + LINKS + CELLS;
+/// So many sizes does a library have.
+pub const SIZES: usize = 4;
+/// No recording has more bytes: the first one and the three counts, 4 for each task, 7 for each link, and 6 for each event, a finish.
+pub const RECORDING: usize = 5 + 4 * TASKS + 7 * LINKS + 6 * EVENTS;
+
+/// The kind of recording that has at most 16 tasks and 32 links, by its first byte; the set of an arrival has 2 bytes.
+pub const BASE_KIND: u32 = 253;
+/// The one that has at most 32 tasks and 96 links; the set of an arrival has 4 bytes. Any other first byte is refusal 2, at place 0.
+pub const WIDE_KIND: u32 = 254;
 
 /// A table. Tasks are numbered from 0 and the earlier one is more urgent; slots past the counts are not looked at.
 #[derive(Clone, Debug, PartialEq, Eq)]
@@ -159,7 +168,7 @@ impl State {
         // is the array that its pointer says, in size, alignment and elements. None overlap, since they are to different fields, and the
         // state is this function's own.
         let refusal = unsafe {
-            calls::parnusild_fresh(
+            calls::fresh(
                 table.tasks,
                 table.links,
                 &table.defaults,
@@ -199,7 +208,7 @@ impl State {
         // SAFETY: control and values are lent whole, and either struct is the array that its pointer says, in size, alignment and
         // elements. Nothing overlaps, since they are different fields, and the number is this function's own.
         let refusal = unsafe {
-            calls::parnusild_event(
+            calls::event(
                 kind,
                 which,
                 value,
@@ -214,7 +223,7 @@ impl State {
     }
 }
 
-/// The answer to a whole recording. The list's first entries become the numbers read, the rest is untouched.
+/// The answer to a whole recording of either kind. The list's first entries become the numbers read, the rest is untouched.
 pub fn replay(bytes: &[u8], numbers: &mut [u32]) -> Answer {
     let mut state = State::room();
     let mut place = usize::MAX;
@@ -223,7 +232,7 @@ pub fn replay(bytes: &[u8], numbers: &mut [u32]) -> Answer {
     // alone, so it overlaps nothing; the rest are different fields and arrays of its own, as long as the header says. Control and values
     // are lent whole, and either struct is the array that its pointer says, in size, alignment and elements.
     let refusal = unsafe {
-        calls::parnusild_replay(
+        calls::replay(
             bytes.as_ptr(),
             bytes.len(),
             numbers.as_mut_ptr(),
@@ -240,28 +249,39 @@ pub fn replay(bytes: &[u8], numbers: &mut [u32]) -> Answer {
     Answer { refusal, place, state, arrivals, starts, reads, finishes }
 }
 
+/// The sizes of the library: how many tasks and how many links a state has room for, how many bytes its control has, and how many numbers its
+/// values have. They are `TASKS`, `LINKS`, `CONTROL` and `VALUES`, or it is not the library that this host was built for.
+pub fn sizes() -> [usize; SIZES] {
+    let mut sizes = [usize::MAX; SIZES];
+    // SAFETY: the array is this function's own, and as long as the header says.
+    unsafe { calls::sizes(&mut sizes) };
+    sizes
+}
+
 /// The unread rest of a recording, from the place of its answer to the end: empty after acceptance.
 pub fn rest<'a>(bytes: &'a [u8], answer: &Answer) -> &'a [u8] {
     // SAFETY: the slice passes with its own length, its pointer is not null even where it is empty, and nothing is written to.
-    let left = unsafe { calls::parnusild_rest(bytes.as_ptr(), bytes.len(), answer.place) };
+    let left = unsafe { calls::rest(bytes.as_ptr(), bytes.len(), answer.place) };
     &bytes[bytes.len() - left..]
 }
 
-/// Writes a recording into the buffer. `defaults` has the default of each task; `links` writer, reader, kind and start value of each link;
-/// `events` the kind of each event and what it has: 1 and a set, 2 and a task, 3 and a link, 4, a task and a value. What is written `replay`
-/// accepts, with room for the numbers, as the same table, links and events.
+/// Writes a recording of a kind, `BASE_KIND` or `WIDE_KIND`, into the buffer. `defaults` has the default of each task; `links` writer, reader,
+/// kind and start value of each link; `events` the kind of each event and what it has: 1 and a set, 2 and a task, 3 and a link, 4, a task and a
+/// value. What is written `replay` accepts, with room for the numbers, as the same table, links and events.
 ///
-/// Refusals are the reader's, at the place where it would find the fault. No number is cut to its field: a task 256 is not in the table.
-/// A link or event whose numbers are not all there counts, and is refusal 1; an unknown kind of event counts, is 11, and nothing after it
-/// is looked at. Last comes 18, a buffer too short, with the length of the whole recording as its place. A refusal touches no byte of the
-/// buffer, and an acceptance none past those written.
-pub fn write(defaults: &[u32], links: &[u32], events: &[u32], bytes: &mut [u8]) -> Written {
+/// Refusals are the reader's, by the kind's limits, at the place where it would find the fault; a kind that is neither of the two is 2 at 0.
+/// No number is cut to its field: a task 256 is not in the table, nor is with `BASE_KIND` a task above 15 in a set. A link or event whose
+/// numbers are not all there counts, and is refusal 1; an unknown kind of event counts, is 11, and nothing after it is looked at. Last comes
+/// 18, a buffer too short, with the length of the whole recording as its place. A refusal touches no byte of the buffer, and an acceptance
+/// none past those written.
+pub fn write(kind: u32, defaults: &[u32], links: &[u32], events: &[u32], bytes: &mut [u8]) -> Written {
     let mut place = usize::MAX;
     // SAFETY: each slice passes with its own length, and its pointer is not null even where it is empty. The buffer is lent to this
     // function alone, so it overlaps nothing, and the place is its own. The other three are only read, so that it does no harm where a
     // caller's slices are parts of each other.
     let refusal = unsafe {
-        calls::parnusild_write(
+        calls::write(
+            kind,
             defaults.as_ptr(),
             defaults.len(),
             links.as_ptr(),

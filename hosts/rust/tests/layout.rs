@@ -1,6 +1,6 @@
 //! Where the named fields of a state stand in the two arrays that the library is lent: by their offsets, by what the library puts into
-//! each of them, and by what it takes from each of them.
-use parnusild::{Control, Event, State, Table, Values, CELLS, CONTROL, LINKS, POSITIONS, TASKS, VALUES};
+//! each of them, and by what it takes from each of them; and how large the library takes a state to be.
+use parnusild::{sizes, Control, Event, State, Table, Values, CELLS, CONTROL, LINKS, POSITIONS, TASKS, VALUES};
 use std::array::from_fn;
 use std::mem::size_of;
 use Event::{Arrival, Finish, Read, Start};
@@ -15,40 +15,46 @@ fn region<S, E, const LENGTH: usize>(whole: &S, field: &[E; LENGTH]) -> (usize, 
 #[test]
 fn each_field_stands_where_the_layout_has_its_region() {
     let State { control, values, .. } = amid_a_round();
-    assert_eq!(region(&control, &control.phase), (0, 16));
-    assert_eq!(region(&control, &control.newest), (16, 16));
-    assert_eq!(region(&control, &control.previous), (32, 16));
-    assert_eq!(region(&control, &control.seen), (48, 16));
-    assert_eq!(region(&control, &control.pointer), (64, 32));
-    assert_eq!(region(&control, &control.mark), (96, 32));
-    assert_eq!(region(&control, &control.writer), (128, 32));
-    assert_eq!(region(&control, &control.reader), (160, 32));
-    assert_eq!(region(&control, &control.kind), (192, 32));
-    assert_eq!((CONTROL, size_of::<Control>()), (224, 224));
-    assert_eq!(region(&values, &values.defaults), (0, 16));
-    assert_eq!(region(&values, &values.start_value), (16, 32));
-    assert_eq!(region(&values, &values.cells), (48, 160));
-    assert_eq!((VALUES, size_of::<Values>()), (208, 4 * 208));
+    assert_eq!(region(&control, &control.phase), (0, 32));
+    assert_eq!(region(&control, &control.newest), (32, 32));
+    assert_eq!(region(&control, &control.previous), (64, 32));
+    assert_eq!(region(&control, &control.seen), (96, 32));
+    assert_eq!(region(&control, &control.pointer), (128, 96));
+    assert_eq!(region(&control, &control.mark), (224, 96));
+    assert_eq!(region(&control, &control.writer), (320, 96));
+    assert_eq!(region(&control, &control.reader), (416, 96));
+    assert_eq!(region(&control, &control.kind), (512, 96));
+    assert_eq!((CONTROL, size_of::<Control>()), (608, 608));
+    assert_eq!(region(&values, &values.defaults), (0, 32));
+    assert_eq!(region(&values, &values.start_value), (32, 96));
+    assert_eq!(region(&values, &values.cells), (128, 320));
+    assert_eq!((VALUES, size_of::<Values>()), (448, 4 * 448));
+}
+
+#[test]
+fn the_library_has_the_sizes_of_the_host() {
+    assert_eq!(sizes(), [32, 96, 608, 448]);
+    assert_eq!(sizes(), [TASKS, LINKS, CONTROL, VALUES]);
 }
 
 /// As many tasks and links as there can be, so that no slot of a region is left out: each task writes to the next one, then each to the one
-/// before, direct where the reader is behind. A delayed one has a start value of its own.
+/// before, then each to itself; direct where the reader is behind. A delayed one has a start value of its own.
 fn full_table() -> Table {
-    let step = |l: usize| if l < TASKS { 1 } else { TASKS - 1 };
+    let step = [1, TASKS - 1, 0];
     let writer: [u8; LINKS] = from_fn(|l| (l % TASKS) as u8);
-    let reader: [u8; LINKS] = from_fn(|l| ((l + step(l)) % TASKS) as u8);
-    let kind: [u8; LINKS] = from_fn(|l| u8::from(reader[l] < writer[l]));
+    let reader: [u8; LINKS] = from_fn(|l| ((l + step[l / TASKS]) % TASKS) as u8);
+    let kind: [u8; LINKS] = from_fn(|l| u8::from(reader[l] <= writer[l]));
     let start_value = from_fn(|l| if kind[l] == 1 { 2000 + l as u32 } else { 0 });
     Table { tasks: TASKS, links: LINKS, defaults: from_fn(|t| 1000 + t as u32), writer, reader, kind, start_value }
 }
 
-/// A state in which no two regions hold the same: the odd tasks have run once; then all but task 14 have arrived, tasks 0 and 1 have run,
+/// A state in which no two regions hold the same: the odd tasks have run once; then all but task 30 have arrived, tasks 0 and 1 have run,
 /// and task 2 runs.
 fn amid_a_round() -> State {
-    let odd_ones_run = (1..16).step_by(2).flat_map(|t| [Start(t), Finish(t, 100 + t)]);
-    let then = [Arrival(0xbfff), Start(0), Finish(0, 500), Start(1), Finish(1, 501), Start(2)];
+    let odd_ones_run = (1..32).step_by(2).flat_map(|t| [Start(t), Finish(t, 100 + t)]);
+    let then = [Arrival(0xbfff_ffff), Start(0), Finish(0, 500), Start(1), Finish(1, 501), Start(2)];
     let mut state = State::fresh(&full_table()).state;
-    for event in [Arrival(0xaaaa)].into_iter().chain(odd_ones_run).chain(then) {
+    for event in [Arrival(0xaaaa_aaaa)].into_iter().chain(odd_ones_run).chain(then) {
         assert_eq!(state.event(event), Ok(0), "{:?}", event);
     }
     state
@@ -64,34 +70,55 @@ fn number_at(t: usize, p: usize) -> u32 {
     }
 }
 
+/// One entry for each task, in turn for those of even and of odd number, but for some tasks.
+fn by_turns(even: u8, odd: u8, others: &[(usize, u8)]) -> [u8; TASKS] {
+    let mut list = from_fn(|t| if t % 2 == 0 { even } else { odd });
+    for &(task, other) in others {
+        list[task] = other;
+    }
+    list
+}
+
 #[test]
-fn the_library_puts_each_field_where_the_host_has_it() {
-    let State { tasks, links, control, values } = amid_a_round();
-    assert_eq!((tasks, links), (16, 32));
-    assert_eq!(control.phase, [0, 0, 2, 1, 1, 1, 1, 1, 1, 1, 1, 1, 1, 1, 0, 1]);
-    assert_eq!(control.newest, [2, 1, 2, 1, 2, 1, 2, 1, 2, 1, 2, 1, 2, 1, 1, 1]);
-    assert_eq!(control.previous, [1, 2, 1, 2, 1, 2, 1, 2, 1, 2, 1, 2, 1, 2, 1, 2]);
-    assert_eq!(control.seen, [1, 2, 1, 2, 1, 2, 1, 2, 1, 2, 1, 2, 1, 2, 0, 2]);
-    // a direct link has the writer's newest position, a delayed one its previous; absent are the pointer from task 0 to task 1, which has
-    // finished, and both to task 14, which has not arrived
-    assert_eq!(control.pointer[..16], [0, 1, 2, 1, 2, 1, 2, 1, 2, 1, 2, 1, 2, 0, 1, 2]);
-    assert_eq!(control.pointer[16..], [2, 2, 1, 2, 1, 2, 1, 2, 1, 2, 1, 2, 1, 2, 1, 0]);
-    // a mark has each delayed link from an even task, which has had fewer than two arrivals
-    assert_eq!(control.mark[..16], [0; 16]);
-    assert_eq!(control.mark[16..], [0, 0, 1, 0, 1, 0, 1, 0, 1, 0, 1, 0, 1, 0, 1, 0]);
-    assert_eq!(control.writer[..16], [0, 1, 2, 3, 4, 5, 6, 7, 8, 9, 10, 11, 12, 13, 14, 15]);
-    assert_eq!(control.writer[16..], [0, 1, 2, 3, 4, 5, 6, 7, 8, 9, 10, 11, 12, 13, 14, 15]);
-    assert_eq!(control.reader[..16], [1, 2, 3, 4, 5, 6, 7, 8, 9, 10, 11, 12, 13, 14, 15, 0]);
-    assert_eq!(control.reader[16..], [15, 0, 1, 2, 3, 4, 5, 6, 7, 8, 9, 10, 11, 12, 13, 14]);
-    assert_eq!(control.kind[..16], [0, 0, 0, 0, 0, 0, 0, 0, 0, 0, 0, 0, 0, 0, 0, 1]);
-    assert_eq!(control.kind[16..], [0, 1, 1, 1, 1, 1, 1, 1, 1, 1, 1, 1, 1, 1, 1, 1]);
+fn the_library_puts_each_field_of_a_task_where_the_host_has_it() {
+    let State { tasks, control, values, .. } = amid_a_round();
+    assert_eq!(tasks, 32);
+    assert_eq!(control.phase, by_turns(1, 1, &[(0, 0), (1, 0), (2, 2), (30, 0)]));
+    assert_eq!(control.newest, by_turns(2, 1, &[(30, 1)]));
+    assert_eq!(control.previous, by_turns(1, 2, &[]));
+    assert_eq!(control.seen, by_turns(1, 2, &[(30, 0)]));
     let defaults: [u32; TASKS] = from_fn(|t| 1000 + t as u32);
     assert_eq!(values.defaults, defaults);
-    assert_eq!(values.start_value[..16], [0, 0, 0, 0, 0, 0, 0, 0, 0, 0, 0, 0, 0, 0, 0, 2015]);
-    let start_values: [u32; 15] = from_fn(|l| 2017 + l as u32);
-    assert_eq!((values.start_value[16], &values.start_value[17..]), (0, &start_values[..]));
     let cells: [u32; CELLS] = from_fn(|c| number_at(c / POSITIONS, c % POSITIONS + 1));
     assert_eq!(values.cells, cells);
+}
+
+/// The links from each task to the next one, then those to the one before, then those to itself. The last of the first and the first of the second go
+/// around the ends.
+#[test]
+fn the_library_puts_each_field_of_a_link_where_the_host_has_it() {
+    let State { links, control, values, .. } = amid_a_round();
+    assert_eq!(links, 96);
+    // a direct link has the writer's newest position, a delayed one its previous; absent are the pointer from task 0 to task 1, which has
+    // finished, and all three to task 30, which has not arrived
+    assert_eq!(control.pointer[..32], by_turns(2, 1, &[(0, 0), (29, 0), (30, 1), (31, 2)]));
+    assert_eq!(control.pointer[32..64], by_turns(1, 2, &[(0, 2), (31, 0)]));
+    assert_eq!(control.pointer[64..], by_turns(1, 2, &[(30, 0)]));
+    // a mark has each delayed link from an even task, which has had fewer than two arrivals, where its reader has arrived
+    assert_eq!(control.mark[..32], [0; 32]);
+    assert_eq!(control.mark[32..64], by_turns(1, 0, &[(0, 0)]));
+    assert_eq!(control.mark[64..], by_turns(1, 0, &[(30, 0)]));
+    let each: [u8; TASKS] = from_fn(|t| t as u8);
+    assert_eq!(control.writer[..], each.repeat(3));
+    assert_eq!((&control.reader[..31], &control.reader[31..33]), (&each[1..], &[0, 31][..]));
+    assert_eq!((&control.reader[33..64], &control.reader[64..]), (&each[..31], &each[..]));
+    assert_eq!(control.kind[..31], [0; 31]);
+    assert_eq!(control.kind[31..33], [1, 0]);
+    assert_eq!(control.kind[33..], [1; 63]);
+    assert_eq!(values.start_value[..31], [0; 31]);
+    assert_eq!(values.start_value[31..33], [2031, 0]);
+    let start_values: [u32; 63] = from_fn(|l| 2033 + l as u32);
+    assert_eq!(values.start_value[33..], start_values);
 }
 
 /// The fresh state of four tasks and one direct link, from task 0 to task 2; with its own number in each position.
