@@ -1,10 +1,12 @@
 //! All three replays give the same whole answers, or the program ends.
 use crate::answer::Replay;
+use crate::kind::{Kind, BASE, WIDE};
 use crate::random::{self, Random};
 use crate::rows::Row;
 use crate::{fail, NAMES, REPLAYS};
 use parnusild::{Answer, EVENTS};
 
+/// So many random recordings of each kind.
 const RECORDINGS: usize = 6_000;
 /// A replay refuses with 1 to 18 or 20, and 0 is none.
 const REFUSALS: usize = 21;
@@ -45,27 +47,27 @@ fn check_timed(rows: &[Row]) {
     }
 }
 
-/// Among the random recordings each refusal of a replay must occur. How many of them earned each.
-fn check_random() -> [usize; REFUSALS] {
+/// Among the random recordings of a kind each refusal of a replay must occur. How many of them earned each.
+fn check_random(kind: Kind) -> [usize; REFUSALS] {
     let mut random = Random(1);
     let mut earned = [0; REFUSALS];
     for i in 0..RECORDINGS {
-        let bytes = random::recording(&mut random);
+        let bytes = random::recording(&mut random, kind);
         let room = if random.one_in(8) { random.below(40) } else { EVENTS };
-        earned[agreed(&format!("random recording {}", i), &bytes, room)] += 1;
+        earned[agreed(&format!("random recording {} of kind {}", i, kind.first), &bytes, room)] += 1;
     }
     if let Some(n) = (0..REFUSALS).find(|&n| n != UNSOUND && earned[n] == 0) {
-        fail(format!("no random recording was refused with {}", n));
+        fail(format!("no random recording of kind {} was refused with {}", kind.first, n));
     }
     earned
 }
 
-/// Compares the answers to the timed recordings and to random ones. How many random ones earned each refusal.
-pub fn check(rows: &[Row]) -> [usize; REFUSALS] {
+/// Compares the answers to the timed recordings and to random ones. How many random ones of each kind earned each refusal.
+pub fn check(rows: &[Row]) -> [[usize; REFUSALS]; 2] {
     check_timed(rows);
-    let earned = check_random();
+    let earned = [BASE, WIDE].map(check_random);
     println!(
-        "bench: same answers (refusal, place, state, counts, list): {} timed recordings, {} random ones",
+        "bench: same answers (refusal, place, state, counts, list): {} timed recordings, {} random ones of each kind",
         rows.len(),
         RECORDINGS
     );

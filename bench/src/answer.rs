@@ -8,9 +8,6 @@ pub const RUNNING: u8 = 2;
 pub const DIRECT: u8 = 0;
 pub const DELAYED: u8 = 1;
 
-/// What a recording begins with.
-pub const FIRST: u8 = 253;
-
 /// A replay: of the recording, into the lent list of numbers. The answer comes back by value, with the state inside.
 pub type Replay = fn(&[u8], &mut [u32]) -> Answer;
 

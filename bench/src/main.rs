@@ -6,6 +6,7 @@
 mod agree;
 mod answer;
 mod expert;
+mod kind;
 mod make;
 mod ordinary;
 mod proved;
@@ -116,6 +117,6 @@ fn main() {
     }
     let rows = rows::rows();
     let earned = agree::check(&rows);
-    println!("random ones by refusal, from 0 on: {:?}", earned);
+    println!("random ones by kind and refusal, from 0 on: {:?}", earned);
     time(&chosen(rows, part), repeats);
 }

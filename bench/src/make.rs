@@ -1,5 +1,7 @@
 //! A recording as it is written.
-use crate::answer::{DELAYED, FIRST};
+use crate::answer::DELAYED;
+use crate::kind::Kind;
+use parnusild::TASKS;
 use std::ops::Range;
 
 /// Writer, reader, kind, start value.
@@ -7,7 +9,7 @@ pub type Link = (usize, usize, u8, u32);
 
 /// A link that has a start value of its own where it is delayed.
 pub fn link(writer: usize, reader: usize, kind: u8) -> Link {
-    let own = 2000 + 16 * writer as u32 + reader as u32;
+    let own = 2000 + (TASKS * writer + reader) as u32;
     (writer, reader, kind, if kind == DELAYED { own } else { 0 })
 }
 
@@ -19,6 +21,7 @@ fn link_record(&(writer, reader, kind, start_value): &Link) -> [u8; 7] {
 
 /// A recording being written, up to a number of events; what comes after them is left out.
 pub struct Maker {
+    kind: Kind,
     table: Vec<u8>,
     events: Vec<u8>,
     count: usize,
@@ -28,12 +31,12 @@ pub struct Maker {
 }
 
 impl Maker {
-    pub fn new(tasks: usize, links: &[Link], most: usize) -> Maker {
-        let mut table = vec![FIRST, tasks as u8];
+    pub fn new(kind: Kind, tasks: usize, links: &[Link], most: usize) -> Maker {
+        let mut table = vec![kind.first, tasks as u8];
         table.extend((0..tasks).flat_map(|t| (1000 + t as u32).to_le_bytes()));
         table.push(links.len() as u8);
         table.extend(links.iter().flat_map(link_record));
-        Maker { table, events: Vec::new(), count: 0, most, links: links.to_vec(), value: 0 }
+        Maker { kind, table, events: Vec::new(), count: 0, most, links: links.to_vec(), value: 0 }
     }
 
     pub fn count(&self) -> usize {
@@ -52,7 +55,8 @@ impl Maker {
     }
 
     pub fn arrival(&mut self, set: usize) {
-        self.record(&[1, set as u8, (set >> 8) as u8]);
+        let record = [1, set as u8, (set >> 8) as u8, (set >> 16) as u8, (set >> 24) as u8];
+        self.record(&record[..1 + self.kind.set_size()]);
     }
 
     pub fn start(&mut self, task: usize) {

@@ -1,7 +1,7 @@
 //! Random recordings, many of them damaged.
 use crate::answer::DELAYED;
+use crate::kind::{Kind, BASE, WIDE};
 use crate::make::{link, Link, Maker};
-use parnusild::{LINKS, TASKS};
 
 /// Random numbers (splitmix64).
 pub struct Random(pub u64);
@@ -21,9 +21,9 @@ impl Random {
 }
 
 /// Links that keep the rules; now and then one that may not.
-fn some_links(random: &mut Random, tasks: usize) -> Vec<Link> {
+fn some_links(random: &mut Random, tasks: usize, most: usize) -> Vec<Link> {
     let mut links: Vec<Link> = Vec::new();
-    let most = random.below(LINKS + 1);
+    let most = random.below(most + 1);
     // many links of few writers, or of any
     let writers = if random.one_in(3) { 2 } else { tasks };
     for _ in 0..4 * most {
@@ -48,7 +48,8 @@ fn some_links(random: &mut Random, tasks: usize) -> Vec<Link> {
 /// An event that may not be allowed.
 fn any_event(random: &mut Random, m: &mut Maker, tasks: usize, links: usize) {
     match random.below(4) {
-        0 => m.arrival(random.below(1 << 16)),
+        // two tasks that are not in the table may be in it; what the kind's set has no bits for is cut off
+        0 => m.arrival(random.below(1 << (tasks + 2))),
         1 => m.start(random.below(tasks + 1)),
         2 => m.read(random.below(links + 1)),
         _ => m.finish(random.below(tasks + 1)),
@@ -56,8 +57,8 @@ fn any_event(random: &mut Random, m: &mut Maker, tasks: usize, links: usize) {
 }
 
 /// Up to 399 events: all of them allowed, or now and then one that may not be.
-fn some_events(random: &mut Random, tasks: usize, links: &[Link]) -> Maker {
-    let mut m = Maker::new(tasks, links, random.below(400));
+fn some_events(random: &mut Random, kind: Kind, tasks: usize, links: &[Link]) -> Maker {
+    let mut m = Maker::new(kind, tasks, links, random.below(400));
     let wild = random.one_in(3);
     let (mut active, mut running) = (0usize, 0usize);
     while !m.full() {
@@ -87,13 +88,13 @@ fn some_events(random: &mut Random, tasks: usize, links: &[Link]) -> Maker {
     m
 }
 
-/// In two of three cases one damage: a cut, a byte more or less, or another byte.
+/// In two of three cases one damage: a cut, a byte more or less, the other kind, or another byte.
 fn damage(random: &mut Random, bytes: &mut Vec<u8>, tasks: usize, links: usize) {
     let size = bytes.len();
     let count_of_links = 2 + 4 * tasks;
     let table = count_of_links + 1 + 7 * links + 2;
     let counts = [0, 1, count_of_links, table - 2, table - 1];
-    let (place, below) = match random.below(12) {
+    let (place, below) = match random.below(15) {
         0 => return bytes.truncate(random.below(size + 1)),
         1 => return bytes.truncate(random.below(table + 1)),
         2 => return bytes.push(random.below(256) as u8),
@@ -105,16 +106,21 @@ fn damage(random: &mut Random, bytes: &mut Vec<u8>, tasks: usize, links: usize) 
         5 => (random.below(size), 8),
         6 => (random.below(table), 20),
         7 => (counts[random.below(5)], 256),
+        8 => (counts[random.below(5)], 128),
+        9 => {
+            bytes[0] ^= BASE.first ^ WIDE.first;
+            return;
+        }
         _ => return,
     };
     bytes[place] = random.below(below) as u8;
 }
 
-/// A random recording.
-pub fn recording(random: &mut Random) -> Vec<u8> {
-    let tasks = 1 + random.below(TASKS);
-    let links = some_links(random, tasks);
-    let mut bytes = some_events(random, tasks, &links).bytes();
+/// A random recording; damaged, it may be of the other kind.
+pub fn recording(random: &mut Random, kind: Kind) -> Vec<u8> {
+    let tasks = 1 + random.below(kind.tasks);
+    let links = some_links(random, tasks, kind.links);
+    let mut bytes = some_events(random, kind, tasks, &links).bytes();
     damage(random, &mut bytes, tasks, links.len());
     bytes
 }

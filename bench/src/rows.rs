@@ -1,7 +1,8 @@
 //! The recordings that are timed: accepted ones, most of them as long as there are.
 use crate::answer::{DELAYED, DIRECT};
+use crate::kind::{Kind, BASE, WIDE};
 use crate::make::{link, Link, Maker};
-use parnusild::{EVENTS, LINKS, TASKS};
+use parnusild::EVENTS;
 
 /// A recording that is timed, and what it is.
 pub struct Row {
@@ -10,26 +11,37 @@ pub struct Row {
     pub bytes: Vec<u8>,
 }
 
-fn row(name: impl Into<String>, recording: Maker) -> Row {
-    Row { name: name.into(), events: recording.count(), bytes: recording.bytes() }
+fn row(kind: Kind, name: String, recording: Maker) -> Row {
+    let name = if kind.wide { format!("wide: {}", name) } else { name };
+    Row { name, events: recording.count(), bytes: recording.bytes() }
 }
 
-/// So many links, at most 32 among 16 tasks: each task writes to the next one, then to the one before.
-fn spread(links: usize) -> Vec<Link> {
-    let next = (0..TASKS).map(|t| (t, (t + 1) % TASKS));
-    let before = (0..TASKS).map(|t| (t, (t + TASKS - 1) % TASKS));
-    next.chain(before).take(links).map(|(w, r)| link(w, r, if r < w { DELAYED } else { DIRECT })).collect()
+/// The first links of as many tasks as a kind has: each task writes to the next one, then to the one before, then to the one after the next.
+fn spread(kind: Kind, links: usize) -> Vec<Link> {
+    let tasks = kind.tasks;
+    let pairs = [1, tasks - 1, 2].into_iter().flat_map(|step| (0..tasks).map(move |t| (t, (t + step) % tasks)));
+    pairs.take(links).map(|(w, r)| link(w, r, if r < w { DELAYED } else { DIRECT })).collect()
 }
 
-/// Four writers with eight readers behind each: the last eight tasks.
-fn crowded() -> Vec<Link> {
-    let pairs = (0..4).flat_map(|w| (8..TASKS).map(move |r| (w, r)));
+/// As many writers as there may be with eight readers behind each.
+fn crowd(kind: Kind) -> usize {
+    kind.links / 8
+}
+
+/// Their links: the readers are the last eight tasks.
+fn crowded(kind: Kind) -> Vec<Link> {
+    let pairs = (0..crowd(kind)).flat_map(|w| (kind.tasks - 8..kind.tasks).map(move |r| (w, r)));
     pairs.map(|(w, r)| link(w, r, if r % 2 == 0 { DIRECT } else { DELAYED })).collect()
 }
 
+/// The set of the first tasks.
+fn first(tasks: usize) -> usize {
+    (1 << tasks) - 1
+}
+
 /// So many events: a round of them over and over, the last one cut where it is full.
-fn rounds(tasks: usize, links: &[Link], events: usize, round: impl Fn(&mut Maker)) -> Maker {
-    let mut m = Maker::new(tasks, links, events);
+fn rounds(kind: Kind, tasks: usize, links: &[Link], events: usize, round: impl Fn(&mut Maker)) -> Maker {
+    let mut m = Maker::new(kind, tasks, links, events);
     while !m.full() {
         round(&mut m);
     }
@@ -37,17 +49,17 @@ fn rounds(tasks: usize, links: &[Link], events: usize, round: impl Fn(&mut Maker
 }
 
 /// All tasks of a table arrive at once and run in order, each reading by all its links so many times over.
-fn at_once(tasks: usize, links: &[Link], times: usize, events: usize) -> Maker {
-    rounds(tasks, links, events, |m| {
-        m.arrival((1 << tasks) - 1);
+fn at_once(kind: Kind, tasks: usize, links: &[Link], times: usize, events: usize) -> Maker {
+    rounds(kind, tasks, links, events, |m| {
+        m.arrival(first(tasks));
         m.run_each(0..tasks, times);
     })
 }
 
 /// One task at a time: it arrives, runs and finishes before the next one arrives.
-fn one_at_a_time(links: &[Link], times: usize) -> Maker {
-    rounds(TASKS, links, EVENTS, |m| {
-        for t in 0..TASKS {
+fn one_at_a_time(kind: Kind, links: &[Link], times: usize) -> Maker {
+    rounds(kind, kind.tasks, links, EVENTS, |m| {
+        for t in 0..kind.tasks {
             m.arrival(1 << t);
             m.run(t, times);
         }
@@ -55,73 +67,81 @@ fn one_at_a_time(links: &[Link], times: usize) -> Maker {
 }
 
 /// The most reads there can be: an arrival, a start and 9,998 reads by the least urgent task.
-fn reads_of_last(links: &[Link]) -> Maker {
-    let mut m = Maker::new(TASKS, links, EVENTS);
-    m.arrival(1 << (TASKS - 1));
-    m.run(TASKS - 1, EVENTS);
+fn reads_of_last(kind: Kind, links: &[Link]) -> Maker {
+    let last = kind.tasks - 1;
+    let mut m = Maker::new(kind, kind.tasks, links, EVENTS);
+    m.arrival(1 << last);
+    m.run(last, EVENTS);
     m
 }
 
 /// Each task is interrupted by the next more urgent one as soon as it runs; then all finish, the most urgent first.
-fn interrupted(links: &[Link]) -> Maker {
-    rounds(TASKS, links, EVENTS, |m| {
-        for t in (0..TASKS).rev() {
+fn interrupted(kind: Kind, links: &[Link]) -> Maker {
+    rounds(kind, kind.tasks, links, EVENTS, |m| {
+        for t in (0..kind.tasks).rev() {
             m.arrival(1 << t);
             m.start(t);
             m.reads(t, 1);
         }
-        m.end_each(0..TASKS);
+        m.end_each(0..kind.tasks);
     })
 }
 
-/// The eight readers of four writers are interrupted one by one while the writers write, so that each reader holds another position.
-fn positions_full() -> Maker {
-    rounds(TASKS, &crowded(), EVENTS, |m| {
-        for r in (8..TASKS).rev() {
+/// The eight readers of the writers are interrupted one by one while the writers write, so that each reader holds another position.
+fn positions_full(kind: Kind) -> Maker {
+    let (writers, readers) = (crowd(kind), kind.tasks - 8..kind.tasks);
+    rounds(kind, kind.tasks, &crowded(kind), EVENTS, |m| {
+        for r in readers.clone().rev() {
             m.arrival(1 << r);
             m.start(r);
-            m.arrival(0b1111);
-            m.run_each(0..4, 0);
+            m.arrival(first(writers));
+            m.run_each(0..writers, 0);
         }
-        m.end_each(8..TASKS);
+        m.end_each(readers.clone());
     })
 }
 
 pub fn rows() -> Vec<Row> {
-    let mut rows = different();
-    rows.extend(growing());
-    rows
+    let of_kinds = [BASE, WIDE].map(|kind| different(kind).into_iter().chain(growing(kind)));
+    of_kinds.into_iter().flatten().collect()
 }
 
-/// Different recordings of full length.
-fn different() -> Vec<Row> {
-    let wide = spread(LINKS);
-    vec![
-        row("all 16 at once, 32 links of 4 writers", at_once(TASKS, &crowded(), 1, EVENTS)),
-        row("all 16 at once, 32 links of 16 writers", at_once(TASKS, &wide, 1, EVENTS)),
-        row("one task at a time, 32 links, each read once", one_at_a_time(&wide, 1)),
-        row("one task at a time, 32 links, no reads", one_at_a_time(&wide, 0)),
-        // a first round of 9,985 events
-        row("reads by all 16 tasks, 32 links", at_once(TASKS, &wide, 311, EVENTS)),
-        row("reads by the last task, 32 links", reads_of_last(&wide)),
-        row("16 interruptions deep, 32 links", interrupted(&wide)),
-        row("interrupted readers hold 8 positions each", positions_full()),
-    ]
+/// Different recordings of full length, with as many tasks and links as a kind has.
+fn different(kind: Kind) -> Vec<Row> {
+    let Kind { tasks, links, .. } = kind;
+    let all = spread(kind, links);
+    // reads so many times over that a first round is nearly all: 9,985 events of the base kind, 9,953 of the wide one
+    let times = (EVENTS - 1 - 2 * tasks) / links;
+    let named = [
+        (
+            format!("all {} at once, {} links of {} writers", tasks, links, crowd(kind)),
+            at_once(kind, tasks, &crowded(kind), 1, EVENTS),
+        ),
+        (format!("all {} at once, {} links of {} writers", tasks, links, tasks), at_once(kind, tasks, &all, 1, EVENTS)),
+        (format!("one task at a time, {} links, each read once", links), one_at_a_time(kind, &all, 1)),
+        (format!("one task at a time, {} links, no reads", links), one_at_a_time(kind, &all, 0)),
+        (format!("reads by all {} tasks, {} links", tasks, links), at_once(kind, tasks, &all, times, EVENTS)),
+        (format!("reads by the last task, {} links", links), reads_of_last(kind, &all)),
+        (format!("{} interruptions deep, {} links", tasks, links), interrupted(kind, &all)),
+        ("interrupted readers hold 8 positions each".to_string(), positions_full(kind)),
+    ];
+    named.into_iter().map(|(name, recording)| row(kind, name, recording)).collect()
 }
 
 /// The same recording with more and more events, tasks, or links.
-fn growing() -> Vec<Row> {
+fn growing(kind: Kind) -> Vec<Row> {
+    let Kind { tasks, links, .. } = kind;
     let by_events = [100, 1_000, EVENTS].map(|events| {
-        let name = format!("growth by events: {}, 16 tasks, 32 links", events);
-        row(name, at_once(TASKS, &spread(LINKS), 1, events))
+        let name = format!("growth by events: {}, {} tasks, {} links", events, tasks, links);
+        row(kind, name, at_once(kind, tasks, &spread(kind, links), 1, events))
     });
-    let by_tasks = [1, 4, 16].map(|tasks| {
+    let by_tasks = [1, tasks / 4, tasks].map(|tasks| {
         let name = format!("growth by tasks: {}, no links", tasks);
-        row(name, at_once(tasks, &[], 0, EVENTS))
+        row(kind, name, at_once(kind, tasks, &[], 0, EVENTS))
     });
-    let by_links = [0, 8, 32].map(|links| {
-        let name = format!("growth by links: {}, 16 tasks, no reads", links);
-        row(name, at_once(TASKS, &spread(links), 0, EVENTS))
+    let by_links = [0, links / 4, links].map(|links| {
+        let name = format!("growth by links: {}, {} tasks, no reads", links, tasks);
+        row(kind, name, at_once(kind, tasks, &spread(kind, links), 0, EVENTS))
     });
     [by_events, by_tasks, by_links].into_iter().flatten().collect()
 }
