@@ -287,7 +287,9 @@ static const uint32_t example_links[] = { 1, 0, 1, 90, 1, 2, 0, 0, 1, 3, 0, 0 };
 /* the example of a kind, with its events as numbers */
 static struct handover example_of(uint32_t kind, const uint32_t *events, size_t events_size)
 {
-    const struct handover whole = { kind, table.defaults, table.tasks, example_links, 12, events, events_size };
+    const struct handover whole = {
+        kind, table.defaults, table.tasks, example_links, sizeof example_links / sizeof example_links[0], events, events_size
+    };
     return whole;
 }
 
@@ -355,20 +357,20 @@ static void writing_wide(const struct parnusild_state *state_of_file)
     put("nothing to write", &other, 0);
 }
 
-/* as many links as there are, in rings of so many tasks: each task writes to the next one, then each to the one before, then each to itself */
+/* links in rings of so many tasks: each task writes to the next one, then each to the one before, then each to itself; the reader of one */
 static size_t ring_reader(size_t tasks, size_t link)
 {
     const size_t steps[] = { 1, tasks - 1, 0 };
     return (link + steps[link / tasks % 3]) % tasks;
 }
 
-/* direct where the reader is behind */
+/* its kind: direct where the reader is behind */
 static uint8_t ring_kind(size_t tasks, size_t link)
 {
     return ring_reader(tasks, link) <= link % tasks;
 }
 
-/* a delayed one has a start value of its own */
+/* its start value: a delayed one has its own */
 static uint32_t ring_start_value(size_t tasks, size_t link)
 {
     return ring_kind(tasks, link) ? 2000 + (uint32_t)link : 0;
