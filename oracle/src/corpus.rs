@@ -2,6 +2,8 @@
 
 mod competing;
 mod damaged;
+mod limits;
+mod other_kind;
 mod valid;
 
 use std::rc::Rc;
@@ -11,6 +13,9 @@ use crate::prng::Prng;
 use crate::random_table::Size;
 use competing::{competing_events, competing_links};
 use damaged::{counts_changed, every_byte, every_cut, extra_bytes, random_damage, short_list, small_or_example, soup};
+pub use limits::limits;
+use limits::some_limits;
+use other_kind::other_kind;
 use valid::{valid, valid_long};
 
 /// One input: the bytes, the room of the lent list, and where it came from.
@@ -49,9 +54,11 @@ pub enum Corpus {
     CompetingLinks,
     ShortLists,
     Soup,
+    Limits,
+    OtherKind,
 }
 
-pub const CORPORA: [Corpus; 12] = [
+pub const CORPORA: [Corpus; 14] = [
     Corpus::ValidShort,
     Corpus::ValidDeep,
     Corpus::ValidLong,
@@ -64,6 +71,8 @@ pub const CORPORA: [Corpus; 12] = [
     Corpus::CompetingLinks,
     Corpus::ShortLists,
     Corpus::Soup,
+    Corpus::Limits,
+    Corpus::OtherKind,
 ];
 
 /// The next cases of a corpus: one, or a whole family from one recording.
@@ -71,6 +80,7 @@ pub const CORPORA: [Corpus; 12] = [
 pub fn batch(corpus: Corpus, number: usize, prng: &mut Prng) -> Vec<Case> {
     match corpus {
         Corpus::ValidShort => one(valid(prng, Size::Any, 60)),
+        Corpus::ValidDeep if number % 4 == 0 => one(valid(prng, Size::Full, 600)),
         Corpus::ValidDeep => one(valid(prng, Size::Limit, 600)),
         Corpus::ValidLong => one(valid_long(prng, number)),
         Corpus::EveryCut => every_cut(small_or_example(prng, number)),
@@ -82,6 +92,8 @@ pub fn batch(corpus: Corpus, number: usize, prng: &mut Prng) -> Vec<Case> {
         Corpus::CompetingLinks => one(competing_links(prng)),
         Corpus::ShortLists => one(short_list(prng)),
         Corpus::Soup => one(soup(prng)),
+        Corpus::Limits => some_limits(number),
+        Corpus::OtherKind => one(other_kind(prng)),
     }
 }
 

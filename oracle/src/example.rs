@@ -1,7 +1,8 @@
 //! The long example of the document, with the start value 90 of request
-//! 2026-02, and a short one of request 2026-04.
+//! 2026-02, and a short one of request 2026-04, of the kind of request 2026-06.
 
 use crate::format::{Event, Link, Recording, Table};
+use crate::sizes::RecordingKind;
 use Event::{Arrival as A, Finish as F, Read as R, Start as S};
 
 /// The example with this number, if there is one.
@@ -22,7 +23,7 @@ pub fn long_example() -> Recording {
         A(0b0011), S(0), R(0), F(0, 0), S(1), F(1, 103), R(2), F(3, 0),
         A(0b1001), S(0), R(0), F(0, 0), S(3), R(2), F(3, 0),
     ];
-    recording(&[0, 100, 0, 0], &[([1, 0, 1], 90), ([1, 2, 0], 0), ([1, 3, 0], 0)], events)
+    recording(RecordingKind::SIXTEEN, &[0, 100, 0, 0], &[([1, 0, 1], 90), ([1, 2, 0], 0), ([1, 3, 0], 0)], events)
 }
 
 /// Two tasks that read their own last output and add 1 to it; the second reads
@@ -33,10 +34,10 @@ pub fn own_output_example() -> Recording {
         A(0b11), S(0), R(0), F(0, 41), S(1), R(1), R(2), F(1, 8),
         A(0b01), S(0), R(0), F(0, 42),
     ];
-    recording(&[1000, 1001], &[([0, 0, 1], 40), ([0, 1, 0], 0), ([1, 1, 1], 7)], events)
+    recording(RecordingKind::THIRTY_TWO, &[1000, 1001], &[([0, 0, 1], 40), ([0, 1, 0], 0), ([1, 1, 1], 7)], events)
 }
 
-fn recording(defaults: &[u32], links: &[([u8; 3], u32)], events: Vec<Event>) -> Recording {
+fn recording(kind: RecordingKind, defaults: &[u32], links: &[([u8; 3], u32)], events: Vec<Event>) -> Recording {
     let links = links.iter().map(|(ends, start_value)| Link::of(*ends, *start_value)).collect();
-    Recording { table: Table { defaults: defaults.to_vec(), links }, events }
+    Recording { kind, table: Table { defaults: defaults.to_vec(), links }, events }
 }

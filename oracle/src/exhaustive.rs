@@ -1,5 +1,5 @@
-//! Every sequence of events up to a depth over small tables: `Pointers`
-//! against `ZeroTime`, and the subject against both; and a sequence to each
+//! Every sequence of events up to a depth over small tables, or about the last
+//! tasks and links of large ones: `Pointers` against `ZeroTime`, and the subject against both; and a sequence to each
 //! state, with one more event, written by the subject.
 //!
 //! Finish values are all different, and neither engine looks at a value, so
@@ -15,9 +15,11 @@ use crate::engine::{Engine, FreshEngine, IDLE};
 use crate::format::{encode, Event, Recording, Table};
 use crate::laws::sound_by_sentence;
 use crate::pointers::Pointers;
+use crate::sizes::{RecordingKind, KINDS, ROOM};
 use crate::subject::{remembered_alike, OneAnswer, Subject};
 use crate::writing::{Handover, Written};
 use crate::zero_time::ZeroTime;
+use tables::Explored;
 pub use tables::{explored_tables, self_links};
 
 #[derive(Clone, Copy, Default, Debug)]
@@ -54,17 +56,21 @@ struct Node {
     event: u8,
 }
 
-/// All events worth giving to a table, each kind's out-of-range one included.
-/// The value of a finish is filled in when it is given.
-fn alphabet(table: &Table) -> Vec<Event> {
+/// All events worth giving to a table, each kind's out-of-range one included,
+/// where there is one. The value of a finish is filled in when it is given.
+fn alphabet(explored: &Explored) -> Vec<Event> {
+    let Explored { table, first_task, first_link } = explored;
     let tasks = table.defaults.len();
-    let mut events: Vec<Event> = (0..1u16 << tasks).map(Event::Arrival).collect();
-    events.extend([Event::Arrival(1 << tasks), Event::Arrival(1 << tasks | 1)]);
-    for task in 0..=tasks as u8 {
+    let mut sets: Vec<u32> = (0..1 << (tasks - first_task)).map(|set: u32| set << first_task).collect();
+    if tasks < ROOM.tasks {
+        sets.extend([1 << tasks, 1 << tasks | 1 << first_task]);
+    }
+    let mut events: Vec<Event> = sets.into_iter().map(Event::Arrival).collect();
+    for task in *first_task as u8..=tasks as u8 {
         events.push(Event::Start(task));
         events.push(Event::Finish(task, 0));
     }
-    events.extend((0..=table.links.len() as u8).map(Event::Read));
+    events.extend((*first_link as u8..=table.links.len() as u8).map(Event::Read));
     events
 }
 
@@ -171,6 +177,8 @@ impl Names {
 struct Search<'a> {
     subject: &'a dyn Subject,
     table: &'a Table,
+    /// The kinds of recordings that may have the table.
+    kinds: Vec<RecordingKind>,
     events: Vec<Event>,
     nodes: Vec<Node>,
     known: HashSet<Box<[u8]>>,
@@ -179,10 +187,13 @@ struct Search<'a> {
 }
 
 impl<'a> Search<'a> {
-    fn new(subject: &'a dyn Subject, table: &'a Table) -> Search<'a> {
+    fn new(subject: &'a dyn Subject, explored: &'a Explored) -> Search<'a> {
+        let table = &explored.table;
+        let has_room = |kind: &RecordingKind| kind.limits.refusal(table.defaults.len(), table.links.len()) == 0;
+        let kinds = KINDS.into_iter().filter(has_room).collect();
         let nodes = vec![Node { before: u32::MAX, event: 0 }];
         let known = HashSet::from([Pair::fresh(table).key(table)]);
-        Search { subject, table, events: alphabet(table), nodes, known, transitions: 0, written: 0 }
+        Search { subject, table, kinds, events: alphabet(explored), nodes, known, transitions: 0, written: 0 }
     }
 
     /// Gives every event to the state of a node; a state not known before
@@ -205,7 +216,8 @@ impl<'a> Search<'a> {
     /// The events that lead to a node and one more, written: refused if that
     /// one is, at its place.
     fn write(&self, number: usize, more: Event, pair: &Pair) -> Result<(), String> {
-        let mut recording = Recording { table: self.table.clone(), events: self.path(number) };
+        let kind = self.kinds[number % self.kinds.len()];
+        let mut recording = Recording { kind, table: self.table.clone(), events: self.path(number) };
         let place = encode(&recording).len();
         recording.events.push(more);
         let bytes = encode(&recording);
@@ -246,8 +258,8 @@ impl<'a> Search<'a> {
 }
 
 /// Breadth first, level by level; an error is the history that shows it.
-pub fn explore(subject: &dyn Subject, table: &Table, most: usize) -> Result<Visited, String> {
-    let mut search = Search::new(subject, table);
+pub fn explore(subject: &dyn Subject, explored: &Explored, most: usize) -> Result<Visited, String> {
+    let mut search = Search::new(subject, explored);
     let mut level = 0..1;
     let mut depth = 0;
     while depth < most && !level.is_empty() {

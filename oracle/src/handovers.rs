@@ -1,9 +1,10 @@
 //! What a station hands over to be written, and the handovers that get tried:
 //! lawful ones, every single change and cut, faults that compete, counts at
-//! their limits, and every short one.
+//! their limits, every short one, and kinds of recordings that there are not.
 
 mod changed;
 mod competing;
+mod kinds;
 mod limits;
 mod short;
 mod split;
@@ -12,10 +13,12 @@ use crate::format::{Event, Link, Recording, Table, LINK_BYTES};
 use crate::prng::Prng;
 use crate::random_table::Size;
 use crate::schedule::random_recording;
+use crate::sizes::RecordingKind;
 use crate::writing::{begun_events, Handover, LINK_NUMBERS};
 use changed::{every_cut, every_number, every_room, small_or_example};
 use competing::{competing_events, competing_links, soup};
-pub use limits::limits;
+use kinds::{every_kind, some_kind};
+pub use limits::{limits, of_few_events};
 pub use short::every_short;
 pub use split::{arises_in_writing, split};
 
@@ -28,8 +31,9 @@ pub struct Lent {
 
 impl Handover {
     pub fn of(recording: &Recording) -> Handover {
-        let Recording { table: Table { defaults, links }, events } = recording;
+        let Recording { kind, table: Table { defaults, links }, events } = recording;
         Handover {
+            kind: kind.number(),
             defaults: defaults.clone(),
             links: links.iter().flat_map(|link| link_numbers(*link)).collect(),
             events: events.iter().flat_map(|event| numbers(*event)).collect(),
@@ -38,11 +42,8 @@ impl Handover {
 
     /// How many bytes the whole has, if it can be written; roughly so else.
     pub fn length(&self) -> usize {
-        let events = begun_events(&self.events).into_iter().map(|record| match record[0] {
-            1 => 3,
-            4 => 6,
-            _ => 2,
-        });
+        let kind = RecordingKind::of_number(self.kind).unwrap_or(RecordingKind::SIXTEEN);
+        let events = begun_events(&self.events).into_iter().map(|record| kind.event_bytes(record[0]).unwrap_or(2));
         let links = LINK_BYTES * self.links.chunks(LINK_NUMBERS).len();
         1 + 1 + 4 * self.defaults.len() + 1 + links + 2 + events.sum::<usize>()
     }
@@ -62,7 +63,7 @@ fn link_numbers(link: Link) -> [u32; LINK_NUMBERS] {
 /// An event as numbers: its kind, then what the kind has.
 pub fn numbers(event: Event) -> Vec<u32> {
     match event {
-        Event::Arrival(set) => vec![1, u32::from(set)],
+        Event::Arrival(set) => vec![1, set],
         Event::Start(task) => vec![2, u32::from(task)],
         Event::Read(link) => vec![3, u32::from(link)],
         Event::Finish(task, value) => vec![4, u32::from(task), value],
@@ -76,19 +77,24 @@ pub fn batch(number: usize, prng: &mut Prng) -> Vec<Lent> {
         200 => every_cut(&small_or_example(prng, number / 400)),
         201 => every_number(&small_or_example(prng, number / 400)),
         202 => every_room(&small_or_example(prng, number / 400)),
-        n => vec![match n % 4 {
-            0 => lawful(prng),
-            1 => competing_links(prng),
-            2 => competing_events(prng),
-            _ => soup(prng),
-        }],
+        203 => every_kind(&small_or_example(prng, number / 400)),
+        n => {
+            let mut handover = match n % 4 {
+                0 => lawful(prng),
+                1 => competing_links(prng),
+                2 => competing_events(prng),
+                _ => soup(prng),
+            };
+            handover.kind = some_kind(prng, handover.kind);
+            vec![some_room(prng, handover)]
+        }
     }
 }
 
-fn lawful(prng: &mut Prng) -> Lent {
-    let size = prng.pick(&[Size::Small, Size::Any, Size::Limit]);
+fn lawful(prng: &mut Prng) -> Handover {
+    let size = prng.pick(&[Size::Small, Size::Any, Size::Limit, Size::Full]);
     let (recording, _) = random_recording(prng, size, 60);
-    some_room(prng, Handover::of(&recording))
+    Handover::of(&recording)
 }
 
 /// Exact, more than enough, one byte short, none, or anything less.

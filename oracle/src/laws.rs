@@ -8,14 +8,24 @@ use crate::format::{encode, Counts, Event, Recording};
 use crate::state::State;
 use crate::subject::{Answer, Made, OneAnswer, Subject};
 use crate::tables::LentTable;
-pub use writing::{read_back_law_broken, write_law_broken};
+pub use writing::{read_back_law_broken, stand_in, write_law_broken};
+
+/// What a recording's first byte says: the most tasks, the most links, and the
+/// bytes of a set.
+fn sizes_by(first: u8) -> Option<(usize, usize, usize)> {
+    match first {
+        253 => Some((16, 32, 2)),
+        254 => Some((32, 96, 4)),
+        _ => None,
+    }
+}
 
 /// Soundness as the document's sentence reads, over all links and pairs.
 pub fn sound_by_sentence(state: &State) -> bool {
     let tasks = usize::from(state.tasks);
     let links = usize::from(state.links);
-    (1..=16).contains(&tasks)
-        && links <= 32
+    (1..=32).contains(&tasks)
+        && links <= 96
         && table_keeps_rules(state, tasks, links)
         && pointers_lie(state, tasks, links)
         && arrivals_and_marks_hold(state, tasks, links)
@@ -67,24 +77,24 @@ fn arrivals_and_marks_hold(state: &State, tasks: usize, links: usize) -> bool {
 /// The first fault that the bytes alone show, without an engine: its number
 /// and place. All rules that a link breaks are gathered and the least given.
 fn fault_in_bytes(bytes: &[u8]) -> Option<(u8, usize)> {
-    match bytes.first() {
+    let (most_tasks, most_links, set_bytes) = match bytes.first().map(|first| sizes_by(*first)) {
         None => return Some((1, 0)),
-        Some(253) => {}
-        Some(_) => return Some((2, 0)),
-    }
-    let tasks = match bytes.get(1) {
+        Some(None) => return Some((2, 0)),
+        Some(Some(sizes)) => sizes,
+    };
+    let tasks = match bytes.get(1).map(|tasks| usize::from(*tasks)) {
         None => return Some((1, 1)),
-        Some(tasks) if !(1..=16).contains(tasks) => return Some((2, 1)),
-        Some(tasks) => usize::from(*tasks),
+        Some(tasks) if !(1..=most_tasks).contains(&tasks) => return Some((2, 1)),
+        Some(tasks) => tasks,
     };
     let links_at = 2 + 4 * tasks;
     if bytes.len() < links_at {
         return Some((1, 2 + (bytes.len() - 2) / 4 * 4));
     }
-    let links = match bytes.get(links_at) {
+    let links = match bytes.get(links_at).map(|links| usize::from(*links)) {
         None => return Some((1, links_at)),
-        Some(links) if *links > 32 => return Some((3, links_at)),
-        Some(links) => usize::from(*links),
+        Some(links) if links > most_links => return Some((3, links_at)),
+        Some(links) => links,
     };
     let events_at = links_at + 1 + 7 * links;
     for place in (links_at + 1..events_at).step_by(7) {
@@ -102,7 +112,7 @@ fn fault_in_bytes(bytes: &[u8]) -> Option<(u8, usize)> {
             if events > 10_000 {
                 return Some((10, events_at));
             }
-            fault_in_events(bytes, events_at + 2, events)
+            fault_in_events(bytes, events_at + 2, events, set_bytes)
         }
     }
 }
@@ -122,12 +132,13 @@ fn least_rule_broken(tasks: usize, earlier: &[u8], link: &[u8]) -> Option<u8> {
     rules.iter().filter(|(_, broken)| *broken).map(|(rule, _)| *rule).min()
 }
 
-fn fault_in_events(bytes: &[u8], first: usize, events: usize) -> Option<(u8, usize)> {
+fn fault_in_events(bytes: &[u8], first: usize, events: usize, set_bytes: usize) -> Option<(u8, usize)> {
+    let sizes = [None, Some(1 + set_bytes), Some(2), Some(2), Some(6)];
     let mut place = first;
     for _ in 0..events {
         let size = match bytes.get(place) {
             None => return Some((1, place)),
-            Some(kind) => [None, Some(3), Some(2), Some(2), Some(6)].get(usize::from(*kind)).copied().flatten(),
+            Some(kind) => sizes.get(usize::from(*kind)).copied().flatten(),
         };
         match size {
             None => return Some((11, place)),
@@ -165,11 +176,13 @@ fn verdict_follows(bytes: &[u8], lent: &[u32], answer: &Answer) -> bool {
 fn event_at(bytes: &[u8], place: usize) -> Option<Event> {
     let byte = |offset: usize| bytes.get(place + offset).copied();
     let value = |offset: usize| Some(u32::from(byte(offset)?));
+    let two = |offset: usize| Some(value(offset)? + value(offset + 1)? * 256);
     Some(match byte(0)? {
-        1 => Event::Arrival((value(1)? + value(2)? * 256) as u16),
+        1 if bytes[0] == 253 => Event::Arrival(two(1)?),
+        1 => Event::Arrival(two(1)? + two(3)? * 65_536),
         2 => Event::Start(byte(1)?),
         3 => Event::Read(byte(1)?),
-        4 => Event::Finish(byte(1)?, value(2)? | value(3)? << 8 | value(4)? << 16 | value(5)? << 24),
+        4 => Event::Finish(byte(1)?, two(2)? + two(4)? * 65_536),
         _ => return None,
     })
 }
@@ -250,8 +263,8 @@ pub fn power_cut_law_broken(
     if cut < ends[0] {
         return None;
     }
-    let kept = Recording { table: recording.table.clone(), events: recording.events[..whole - 1].to_vec() };
-    let kept = encode(&kept);
+    let events = recording.events[..whole - 1].to_vec();
+    let kept = encode(&Recording { table: recording.table.clone(), events, ..*recording });
     let expected = subject.replay(&kept, lent);
     let nothing_lost = whole == ends.len();
     let (refusal, place) = if nothing_lost { (0, cut) } else { (1, ends[whole - 1]) };
@@ -269,7 +282,7 @@ pub fn record_ends(recording: &Recording) -> Vec<usize> {
     let mut ends = vec![crate::format::place_of_event_count(&recording.table) + 2];
     let mut bytes = Vec::new();
     for &event in &recording.events {
-        crate::format::encode_event(event, &mut bytes);
+        crate::format::encode_event(recording.kind, event, &mut bytes);
         ends.push(ends[0] + bytes.len());
     }
     ends
@@ -305,7 +318,7 @@ fn least_refusal(state: &State, event: Event) -> u8 {
     let phase = |task: usize| state.phase.get(task).copied().filter(|_| task < tasks);
     let (outside, runner, needed, otherwise) = match event {
         Event::Arrival(set) => {
-            let named = (0..16).filter(|task| set & (1 << task) != 0);
+            let named = (0..32).filter(|task| set & (1 << task) != 0);
             if set == 0 || named.clone().any(|task| task >= tasks) {
                 return 12;
             }
@@ -332,7 +345,7 @@ fn with_allowed_changes(before: &State, event: Event, after: &State) -> State {
     let mut allowed = *before;
     match event {
         Event::Arrival(set) => {
-            for task in (0..16).filter(|task| set & (1 << task) != 0) {
+            for task in (0..32).filter(|task| set & (1 << task) != 0) {
                 allowed.phase[task] = after.phase[task];
                 allowed.newest[task] = after.newest[task];
                 allowed.previous[task] = after.previous[task];
@@ -354,14 +367,14 @@ fn with_allowed_changes(before: &State, event: Event, after: &State) -> State {
 }
 
 /// The pointers and marks of links whose reader is in the set.
-fn allow_pointers(allowed: &mut State, set: u16, after: &State) {
+fn allow_pointers(allowed: &mut State, set: u32, after: &State) {
     for l in links_into(allowed, set) {
         allowed.pointer[l] = after.pointer[l];
         allowed.mark[l] = after.mark[l];
     }
 }
 
-fn links_into(state: &State, set: u16) -> Vec<usize> {
+fn links_into(state: &State, set: u32) -> Vec<usize> {
     (0..usize::from(state.links)).filter(|l| set & (1 << state.reader[*l]) != 0).collect()
 }
 
@@ -379,8 +392,8 @@ fn accepted_holds(before: &State, event: Event, answer: &OneAnswer) -> bool {
     }
 }
 
-fn arrival_holds(before: &State, set: u16, after: &State) -> bool {
-    let tasks = (0..16).filter(|task| set & (1 << task) != 0);
+fn arrival_holds(before: &State, set: u32, after: &State) -> bool {
+    let tasks = (0..32).filter(|task| set & (1 << task) != 0);
     let writers = tasks.clone().all(|task| {
         let taken = |position: u8| {
             position == before.newest[task]
@@ -434,10 +447,10 @@ pub fn made_law_broken(table: &LentTable, made: &Made) -> Option<&'static str> {
 }
 
 fn table_rule_broken(table: &LentTable) -> u8 {
-    if !(1..=16).contains(&table.tasks) {
+    if !(1..=32).contains(&table.tasks) {
         return 2;
     }
-    if table.links > 32 {
+    if table.links > 96 {
         return 3;
     }
     let record = |l: usize| {
@@ -460,8 +473,8 @@ fn fresh_holds(table: &LentTable, fresh: &State) -> bool {
     let made = |l: usize| (fresh.writer[l], fresh.reader[l], fresh.kind[l], fresh.start_value[l]);
     usize::from(fresh.tasks) == table.tasks
         && usize::from(fresh.links) == table.links
-        && (0..16).all(|t| fresh.defaults[t] == default(t) && fresh.phase[t] == IDLE)
-        && (0..16).all(|t| fresh.newest[t] == 1 && fresh.previous[t] == 1 && fresh.seen[t] == 0)
-        && (0..160).all(|c| fresh.cells[c] == default(c / 10))
-        && (0..32).all(|l| made(l) == link(l) && fresh.pointer[l] == 0 && fresh.mark[l] == 0)
+        && (0..32).all(|t| fresh.defaults[t] == default(t) && fresh.phase[t] == IDLE)
+        && (0..32).all(|t| fresh.newest[t] == 1 && fresh.previous[t] == 1 && fresh.seen[t] == 0)
+        && (0..320).all(|c| fresh.cells[c] == default(c / 10))
+        && (0..96).all(|l| made(l) == link(l) && fresh.pointer[l] == 0 && fresh.mark[l] == 0)
 }

@@ -1,11 +1,11 @@
 //! A second judge of the mailbox core and the recording reader, written from
-//! document 01 (the scope) and requests 2026-02 (start values) and 2026-04 (a
-//! task that reads its own last output) alone; in `writing` one of the recording
-//! writer, and in `settings` one of the settings migrator, both from document 02
-//! (the change requests).
+//! document 01 (the scope) and requests 2026-02 (start values), 2026-04 (a task
+//! that reads its own last output) and 2026-06 (thirty-two tasks) alone; in
+//! `writing` one of the recording writer, and in `settings` one of the settings
+//! migrator, both from document 02 (the change requests).
 //!
-//! `format` reads recordings, `writing` writes them from numbers that are
-//! handed over, `pointers` and `zero_time` are two engines that know nothing of
+//! `sizes` has the kinds of recordings and the room of a state, `format` reads
+//! recordings, `writing` writes them from numbers that are handed over, `pointers` and `zero_time` are two engines that know nothing of
 //! each other, `subject` is what gets judged, `laws` says the same rules once
 //! more as properties, `wrong` holds the errors that look right, `corpus`,
 //! `handovers`, `tables`, `saved` and `exhaustive` make the inputs (out of
@@ -33,6 +33,7 @@ mod run;
 pub mod saved;
 mod schedule;
 pub mod settings;
+pub mod sizes;
 pub mod state;
 pub mod subject;
 pub mod tables;

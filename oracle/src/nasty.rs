@@ -1,10 +1,11 @@
 //! Events, sets and links that may break a rule, or several at once.
 
 use crate::engine::IDLE;
-use crate::format::{Event, Link, Table, MOST_BEHIND, MOST_LINKS, MOST_TASKS};
+use crate::format::{Event, Link, Table};
 use crate::prng::Prng;
 use crate::random_table::{link_of_any_kind, random_table, self_link, value, Size};
 use crate::schedule::Schedule;
+use crate::sizes::{Limits, MOST_BEHIND};
 
 /// An event that may break a rule; out-of-range numbers come up in each kind.
 pub fn nasty_event(prng: &mut Prng, table: &Table, schedule: &Schedule) -> Event {
@@ -12,20 +13,22 @@ pub fn nasty_event(prng: &mut Prng, table: &Table, schedule: &Schedule) -> Event
     let task = |prng: &mut Prng| {
         let top = schedule.top().unwrap_or(0);
         let drawn = prng.below(tasks);
-        prng.pick(&[top, drawn, drawn, tasks, 15, 16, 255]) as u8
+        prng.pick(&[top, top, drawn, drawn, drawn, tasks, 15, 16, 31, 32, 255]) as u8
     };
     match prng.below(4) {
         0 => Event::Arrival(nasty_set(prng, &schedule.phase)),
         1 => Event::Start(task(prng)),
         2 => {
             let drawn = prng.below(table.links.len().max(1));
-            Event::Read(prng.pick(&[drawn, drawn, drawn, drawn, table.links.len(), 31, 32, 255]) as u8)
+            let links = table.links.len();
+            Event::Read(prng.pick(&[drawn, drawn, drawn, drawn, drawn, links, links, 31, 32, 95, 96, 255]) as u8)
         }
         _ => Event::Finish(task(prng), value(prng)),
     }
 }
 
-fn nasty_set(prng: &mut Prng, phases: &[u8]) -> u16 {
+/// Of 32 bits, whatever the field that it may be written to.
+fn nasty_set(prng: &mut Prng, phases: &[u8]) -> u32 {
     let mut set = 0;
     for (task, phase) in phases.iter().enumerate() {
         if prng.chance(if *phase == IDLE { 40 } else { 20 }) {
@@ -34,20 +37,24 @@ fn nasty_set(prng: &mut Prng, phases: &[u8]) -> u16 {
     }
     match prng.below(8) {
         0 => 0,
-        1 => u16::MAX,
-        2 if phases.len() < MOST_TASKS => set | 1 << prng.between(phases.len(), MOST_TASKS - 1),
-        3 => prng.word() as u16,
+        1 => prng.pick(&[0xFFFF, u32::MAX]),
+        2 | 3 if phases.len() < 32 => {
+            let past = prng.between(phases.len(), 31);
+            set | 1 << prng.pick(&[phases.len(), past, 31])
+        }
+        4 => prng.word() >> prng.pick(&[0, 16]),
         _ => set,
     }
 }
 
 /// A table whose last links break several rules at once, as a rule.
-pub fn competing_table(prng: &mut Prng) -> Table {
-    let size = prng.pick(&[Size::Small, Size::Any, Size::Limit]);
-    let mut table = random_table(prng, size);
+pub fn competing_table(prng: &mut Prng, limits: Limits) -> Table {
+    let size = prng.pick(&[Size::Small, Size::Any, Size::Limit, Size::Full]);
+    let mut table = random_table(prng, limits, size);
     let tasks = table.defaults.len();
     if prng.chance(30) {
         crowd(prng, &mut table);
+        table.links.truncate(limits.links);
     }
     for _ in 0..prng.between(1, 3) {
         table.links.push(nasty_link(prng, tasks, &table.links));
@@ -60,7 +67,6 @@ fn crowd(prng: &mut Prng, table: &mut Table) {
     table.links.retain(|link| link.writer != 0);
     let behind = (table.defaults.len() - 1).min(MOST_BEHIND);
     table.links.extend(crowd_of_links(prng, behind));
-    table.links.truncate(MOST_LINKS);
 }
 
 /// Links of task 0 to so many readers behind, and half the time one to itself
@@ -74,7 +80,7 @@ pub fn crowd_of_links(prng: &mut Prng, behind: usize) -> Vec<Link> {
 }
 
 fn nasty_link(prng: &mut Prng, tasks: usize, earlier: &[Link]) -> Link {
-    let task = |prng: &mut Prng| prng.pick(&[0, tasks - 1, tasks.saturating_sub(2), tasks, 16, 255]) as u8;
+    let task = |prng: &mut Prng| prng.pick(&[0, tasks - 1, tasks.saturating_sub(2), tasks, 16, 32, 255]) as u8;
     let (writer, reader, kind) = (task(prng), task(prng), prng.pick(&[0, 0, 1, 1, 2, 255]));
     // Whatever the kind; one in each of its bytes.
     let start_value = prng.pick(&[0, 0, 0, 1, 1 << 8, 1 << 16, 1 << 24, u32::MAX]);

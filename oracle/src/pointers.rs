@@ -57,15 +57,16 @@ fn in_table(number: u8, count: u8) -> Option<usize> {
     }
 }
 
-fn set_outside_table(state: &State, set: u16) -> bool {
-    u32::from(set) >> state.tasks != 0
+fn set_outside_table(state: &State, set: u32) -> bool {
+    // Of 32 bits none is left past 32 tasks.
+    u64::from(set) >> state.tasks != 0
 }
 
-pub fn has_active(state: &State, set: u16) -> bool {
+pub fn has_active(state: &State, set: u32) -> bool {
     tasks_of(set, state).any(|task| state.active(task))
 }
 
-fn judge_arrival(state: &State, set: u16) -> u8 {
+fn judge_arrival(state: &State, set: u32) -> u8 {
     if set == 0 || set_outside_table(state, set) {
         12
     } else if has_active(state, set) {
@@ -86,25 +87,25 @@ fn judge_run(state: &State, task: Option<usize>, needed: u8, otherwise: u8) -> u
     }
 }
 
-pub fn tasks_of(set: u16, state: &State) -> impl Iterator<Item = usize> {
+pub fn tasks_of(set: u32, state: &State) -> impl Iterator<Item = usize> {
     (0..usize::from(state.tasks)).filter(move |task| set >> task & 1 == 1)
 }
 
 /// The writers' part for the whole set comes first: a reader that arrives
 /// with its writer must see the writer's new positions.
-fn arrival(state: &mut State, set: u16) {
+fn arrival(state: &mut State, set: u32) {
     writers_part(state, set, lowest_free);
     readers_part(state, set, settles_on_start);
     now_waiting(state, set);
 }
 
-pub fn now_waiting(state: &mut State, set: u16) {
+pub fn now_waiting(state: &mut State, set: u32) {
     for task in tasks_of(set, state) {
         state.phase[task] = WAITING;
     }
 }
 
-pub fn writers_part(state: &mut State, set: u16, search: impl Fn(&State, usize) -> u8) {
+pub fn writers_part(state: &mut State, set: u32, search: impl Fn(&State, usize) -> u8) {
     for task in tasks_of(set, state) {
         state.previous[task] = state.newest[task];
         state.newest[task] = search(state, task);
@@ -146,7 +147,7 @@ pub fn settles_on_start(state: &State, link: usize) -> bool {
     state.kind[link] == DELAYED && state.writer_new(link)
 }
 
-pub fn readers_part(state: &mut State, set: u16, settles: impl Fn(&State, usize) -> bool) {
+pub fn readers_part(state: &mut State, set: u32, settles: impl Fn(&State, usize) -> bool) {
     for number in 0..usize::from(state.links) {
         if set >> state.reader[number] & 1 == 1 {
             let writer = usize::from(state.writer[number]);

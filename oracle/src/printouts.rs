@@ -7,16 +7,18 @@ use std::path::Path;
 
 use crate::corpus::{batch, Case, CORPORA};
 use crate::engine::{RUNNING, WAITING};
-use crate::format::{printout, MOST_BYTES, MOST_EVENTS};
+use crate::format::printout;
 use crate::prng::Prng;
 use crate::reach::at_least;
+use crate::sizes::{RecordingKind, KINDS, MOST_EVENTS};
 use crate::state::{State, ABSENT};
 use crate::subject::{Answer, Oracle, Subject};
 
 /// So many recordings of each corpus.
-const OF_EACH: usize = 12;
+const OF_EACH: usize = 10;
 
-/// So often each word must be printed, and each kind of read.
+/// So often each word must be printed, and each kind be read; but the last task
+/// and link only once.
 const OFTEN: usize = 20;
 
 /// What `inspect` prints of an answer.
@@ -80,13 +82,17 @@ pub fn command() -> i32 {
 fn write_all(folder: &Path) -> std::io::Result<Vec<String>> {
     let mut all = String::new();
     let (mut marked, mut of_self_links) = (0, 0);
+    let mut accepted = KINDS.map(|kind| (kind, 0));
     for (number, mut bytes) in recordings().into_iter().enumerate() {
-        bytes.truncate(MOST_BYTES + 1);
+        bytes.truncate(RecordingKind::THIRTY_TWO.most_bytes() + 1);
         let answer = Oracle.replay(&bytes, &[0; MOST_EVENTS]);
         let read = printout(&bytes, answer.refusal, answer.place, answer.counts, &answer.list);
         let inspected = inspected(&answer);
         marked += usize::from(inspected.contains(" mark\n"));
-        of_self_links += answer.state.self_links_of(u16::MAX).filter(|l| answer.state.pointer[*l] != ABSENT).count();
+        for (kind, count) in &mut accepted {
+            *count += usize::from(answer.refusal == 0 && bytes[0] == kind.first_byte);
+        }
+        of_self_links += answer.state.self_links_of(u32::MAX).filter(|l| answer.state.pointer[*l] != ABSENT).count();
         let named = |program: &str| folder.join(format!("{:03}.{}", number, program));
         fs::write(named("replay"), &read)?;
         fs::write(named("inspect"), &inspected)?;
@@ -96,8 +102,14 @@ fn write_all(folder: &Path) -> std::io::Result<Vec<String>> {
     let mut missing = Vec::new();
     at_least(&mut missing, "recordings that end with a mark", marked, OFTEN);
     at_least(&mut missing, "pointers of self links at the end of a recording", of_self_links, OFTEN);
-    for words in ["read ", "accepted ", "refused ", " had 0\n", " had 1\n", " had 2\n", " absent\n"] {
-        at_least(&mut missing, &format!("{:?} printed", words), all.matches(words).count(), OFTEN);
+    for (kind, count) in accepted {
+        at_least(&mut missing, &format!("recordings of {} that are accepted", kind.first_byte), count, OFTEN);
+    }
+    let often = ["read ", "accepted ", "refused ", " had 0\n", " had 1\n", " had 2\n", " absent\n"];
+    let of_last = ["\ntask 31 ", "\nlink 95 ", "\nread 95 "];
+    let wanted = often.map(|words| (words, OFTEN)).into_iter().chain(of_last.map(|words| (words, 1)));
+    for (words, wanted) in wanted {
+        at_least(&mut missing, &format!("{:?} printed", words), all.matches(words).count(), wanted);
     }
     Ok(missing)
 }

@@ -1,22 +1,25 @@
 //! Random tables that keep the rules.
 
-use crate::format::{link_refusal, Link, Table, DELAYED, MOST_LINKS, MOST_TASKS};
+use crate::format::{link_refusal, Link, Table, DELAYED};
 use crate::prng::Prng;
+use crate::sizes::{Limits, MOST_BEHIND};
 
 #[derive(Clone, Copy, PartialEq, Eq)]
 pub enum Size {
     Small,
     Any,
     Limit,
+    /// The most tasks and the most links.
+    Full,
 }
 
-/// One in five of the largest has a self link of every task.
-pub fn random_table(prng: &mut Prng, size: Size) -> Table {
+pub fn random_table(prng: &mut Prng, limits: Limits, size: Size) -> Table {
     let (tasks, links) = match size {
         Size::Small => (prng.between(1, 4), prng.between(0, 5)),
-        Size::Any => (prng.between(1, MOST_TASKS), prng.between(0, MOST_LINKS)),
-        Size::Limit if prng.chance(20) => return all_read_themselves(prng),
-        Size::Limit => (prng.between(10, MOST_TASKS), prng.between(16, MOST_LINKS)),
+        Size::Any => (prng.between(1, limits.tasks), prng.between(0, limits.links)),
+        Size::Full if prng.chance(50) => return crowded_table(prng, limits),
+        Size::Full => return all_read_themselves(prng, limits),
+        Size::Limit => (prng.between(limits.tasks * 5 / 8, limits.tasks), prng.between(limits.links / 2, limits.links)),
     };
     let defaults = defaults(prng, tasks);
     let habit = link_habit(prng, tasks);
@@ -31,22 +34,31 @@ pub fn random_table(prng: &mut Prng, size: Size) -> Table {
     Table { defaults, links: chosen }
 }
 
-/// Sixteen tasks, each with a self link, and as many other links; the self
-/// links stand anywhere among them.
-pub fn all_read_themselves(prng: &mut Prng) -> Table {
-    let defaults = defaults(prng, MOST_TASKS);
-    let habit = link_habit(prng, MOST_TASKS);
+/// As many tasks as there may be, each with a self link, and other links up to
+/// the most; the self links stand anywhere among them.
+pub fn all_read_themselves(prng: &mut Prng, limits: Limits) -> Table {
+    let defaults = defaults(prng, limits.tasks);
+    let habit = link_habit(prng, limits.tasks);
     let mut links = Vec::new();
-    while links.len() < MOST_LINKS - MOST_TASKS {
-        let link = random_link(prng, MOST_TASKS, &habit);
-        if !link.to_itself() && link_refusal(MOST_TASKS, &links, link) == 0 {
+    while links.len() < limits.links - limits.tasks {
+        let link = random_link(prng, limits.tasks, &habit);
+        if !link.to_itself() && link_refusal(limits.tasks, &links, link) == 0 {
             links.push(link);
         }
     }
-    for task in 0..MOST_TASKS as u8 {
+    for task in 0..limits.tasks as u8 {
         links.insert(prng.below(links.len() + 1), self_link(prng, task));
     }
     Table { defaults, links }
+}
+
+/// The first tasks with eight readers behind each, the last eight.
+pub fn crowded_table(prng: &mut Prng, limits: Limits) -> Table {
+    let writers = 0..(limits.links / MOST_BEHIND) as u8;
+    let readers = (limits.tasks - MOST_BEHIND) as u8..limits.tasks as u8;
+    let pairs = writers.flat_map(|writer| readers.clone().map(move |reader| (writer, reader)));
+    let links = pairs.map(|(writer, reader)| link_of_any_kind(prng, writer, reader)).collect();
+    Table { defaults: defaults(prng, limits.tasks), links }
 }
 
 fn defaults(prng: &mut Prng, tasks: usize) -> Vec<u32> {

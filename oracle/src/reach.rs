@@ -1,15 +1,24 @@
 //! What the inputs reached, to show that they go deep, and what the default
 //! run has to reach.
 
+mod ends;
+mod lines;
 mod self_links;
 mod start_values;
 
 use crate::engine::RUNNING;
-use crate::format::{Event, Link, MOST_BYTES, MOST_TASKS};
+use crate::format::{event_at, Event, Link};
+use crate::sizes::{RecordingKind, KINDS, ROOM};
 use crate::state::{broken_clauses, Clause, State, MOST_POSITIONS};
 use crate::subject::{Answer, OneAnswer};
+use crate::writing::{begun_events, Handover, Written};
+use ends::Ends;
+use lines::Lines;
 use self_links::SelfLinks;
 use start_values::StartValues;
+
+/// So often each line must be met on either side, and the last task and link.
+const OFTEN: usize = 20;
 
 /// So many states a published check went through, of the two-task low-to-high
 /// scheme (paper 000, figure 14). That is another protocol: the number says
@@ -24,63 +33,69 @@ const OF_RECORDINGS: [usize; 20] = [0, 1, 2, 3, 4, 5, 6, 7, 8, 9, 10, 11, 12, 13
 const OF_ONE_EVENT: [usize; 7] = [0, 12, 13, 14, 15, 16, 19];
 const OF_TABLES: [usize; 10] = [0, 2, 3, 4, 5, 6, 7, 8, 9, 20];
 const OF_WRITING: [usize; 19] = [0, 1, 2, 3, 4, 5, 6, 7, 8, 9, 10, 11, 12, 13, 14, 15, 16, 18, 20];
+/// And of recordings of no kind: there is no byte at all, or another one.
+const OF_NO_KIND: [usize; 2] = [1, 2];
+const OF_NO_KIND_WRITTEN: [usize; 1] = [2];
+
+/// How often each was given, by kind of recording.
+#[derive(Default)]
+pub struct ByKind {
+    of_kinds: [Refusals; KINDS.len()],
+    of_none: Refusals,
+}
+
+impl ByKind {
+    pub fn note(&mut self, number: Option<u32>, refusal: u8) {
+        let kind = KINDS.iter().position(|kind| Some(kind.number()) == number);
+        let refusals = kind.map_or(&mut self.of_none, |kind| &mut self.of_kinds[kind]);
+        refusals[usize::from(refusal)] += 1;
+    }
+
+    /// Each with the name of its kind and what can be given there.
+    fn each<'a>(
+        &'a self,
+        given: &'a [usize],
+        of_none: &'a [usize],
+    ) -> impl Iterator<Item = (String, &'a Refusals, &'a [usize])> {
+        let named = |kind: &RecordingKind| kind.first_byte.to_string();
+        let of_kinds = KINDS.iter().zip(&self.of_kinds).map(move |(kind, refusals)| (named(kind), refusals, given));
+        of_kinds.chain([("no kind".to_string(), &self.of_none, of_none)])
+    }
+}
 
 #[derive(Default)]
 pub struct Reach {
-    pub refusals: Refusals,
     start_values: StartValues,
     self_links: SelfLinks,
+    ends: Ends,
     most_active: usize,
     most_running: usize,
     highest_position: u8,
-    longest: usize,
 }
 
 impl Reach {
-    /// A whole recording.
-    pub fn note(&mut self, bytes: &[u8], answer: &Answer) {
-        self.refusals[usize::from(answer.refusal)] += 1;
-        self.longest = self.longest.max(bytes.len());
-        self.note_state(&answer.state);
-        if answer.refusal == 5 {
-            self.self_links.note_recording_refused(bytes, answer.place);
-        }
-    }
-
-    /// One event given to a saved state.
-    pub fn note_one(&mut self, state: &State, event: Event, answer: &OneAnswer) {
-        self.refusals[usize::from(answer.refusal)] += 1;
-        match answer.refusal {
-            19 if broken_clauses(state) == [Clause::DirectToItself] => self.self_links.note_state_refused(state),
-            19 => {}
-            refusal => {
-                self.note_state(state);
-                self.note_table(&state.link_list());
-                if refusal == 0 {
-                    self.note_event(state, event, &answer.state);
-                }
-            }
-        }
-    }
-
-    /// The links of a possible recording or of a sound state.
-    pub fn note_table(&mut self, links: &[Link]) {
-        self.self_links.note_table(links);
+    /// The tasks and links of a possible recording or of a sound state.
+    pub fn note_table(&mut self, tasks: usize, links: &[Link]) {
+        self.self_links.note_table(tasks, links);
     }
 
     /// An accepted event, with the states before and after it.
     pub fn note_event(&mut self, before: &State, event: Event, after: &State) {
         self.start_values.note(before, event, after);
         self.self_links.note(before, event, after);
+        self.ends.note(before, event);
     }
 
-    /// What became of start values and of self links, each with its name.
-    fn counts(&self) -> impl Iterator<Item = (&'static str, usize)> {
-        self.start_values.counts().into_iter().chain(self.self_links.counts())
+    /// What became of start values, of self links and of the last task and link,
+    /// each with its name and with how often it must come up.
+    fn counts(&self) -> impl Iterator<Item = (&'static str, usize, usize)> {
+        let wanted = |wanted: usize| move |(what, count)| (what, count, wanted);
+        let anywhere = self.start_values.counts().into_iter().chain(self.self_links.counts());
+        anywhere.map(wanted(100)).chain(self.ends.counts().map(wanted(OFTEN)))
     }
 
     fn note_state(&mut self, state: &State) {
-        let tasks = usize::from(state.tasks).min(MOST_TASKS);
+        let tasks = usize::from(state.tasks).min(ROOM.tasks);
         let active = (0..tasks).filter(|task| state.active(*task)).count();
         let running = state.phase[..tasks].iter().filter(|phase| **phase == RUNNING).count();
         self.most_active = self.most_active.max(active);
@@ -101,8 +116,15 @@ impl Reach {
 pub struct Reached {
     pub recordings: Reach,
     pub events: Reach,
+    pub read: ByKind,
+    pub one_event: Refusals,
     pub tables: Refusals,
-    pub writing: Refusals,
+    pub written: ByKind,
+    lines: Lines,
+    longest: usize,
+    /// Handovers for the smaller kind refused with 12 that have a set for which
+    /// two bytes have no room.
+    wide_sets: usize,
     /// Accepted recordings that were written again.
     pub written_again: usize,
     /// Refused ones whose numbers were refused alike.
@@ -112,37 +134,95 @@ pub struct Reached {
 }
 
 impl Reached {
+    /// A whole recording.
+    pub fn note_recording(&mut self, bytes: &[u8], answer: &Answer) {
+        self.read.note(bytes.first().map(|first| u32::from(*first)), answer.refusal);
+        self.longest = self.longest.max(bytes.len());
+        self.lines.note(bytes, answer);
+        self.recordings.note_state(&answer.state);
+        match (answer.refusal, event_at(bytes, answer.place)) {
+            (5, _) => self.recordings.self_links.note_recording_refused(bytes, answer.place),
+            (12, Some(event)) => self.recordings.ends.note_refused(&answer.state, event),
+            _ => {}
+        }
+    }
+
+    /// One event given to a saved state.
+    pub fn note_one(&mut self, state: &State, event: Event, answer: &OneAnswer) {
+        self.one_event[usize::from(answer.refusal)] += 1;
+        let reach = &mut self.events;
+        if answer.refusal == 19 {
+            if broken_clauses(state) == [Clause::DirectToItself] {
+                reach.self_links.note_state_refused(state);
+            }
+            return;
+        }
+        reach.note_state(state);
+        reach.note_table(usize::from(state.tasks), &state.link_list());
+        match answer.refusal {
+            0 => reach.note_event(state, event, &answer.state),
+            12 => reach.ends.note_refused(state, event),
+            _ => {}
+        }
+    }
+
+    /// What was handed over to be written.
+    pub fn note_writing(&mut self, handover: &Handover, written: Written) {
+        self.written.note(Some(handover.kind), written.refusal);
+        let wide = |record: &&[u32]| matches!(**record, [1, 0x1_0000..=u32::MAX]);
+        if handover.kind == RecordingKind::SIXTEEN.number() && written.refusal == 12 {
+            self.wide_sets += usize::from(begun_events(&handover.events).iter().any(wide));
+        }
+    }
+
     pub fn print(&self) {
-        print_refusals("refusals in recordings:", &self.recordings.refusals, &OF_RECORDINGS);
-        println!("{}, longest {} bytes", self.recordings.depth(), self.recordings.longest);
-        print_refusals("refusals of one event: ", &self.events.refusals, &OF_ONE_EVENT);
+        for (kind, refusals, given) in self.read.each(&OF_RECORDINGS, &OF_NO_KIND) {
+            print_refusals(&format!("refusals in recordings of {}:", kind), refusals, given);
+        }
+        println!("{}, longest {} bytes", self.recordings.depth(), self.longest);
+        print_refusals("refusals of one event:", &self.one_event, &OF_ONE_EVENT);
         println!("{}", self.events.depth());
-        print_refusals("refusals of tables:    ", &self.tables, &OF_TABLES);
-        print_refusals("refusals of writing:   ", &self.writing, &OF_WRITING);
-        println!("  recordings written again {}, refused alike {}", self.written_again, self.refused_alike);
+        print_refusals("refusals of tables:", &self.tables, &OF_TABLES);
+        for (kind, refusals, given) in self.written.each(&OF_WRITING, &OF_NO_KIND_WRITTEN) {
+            print_refusals(&format!("refusals of writing {}:", kind), refusals, given);
+        }
+        println!(
+            "  recordings written again {}, refused alike {}, wide sets {}",
+            self.written_again, self.refused_alike, self.wide_sets
+        );
+        self.lines.print();
         println!("in possible recordings, and of one event:");
         let both = self.recordings.counts().zip(self.events.counts());
-        both.for_each(|((what, recordings), (_, events))| println!("  {:<60} {:>8} {:>8}", what, recordings, events));
+        both.for_each(|((what, recordings, _), (_, events, _))| {
+            println!("  {:<60} {:>8} {:>8}", what, recordings, events);
+        });
     }
 
     /// What the default run must reach and this one did not.
     pub fn missing(&self) -> Vec<String> {
         let mut missing = Vec::new();
-        never_given(&mut missing, "in recordings", &self.recordings.refusals, &OF_RECORDINGS);
-        never_given(&mut missing, "of one event", &self.events.refusals, &OF_ONE_EVENT);
+        for (kind, refusals, given) in self.read.each(&OF_RECORDINGS, &OF_NO_KIND) {
+            never_given(&mut missing, &format!("in recordings of {}", kind), refusals, given);
+        }
+        never_given(&mut missing, "of one event", &self.one_event, &OF_ONE_EVENT);
         never_given(&mut missing, "of tables", &self.tables, &OF_TABLES);
-        never_given(&mut missing, "of writing", &self.writing, &OF_WRITING);
+        for (kind, refusals, given) in self.written.each(&OF_WRITING, &OF_NO_KIND_WRITTEN) {
+            never_given(&mut missing, &format!("of writing {}", kind), refusals, given);
+        }
         at_least(&mut missing, "recordings written again", self.written_again, 100_000);
         at_least(&mut missing, "recordings refused alike in writing", self.refused_alike, 100_000);
+        at_least(&mut missing, "handovers refused with a set past two bytes", self.wide_sets, 100);
+        self.lines.missing(&mut missing);
         for (reach, place) in [(&self.recordings, "recordings"), (&self.events, "saved states")] {
-            at_least(&mut missing, &format!("tasks running at once in {}", place), reach.most_running, MOST_TASKS);
+            at_least(&mut missing, &format!("tasks running at once in {}", place), reach.most_running, ROOM.tasks);
             let highest = usize::from(reach.highest_position);
             at_least(&mut missing, &format!("positions of a task in {}", place), highest, MOST_POSITIONS);
-            for (what, count) in reach.counts() {
-                at_least(&mut missing, &format!("{} in {}", what, place), count, 100);
+            for (what, count, wanted) in reach.counts() {
+                at_least(&mut missing, &format!("{} in {}", what, place), count, wanted);
             }
         }
-        at_least(&mut missing, "bytes of a recording", self.recordings.longest, MOST_BYTES + 1);
+        let most_bytes = RecordingKind::THIRTY_TWO.most_bytes();
+        at_least(&mut missing, "bytes of a recording", self.longest, most_bytes + 1);
         at_least(&mut missing, "states by every sequence of events", self.states, PUBLISHED_STATES);
         missing
     }
@@ -150,7 +230,7 @@ impl Reached {
 
 fn print_refusals(title: &str, refusals: &Refusals, given: &[usize]) {
     let told: Vec<String> = given.iter().map(|number| format!("{}:{}", number, refusals[*number])).collect();
-    println!("{} {}", title, told.join(" "));
+    println!("{:<35} {}", title, told.join(" "));
 }
 
 pub fn never_given(missing: &mut Vec<String>, place: &str, refusals: &[usize], wanted: &[usize]) {

@@ -12,7 +12,7 @@ mod tables;
 
 use crate::corpus::CORPORA;
 use crate::reach::Reached;
-use crate::subject::Subject;
+use crate::subject::{Oracle, Subject};
 use crate::wrong::{in_handovers, in_recordings, in_saved_states, in_tables, Wrong};
 use exposure::{subjects, Exposure};
 use options::quota;
@@ -51,6 +51,17 @@ impl<'a> Run<'a> {
         }
     }
 
+    /// A subject that takes a state for another size would be lent too little, or
+    /// too much.
+    fn compare_sizes(&mut self) {
+        let (sizes, others) = (Oracle.sizes(), self.subject.sizes());
+        println!("a state has tasks, links, bytes and numbers {:?}", others);
+        if others != sizes {
+            let name = self.subject.name();
+            self.differ("the sizes of a state", || format!("oracle: {:?}\n{}: {:?}", sizes, name, others));
+        }
+    }
+
     fn differ(&mut self, what: &str, input: impl FnOnce() -> String) {
         self.differences += 1;
         if self.first_difference.is_none() {
@@ -63,6 +74,7 @@ impl<'a> Run<'a> {
 pub fn run(subject: &dyn Subject, options: &Options) -> bool {
     println!("seed {}", options.seed);
     let mut run = Run::new(subject);
+    run.compare_sizes();
     for (number, &corpus) in CORPORA.iter().enumerate() {
         let taken = run.corpus(corpus, quota(corpus, options), &mut stream(options.seed, number));
         println!("{:<16} {:>8} recordings", format!("{:?}", corpus), taken);

@@ -2,13 +2,14 @@
 
 mod self_links;
 
-use crate::engine::{Engine, FreshEngine, IDLE, RUNNING};
-use crate::format::{Event, Link, Table, DELAYED, MOST_BEHIND};
+use crate::engine::{Engine, FreshEngine, IDLE};
+use crate::format::{Event, Link, Table, DELAYED};
 use crate::nasty::{crowd_of_links, nasty_event};
 use crate::pointers::Pointers;
 use crate::prng::Prng;
 use crate::random_table::{random_table, Size};
-use crate::schedule::{random_events, Schedule};
+use crate::schedule::{deepest_interruption, events_of_last_two, random_events, Schedule};
+use crate::sizes::{Limits, KINDS, MOST_BEHIND, ROOM};
 use crate::state::{State, ABSENT, MOST_CELLS, MOST_POSITIONS};
 use crate::zero_time::ZeroTime;
 use self_links::self_link_changed;
@@ -21,9 +22,23 @@ pub struct Saved {
     pub schedule: Schedule,
 }
 
+/// The limits of a kind of recording: a table within either is lawful in a
+/// state, and tables within the smaller one come up as often as others.
+fn some_limits(prng: &mut Prng) -> Limits {
+    prng.pick(&KINDS).limits
+}
+
+/// One in ten has every slot in use, and a history of the last tasks alone.
 pub fn from_history(prng: &mut Prng) -> Saved {
-    let size = prng.pick(&[Size::Small, Size::Any, Size::Any, Size::Limit]);
-    let table = random_table(prng, size);
+    if prng.chance(10) {
+        let table = random_table(prng, ROOM, Size::Full);
+        let count = prng.below(40);
+        let (events, schedule) = events_of_last_two(prng, &table, count);
+        return after(table, events, schedule);
+    }
+    let size = prng.pick(&[Size::Small, Size::Any, Size::Any, Size::Limit, Size::Full]);
+    let limits = some_limits(prng);
+    let table = random_table(prng, limits, size);
     if prng.chance(5) {
         return all_running(table);
     }
@@ -38,13 +53,8 @@ fn from_history_of(prng: &mut Prng, table: Table) -> Saved {
     after(table, events, schedule)
 }
 
-/// The deepest interruption: from the least urgent on, each task is
-/// interrupted by the next as soon as it runs.
 fn all_running(table: Table) -> Saved {
-    let tasks = 0..table.defaults.len() as u8;
-    let events = tasks.rev().flat_map(|task| [Event::Arrival(1 << task), Event::Start(task)]).collect();
-    let mut schedule = Schedule::new(&table);
-    schedule.phase.fill(RUNNING);
+    let (events, schedule) = deepest_interruption(&table);
     after(table, events, schedule)
 }
 
@@ -64,21 +74,24 @@ pub fn event_for(prng: &mut Prng, state: &State, saved: &Saved) -> Event {
         return nasty_event(prng, &saved.table, &saved.schedule);
     }
     let top = saved.schedule.top();
-    let idle: u16 =
+    let idle: u32 =
         (0..saved.table.defaults.len()).filter(|t| saved.schedule.phase[*t] == IDLE).fold(0, |set, t| set | 1 << t);
-    let links = usize::from(state.links).min(32);
+    let links = usize::from(state.links).min(ROOM.links);
     let top_links: Vec<u8> =
         (0..links).filter(|l| Some(usize::from(state.reader[*l])) == top).map(|l| l as u8).collect();
-    match prng.below(5) {
-        0 => Event::Arrival(idle & prng.word() as u16),
-        1 | 2 if !top_links.is_empty() => Event::Read(prng.pick(&top_links)),
-        3 => Event::Start(top.unwrap_or(0) as u8),
+    let own = top_links.iter().find(|l| state.writer[usize::from(**l)] == state.reader[usize::from(**l)]);
+    match (prng.below(5), top_links.last()) {
+        (0, _) => Event::Arrival(idle & prng.word()),
+        (1, Some(_)) => Event::Read(prng.pick(&top_links)),
+        // The last one, or the one to itself, which are seldom the one drawn from many.
+        (2, Some(last)) => Event::Read(prng.pick(&[*last, *own.unwrap_or(last)])),
+        (3, _) => Event::Start(top.unwrap_or(0) as u8),
         _ => Event::Finish(top.unwrap_or(0) as u8, prng.word()),
     }
 }
 
-/// Every field that a lent state has; the index runs over the whole array,
-/// slots past the counts included.
+/// A field that a lent state has; the index runs over the whole array, slots past
+/// the counts included.
 #[derive(Clone, Copy, PartialEq, Eq, Debug)]
 enum Field {
     Tasks,
@@ -97,9 +110,20 @@ enum Field {
     Mark(usize),
 }
 
-fn all_fields() -> impl Iterator<Item = Field> {
+fn fields(tasks: impl Iterator<Item = usize>, links: impl Iterator<Item = usize>) -> impl Iterator<Item = Field> {
     let counts = [Field::Tasks, Field::Links];
-    counts.into_iter().chain((0..16).flat_map(fields_of_task)).chain((0..32).flat_map(fields_of_link))
+    counts.into_iter().chain(tasks.flat_map(fields_of_task)).chain(links.flat_map(fields_of_link))
+}
+
+fn all_fields() -> impl Iterator<Item = Field> {
+    fields(0..ROOM.tasks, 0..ROOM.links)
+}
+
+/// The fields of all tasks and links of a state, and of the first and the last
+/// slot past each.
+fn fields_around(state: &State) -> impl Iterator<Item = Field> {
+    let slots = |count: u8, room: usize| (0..room).filter(move |slot| *slot <= usize::from(count) || slot + 1 == room);
+    fields(slots(state.tasks, ROOM.tasks), slots(state.links, ROOM.links))
 }
 
 /// Of the positions the first and the last one.
@@ -120,12 +144,12 @@ fn boundary_values(state: &State, field: Field) -> Vec<u32> {
     let links = u32::from(state.links);
     let lines = |positions: u32| vec![0, 1, 2, positions, positions + 1, 10, 11, 255];
     match field {
-        Field::Tasks => vec![0, 1, tasks - 1, tasks + 1, 15, 16, 17, 255],
-        Field::Links => vec![0, 1, links.saturating_sub(1), links + 1, 31, 32, 33, 255],
+        Field::Tasks => vec![0, 1, tasks - 1, tasks + 1, 15, 16, 17, 31, 32, 33, 255],
+        Field::Links => vec![0, 1, links.saturating_sub(1), links + 1, 31, 32, 33, 95, 96, 97, 255],
         Field::Default(_) | Field::Cell(_) => vec![0, 1, u32::MAX],
         Field::Phase(_) | Field::Seen(_) => vec![0, 1, 2, 3, 128, 255],
         Field::Newest(task) | Field::Previous(task) => lines(state.positions(task) as u32),
-        Field::Writer(_) | Field::Reader(_) => vec![0, tasks - 1, tasks, 15, 16, 31, 255],
+        Field::Writer(_) | Field::Reader(_) => vec![0, tasks - 1, tasks, 15, 16, 31, 32, 255],
         Field::Kind(_) | Field::Mark(_) => vec![0, 1, 2, 255],
         Field::StartValue(_) => vec![0, 1, 1 << 8, 1 << 16, 1 << 31, u32::MAX],
         Field::Pointer(link) => lines(state.positions(usize::from(state.writer[link])) as u32),
@@ -156,7 +180,7 @@ fn set_field(state: &mut State, field: Field, value: u32) {
 /// random value.
 fn every_field_spoiled(prng: &mut Prng, sound: &State) -> Vec<State> {
     let mut states = Vec::new();
-    for field in all_fields() {
+    for field in fields_around(sound) {
         let mut values = boundary_values(sound, field);
         values.push(prng.word());
         states.extend(values.into_iter().map(|value| with_field(sound, field, value)));
@@ -174,7 +198,7 @@ fn with_field(state: &State, field: Field, value: u32) -> State {
 /// marks, self links, some fields at once, and states that owe nothing to the
 /// sound one.
 pub fn spoiled(prng: &mut Prng, sound: &State) -> Vec<State> {
-    let mut states = if prng.chance(2) { every_field_spoiled(prng, sound) } else { Vec::new() };
+    let mut states = if prng.chance(1) { every_field_spoiled(prng, sound) } else { Vec::new() };
     states.extend((0..4).map(|_| arrivals_or_mark_changed(prng, sound)));
     states.extend((0..4).map(|_| self_link_changed(prng, sound)));
     states.extend((0..20).map(|_| randomly_spoiled(prng, sound)));
@@ -248,7 +272,8 @@ fn randomly_spoiled(prng: &mut Prng, sound: &State) -> State {
 /// of task 1 is turned into its ninth, or the count of links is taken past such
 /// a slot.
 fn crowded(prng: &mut Prng) -> State {
-    let tasks = prng.between(10, 16) as u8;
+    let most = some_limits(prng).tasks;
+    let tasks = prng.between(10, most) as u8;
     let mut links = crowd_of_links(prng, MOST_BEHIND);
     let at = prng.below(links.len() + 1);
     let reader = prng.between(9, usize::from(tasks) - 1) as u8;
@@ -269,8 +294,8 @@ fn prng_position(state: &State, task: usize) -> usize {
 /// Any bytes at all in the first few fields, for the crudest states.
 fn any_bytes(prng: &mut Prng) -> State {
     let mut state = State::single();
-    state.tasks = prng.pick(&[0, 1, 2, 3, 16, 17, 255]);
-    state.links = prng.pick(&[0, 1, 2, 3, 32, 33, 255]);
+    state.tasks = prng.pick(&[0, 1, 2, 3, 16, 17, 32, 33, 255]);
+    state.links = prng.pick(&[0, 1, 2, 3, 32, 33, 96, 97, 255]);
     for field in all_fields() {
         if prng.chance(60) && field != Field::Tasks && field != Field::Links {
             let value = if prng.chance(80) { prng.below(4) as u32 } else { prng.word() };

@@ -4,6 +4,7 @@ use crate::engine::{IDLE, RUNNING, WAITING};
 use crate::format::{Event, Recording, Table};
 use crate::prng::Prng;
 use crate::random_table::{random_table, value, Size};
+use crate::sizes::{all_of, KINDS};
 
 /// How a random schedule behaves, in percent.
 struct Habit {
@@ -34,14 +35,16 @@ fn habit(prng: &mut Prng) -> Habit {
     }
 }
 
-/// The phases a schedule needs to stay possible.
+/// The phases a schedule needs to stay possible, and the first task that takes
+/// part in it.
 pub struct Schedule {
     pub phase: Vec<u8>,
+    first: usize,
 }
 
 impl Schedule {
-    pub fn new(table: &Table) -> Schedule {
-        Schedule { phase: vec![IDLE; table.defaults.len()] }
+    fn new(table: &Table, first: usize) -> Schedule {
+        Schedule { phase: vec![IDLE; table.defaults.len()], first }
     }
 
     /// The most urgent active task, the only one that may run.
@@ -51,7 +54,7 @@ impl Schedule {
 
     fn next(&mut self, prng: &mut Prng, table: &Table, habit: &Habit) -> Event {
         let top = self.top();
-        let idle = self.phase.contains(&IDLE);
+        let idle = self.phase[self.first..].contains(&IDLE);
         let rushed = top.map_or(false, |top| self.phase[top] == WAITING) && prng.chance(habit.start_at_once);
         match top {
             Some(top) if !idle || rushed || !prng.chance(habit.arrive) => self.run(prng, table, habit, top),
@@ -64,8 +67,7 @@ impl Schedule {
             self.phase[top] = RUNNING;
             return Event::Start(top as u8);
         }
-        let readable: Vec<u8> =
-            (0..table.links.len()).filter(|l| usize::from(table.links[*l].reader) == top).map(|l| l as u8).collect();
+        let readable: Vec<u8> = links_into(table, top).collect();
         if !readable.is_empty() && prng.chance(habit.read) {
             return Event::Read(prng.pick(&readable));
         }
@@ -74,9 +76,9 @@ impl Schedule {
     }
 
     fn arrive(&mut self, prng: &mut Prng, habit: &Habit, top: Option<usize>) -> Event {
-        let idle = |limit: usize| (0..limit).filter(|task| self.phase[*task] == IDLE).collect::<Vec<usize>>();
+        let idle = |limit: usize| (self.first..limit).filter(|task| self.phase[*task] == IDLE).collect::<Vec<usize>>();
         let mut candidates = idle(self.phase.len());
-        if let Some(top) = top.filter(|top| *top > 0) {
+        if let Some(top) = top.filter(|top| *top > self.first) {
             if prng.chance(habit.interrupt) {
                 candidates = idle(top);
             }
@@ -94,6 +96,11 @@ impl Schedule {
     }
 }
 
+/// The links by which a task reads.
+fn links_into(table: &Table, task: usize) -> impl Iterator<Item = u8> + '_ {
+    (0..table.links.len()).filter(move |l| usize::from(table.links[*l].reader) == task).map(|l| l as u8)
+}
+
 /// Deep interruption begins with the least urgent and climbs slowly.
 fn nearest(prng: &mut Prng, habit: &Habit, candidates: &[usize]) -> usize {
     let climbing = habit.interrupt > 90 && prng.chance(80);
@@ -103,11 +110,60 @@ fn nearest(prng: &mut Prng, habit: &Habit, candidates: &[usize]) -> usize {
     }
 }
 
+/// The deepest interruption: from the least urgent on, each task is
+/// interrupted by the next as soon as it runs.
+pub fn deepest_interruption(table: &Table) -> (Vec<Event>, Schedule) {
+    let tasks = 0..table.defaults.len() as u8;
+    let events = tasks.rev().flat_map(|task| [Event::Arrival(1 << task), Event::Start(task)]).collect();
+    let mut schedule = Schedule::new(table, 0);
+    schedule.phase.fill(RUNNING);
+    (events, schedule)
+}
+
+/// How a history begins: one in twenty with the deepest interruption, where it is
+/// long enough for that; one in four is about some of the last tasks alone, which
+/// else seldom run in a large table.
+fn beginning(prng: &mut Prng, table: &Table, count: usize) -> (Vec<Event>, Schedule) {
+    let tasks = table.defaults.len();
+    match prng.below(20) {
+        0 if count >= 2 * tasks => deepest_interruption(table),
+        1..=5 => (Vec::new(), Schedule::new(table, tasks.saturating_sub(prng.pick(&[1, 2, 2, 4, 8])))),
+        _ => (Vec::new(), Schedule::new(table, 0)),
+    }
+}
+
 pub fn random_events(prng: &mut Prng, table: &Table, count: usize) -> (Vec<Event>, Schedule) {
-    let mut schedule = Schedule::new(table);
+    let begun = beginning(prng, table, count);
+    continued(prng, table, begun, count)
+}
+
+/// First a round in which all tasks arrive at once, and each reads by each of its
+/// links: in a large table few histories come so far.
+pub fn events_after_round(prng: &mut Prng, table: &Table, count: usize) -> (Vec<Event>, Schedule) {
+    let tasks = table.defaults.len();
+    let mut round = vec![Event::Arrival(all_of(tasks))];
+    for task in 0..tasks {
+        round.push(Event::Start(task as u8));
+        round.extend(links_into(table, task).map(Event::Read));
+        round.push(Event::Finish(task as u8, value(prng)));
+    }
+    continued(prng, table, (round, Schedule::new(table, 0)), count)
+}
+
+/// Events of the last two tasks alone.
+pub fn events_of_last_two(prng: &mut Prng, table: &Table, count: usize) -> (Vec<Event>, Schedule) {
+    let begun = (Vec::new(), Schedule::new(table, table.defaults.len().saturating_sub(2)));
+    continued(prng, table, begun, count)
+}
+
+fn continued(
+    prng: &mut Prng,
+    table: &Table,
+    (mut events, mut schedule): (Vec<Event>, Schedule),
+    count: usize,
+) -> (Vec<Event>, Schedule) {
     let mut habit_now = habit(prng);
-    let mut events = Vec::with_capacity(count);
-    for number in 0..count {
+    for number in events.len()..count {
         if number % 200 == 199 {
             habit_now = habit(prng);
         }
@@ -116,11 +172,13 @@ pub fn random_events(prng: &mut Prng, table: &Table, count: usize) -> (Vec<Event
     (events, schedule)
 }
 
+/// Of either kind.
 pub fn random_recording(prng: &mut Prng, size: Size, most: usize) -> (Recording, Schedule) {
-    let table = random_table(prng, size);
+    let kind = prng.pick(&KINDS);
+    let table = random_table(prng, kind.limits, size);
     let count = prng.between(0, most);
     let (events, schedule) = random_events(prng, &table, count);
-    (Recording { table, events }, schedule)
+    (Recording { kind, table, events }, schedule)
 }
 
 pub fn reads(recording: &Recording) -> usize {

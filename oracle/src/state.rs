@@ -1,16 +1,27 @@
 //! The state as it is lent, saved and handed back, and when it is sound.
 
 use crate::engine::{IDLE, RUNNING};
-use crate::format::{link_faults, link_refusal, Link, Table, DELAYED, MOST_LINKS, MOST_TASKS};
+use crate::format::{link_faults, link_refusal, Link, Table, DELAYED};
+use crate::sizes::ROOM;
 
 /// Positions of one task: at most eight readers behind, and two.
 pub const MOST_POSITIONS: usize = 10;
-pub const MOST_CELLS: usize = MOST_TASKS * MOST_POSITIONS;
+pub const MOST_CELLS: usize = ROOM.tasks * MOST_POSITIONS;
 /// The pointer's value when it is absent; positions are numbered from 1.
 pub const ABSENT: u8 = 0;
 /// What `seen` says of a task that has had two arrivals or more; below it
 /// stands how many there were.
 pub const SEEN_TWO: u8 = 2;
+
+/// What a state takes: tasks, links, bytes by task and by link, and numbers.
+pub const SIZES: [usize; 4] = [
+    ROOM.tasks,
+    ROOM.links,
+    // Phase, newest, previous and arrivals; pointer, mark, writer, reader and kind.
+    4 * ROOM.tasks + 5 * ROOM.links,
+    // Defaults, start values and positions.
+    ROOM.tasks + ROOM.links + MOST_CELLS,
+];
 
 /// Position p of task t is at `cells[t * 10 + p - 1]`. Every field may hold
 /// any byte when a state is lent; soundness says which of them are states.
@@ -18,20 +29,20 @@ pub const SEEN_TWO: u8 = 2;
 pub struct State {
     pub tasks: u8,
     pub links: u8,
-    pub defaults: [u32; MOST_TASKS],
-    pub phase: [u8; MOST_TASKS],
-    pub newest: [u8; MOST_TASKS],
-    pub previous: [u8; MOST_TASKS],
+    pub defaults: [u32; ROOM.tasks],
+    pub phase: [u8; ROOM.tasks],
+    pub newest: [u8; ROOM.tasks],
+    pub previous: [u8; ROOM.tasks],
     /// Whether the task has had no, one or more arrivals.
-    pub seen: [u8; MOST_TASKS],
+    pub seen: [u8; ROOM.tasks],
     pub cells: [u32; MOST_CELLS],
-    pub writer: [u8; MOST_LINKS],
-    pub reader: [u8; MOST_LINKS],
-    pub kind: [u8; MOST_LINKS],
-    pub start_value: [u32; MOST_LINKS],
-    pub pointer: [u8; MOST_LINKS],
+    pub writer: [u8; ROOM.links],
+    pub reader: [u8; ROOM.links],
+    pub kind: [u8; ROOM.links],
+    pub start_value: [u32; ROOM.links],
+    pub pointer: [u8; ROOM.links],
     /// Whether the reader's last arrival settled on the link's start value.
-    pub mark: [u8; MOST_LINKS],
+    pub mark: [u8; ROOM.links],
 }
 
 impl State {
@@ -40,20 +51,20 @@ impl State {
         let mut state = State {
             tasks: table.defaults.len() as u8,
             links: table.links.len() as u8,
-            defaults: [0; MOST_TASKS],
-            phase: [IDLE; MOST_TASKS],
-            newest: [1; MOST_TASKS],
-            previous: [1; MOST_TASKS],
-            seen: [0; MOST_TASKS],
+            defaults: [0; ROOM.tasks],
+            phase: [IDLE; ROOM.tasks],
+            newest: [1; ROOM.tasks],
+            previous: [1; ROOM.tasks],
+            seen: [0; ROOM.tasks],
             cells: [0; MOST_CELLS],
-            writer: [0; MOST_LINKS],
-            reader: [0; MOST_LINKS],
-            kind: [0; MOST_LINKS],
-            start_value: [0; MOST_LINKS],
-            pointer: [ABSENT; MOST_LINKS],
-            mark: [0; MOST_LINKS],
+            writer: [0; ROOM.links],
+            reader: [0; ROOM.links],
+            kind: [0; ROOM.links],
+            start_value: [0; ROOM.links],
+            pointer: [ABSENT; ROOM.links],
+            mark: [0; ROOM.links],
         };
-        for (task, &default) in table.defaults.iter().enumerate().take(MOST_TASKS) {
+        for (task, &default) in table.defaults.iter().enumerate().take(ROOM.tasks) {
             state.defaults[task] = default;
             let first = task * MOST_POSITIONS;
             // Positions past N + 2 hold the default as well.
@@ -64,7 +75,7 @@ impl State {
     }
 
     fn set_links(&mut self, links: &[Link]) {
-        for (number, link) in links.iter().enumerate().take(MOST_LINKS) {
+        for (number, link) in links.iter().enumerate().take(ROOM.links) {
             self.writer[number] = link.writer;
             self.reader[number] = link.reader;
             self.kind[number] = link.kind;
@@ -81,14 +92,14 @@ impl State {
         Link::of([self.writer[number], self.reader[number], self.kind[number]], self.start_value[number])
     }
 
-    /// All links, of a count within the limit.
+    /// All links, of a count for which there is room.
     pub fn link_list(&self) -> Vec<Link> {
         (0..usize::from(self.links)).map(|number| self.link(number)).collect()
     }
 
     /// The self links of the tasks in a set. The links must name tasks of the
     /// table.
-    pub fn self_links_of(&self, set: u16) -> impl Iterator<Item = usize> + '_ {
+    pub fn self_links_of(&self, set: u32) -> impl Iterator<Item = usize> + '_ {
         let in_set = move |number: &usize| self.link(*number).to_itself() && set >> self.reader[*number] & 1 == 1;
         (0..usize::from(self.links)).filter(in_set)
     }
@@ -203,19 +214,18 @@ pub fn sound(state: &State) -> bool {
 
 fn table_clause(state: &State) -> Option<Clause> {
     let tasks = usize::from(state.tasks);
-    if tasks == 0 || tasks > MOST_TASKS {
-        return Some(Clause::Tasks);
-    }
-    if usize::from(state.links) > MOST_LINKS {
-        return Some(Clause::Links);
-    }
-    let refusal = link_faults(tasks, &state.link_list(), link_refusal).next()?;
+    let refusal = match ROOM.refusal(tasks, usize::from(state.links)) {
+        0 => link_faults(tasks, &state.link_list(), link_refusal).next()?,
+        refusal => refusal,
+    };
     CLAUSES.iter().copied().find(|clause| clause.table_refusal() == Some(refusal))
 }
 
 fn broken_beyond_table(state: &State) -> Vec<Clause> {
-    let by_tasks = (0..usize::from(state.tasks)).flat_map(|task| broken_by_task(state, task));
-    let by_links = (0..usize::from(state.links)).flat_map(|number| broken_by_link(state, number));
+    let positions: Vec<usize> = (0..usize::from(state.tasks)).map(|task| state.positions(task)).collect();
+    let by_tasks = (0..usize::from(state.tasks)).flat_map(|task| broken_by_task(state, task, positions[task]));
+    let of_writer = |number: usize| positions[usize::from(state.writer[number])];
+    let by_links = (0..usize::from(state.links)).flat_map(|number| broken_by_link(state, number, of_writer(number)));
     let mut broken = Vec::new();
     for clause in by_tasks.chain(by_links) {
         if !broken.contains(&clause) {
@@ -225,8 +235,7 @@ fn broken_beyond_table(state: &State) -> Vec<Clause> {
     broken
 }
 
-fn broken_by_task(state: &State, task: usize) -> impl Iterator<Item = Clause> {
-    let positions = state.positions(task);
+fn broken_by_task(state: &State, task: usize, positions: usize) -> impl Iterator<Item = Clause> {
     let inside = |position: u8| position >= 1 && usize::from(position) <= positions;
     those_broken([
         (Clause::Phase, state.phase[task] > RUNNING),
@@ -237,13 +246,14 @@ fn broken_by_task(state: &State, task: usize) -> impl Iterator<Item = Clause> {
     ])
 }
 
-fn broken_by_link(state: &State, number: usize) -> impl Iterator<Item = Clause> {
+/// So many positions has the link's writer.
+fn broken_by_link(state: &State, number: usize, positions: usize) -> impl Iterator<Item = Clause> {
     let link = state.link(number);
     let pointer = state.pointer[number];
     let active = state.active(usize::from(link.reader));
     let (present, delayed, marked) = (pointer != ABSENT, link.kind == DELAYED, state.mark[number] != 0);
     those_broken([
-        (Clause::Pointer, usize::from(pointer) > state.positions(usize::from(link.writer))),
+        (Clause::Pointer, usize::from(pointer) > positions),
         (Clause::ActiveReaderWithout, active && !present),
         (Clause::IdleReaderWith, !active && link.reader_behind() && present),
         (Clause::Mark, state.mark[number] > 1),

@@ -5,7 +5,7 @@
 use crate::engine::{Engine, FreshEngine};
 use crate::format::{replay, Counts, Event, Reading, Table};
 use crate::pointers::{judge, Pointers};
-use crate::state::{sound, State};
+use crate::state::{sound, State, SIZES};
 use crate::tables::LentTable;
 use crate::writing::{write, Handover, Written};
 use crate::zero_time::ZeroTime;
@@ -41,6 +41,9 @@ pub struct OneAnswer {
 pub trait Subject {
     fn name(&self) -> String;
 
+    /// What a state takes: tasks, links, bytes, numbers.
+    fn sizes(&self) -> [usize; 4];
+
     /// Reads a whole recording with a list lent as it stands.
     fn replay<'a>(&self, bytes: &'a [u8], lent: &[u32]) -> Answer<'a>;
 
@@ -62,6 +65,10 @@ impl Subject for Oracle {
         "oracle".to_string()
     }
 
+    fn sizes(&self) -> [usize; 4] {
+        SIZES
+    }
+
     fn replay<'a>(&self, bytes: &'a [u8], lent: &[u32]) -> Answer<'a> {
         answer_of(replay(bytes, lent, Pointers::fresh), |engine| engine.state)
     }
@@ -79,7 +86,7 @@ impl Subject for Oracle {
     }
 
     fn write(&self, handover: &Handover, buffer: &mut [u8]) -> Written {
-        write(&handover.defaults, &handover.links, &handover.events, buffer)
+        write(handover, buffer)
     }
 }
 

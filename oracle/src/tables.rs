@@ -1,10 +1,12 @@
 //! Tables as a host lends them, and the ones that get tried: lawful ones,
-//! every single fault, faults that compete, and counts outside the limits.
+//! every single fault, faults that compete, and counts for which a state has no
+//! room.
 
-use crate::format::{link_faults, link_refusal, Link, LinkRule, Table, MOST_LINKS, MOST_TASKS};
+use crate::format::{link_faults, link_refusal, Link, LinkRule, Table};
 use crate::nasty::competing_table;
 use crate::prng::Prng;
 use crate::random_table::{random_table, Size};
+use crate::sizes::{Limits, RecordingKind, KINDS, ROOM};
 use crate::writing::Handover;
 
 /// A table that is lent: any two counts, and arrays that may hold anything.
@@ -13,11 +15,11 @@ use crate::writing::Handover;
 pub struct LentTable {
     pub tasks: usize,
     pub links: usize,
-    pub defaults: [u32; MOST_TASKS],
-    pub writer: [u8; MOST_LINKS],
-    pub reader: [u8; MOST_LINKS],
-    pub kind: [u8; MOST_LINKS],
-    pub start_value: [u32; MOST_LINKS],
+    pub defaults: [u32; ROOM.tasks],
+    pub writer: [u8; ROOM.links],
+    pub reader: [u8; ROOM.links],
+    pub kind: [u8; ROOM.links],
+    pub start_value: [u32; ROOM.links],
 }
 
 impl LentTable {
@@ -28,15 +30,15 @@ impl LentTable {
         let mut lent = LentTable {
             tasks: table.defaults.len(),
             links: table.links.len(),
-            defaults: [0xA5A5_A5A5; MOST_TASKS],
-            writer: [0xA5; MOST_LINKS],
-            reader: [0xA5; MOST_LINKS],
-            kind: [0xA5; MOST_LINKS],
-            start_value: [0xA5A5_A5A5; MOST_LINKS],
+            defaults: [0xA5A5_A5A5; ROOM.tasks],
+            writer: [0xA5; ROOM.links],
+            reader: [0xA5; ROOM.links],
+            kind: [0xA5; ROOM.links],
+            start_value: [0xA5A5_A5A5; ROOM.links],
         };
-        let slots = lent.tasks.min(MOST_TASKS);
+        let slots = lent.tasks.min(ROOM.tasks);
         lent.defaults[..slots].copy_from_slice(&table.defaults[..slots]);
-        for (number, &link) in table.links.iter().enumerate().take(MOST_LINKS) {
+        for (number, &link) in table.links.iter().enumerate().take(ROOM.links) {
             lent.set_link(number, link);
         }
         lent
@@ -66,16 +68,15 @@ impl LentTable {
     /// The table, or the first of 2 to 9 and 20 that it breaks: the counts,
     /// then link by link.
     pub fn judged(&self) -> Result<Table, u8> {
-        self.judged_by(link_refusal)
+        self.judged_by(ROOM, link_refusal)
     }
 
-    /// The same, with the links judged by another rule.
-    pub fn judged_by(&self, rule: LinkRule) -> Result<Table, u8> {
-        if self.tasks == 0 || self.tasks > MOST_TASKS {
-            return Err(2);
-        }
-        if self.links > MOST_LINKS {
-            return Err(3);
+    /// The same by other limits, which must be within the room, and with the
+    /// links judged by another rule.
+    pub fn judged_by(&self, limits: Limits, rule: LinkRule) -> Result<Table, u8> {
+        match limits.refusal(self.tasks, self.links) {
+            0 => {}
+            refusal => return Err(refusal),
         }
         let table = self.as_it_stands();
         let fault = link_faults(self.tasks, &table.links, rule).next();
@@ -84,7 +85,7 @@ impl LentTable {
 
     /// What a station would hand over that has this table and no events, filled
     /// alike where there is no slot; none for counts that no slice has.
-    pub fn handed_over(&self) -> Option<Handover> {
+    pub fn handed_over(&self, kind: RecordingKind) -> Option<Handover> {
         if self.tasks > 1_000 || self.links > 1_000 {
             return None;
         }
@@ -93,13 +94,14 @@ impl LentTable {
         let link =
             |l: usize| [byte(&self.writer, l), byte(&self.reader, l), byte(&self.kind, l), word(&self.start_value, l)];
         Some(Handover {
+            kind: kind.number(),
             defaults: (0..self.tasks).map(|task| word(&self.defaults, task)).collect(),
             links: (0..self.links).flat_map(link).collect(),
             events: Vec::new(),
         })
     }
 
-    /// The table of counts within the limits, whatever its links say.
+    /// The table of counts for which there is room, whatever its links say.
     pub fn as_it_stands(&self) -> Table {
         let links = (0..self.links).map(|number| self.link(number)).collect();
         Table { defaults: self.defaults[..self.tasks].to_vec(), links }
@@ -109,27 +111,29 @@ impl LentTable {
 /// The next tables: one, or a whole family from one lawful table. `number`
 /// counts the batches.
 pub fn batch(number: usize, prng: &mut Prng) -> Vec<LentTable> {
-    let size = prng.pick(&[Size::Small, Size::Any, Size::Limit]);
+    let size = prng.pick(&[Size::Small, Size::Any, Size::Limit, Size::Full]);
+    let limits = prng.pick(&KINDS).limits;
+    let mut lawful = || LentTable::of(&random_table(prng, limits, size));
     match number % 400 {
-        200 => every_count(&LentTable::of(&random_table(prng, size))),
-        201 => every_link_field(&LentTable::of(&random_table(prng, size))),
-        n if n % 4 == 0 => vec![LentTable::of(&random_table(prng, size))],
-        _ => vec![LentTable::of(&competing_table(prng))],
+        200 => every_count(&lawful()),
+        201 => every_link_field(&lawful()),
+        n if n % 4 == 0 => vec![lawful()],
+        _ => vec![LentTable::of(&competing_table(prng, limits))],
     }
 }
 
-/// Every count near the limits, and counts that a byte or two can't hold. A
+/// Every count near the room, and counts that a byte or two can't hold. A
 /// smaller count of tasks leaves links that name none; a larger one of links
 /// has slots that nobody filled.
 fn every_count(lawful: &LentTable) -> Vec<LentTable> {
     let beyond = [255, 256, 257, 512, 1 << 16, 1 << 16 | 1, 1 << 31, usize::MAX - 1, usize::MAX];
-    let tasks = || (0..=MOST_TASKS + 2).chain(beyond);
-    let links = || (0..=MOST_LINKS + 2).chain(beyond);
+    let tasks = || (0..=ROOM.tasks + 2).chain(beyond);
+    let links = || (0..=ROOM.links + 2).chain(beyond);
     let mut tables: Vec<LentTable> = tasks().map(|count| lawful.with_counts(count, lawful.links)).collect();
     tables.extend(links().map(|count| lawful.with_counts(lawful.tasks, count)));
     // Both at once: the tasks come first.
     tables.extend(beyond.iter().flat_map(|&count| {
-        [lawful.with_counts(count, count), lawful.with_counts(0, count), lawful.with_counts(count, MOST_LINKS)]
+        [lawful.with_counts(count, count), lawful.with_counts(0, count), lawful.with_counts(count, ROOM.links)]
     }));
     tables
 }
@@ -138,7 +142,7 @@ fn every_count(lawful: &LentTable) -> Vec<LentTable> {
 /// and to every kind and some that are none; and its start value to none, and
 /// to one in each of its bytes.
 fn every_link_field(lawful: &LentTable) -> Vec<LentTable> {
-    let tasks = || (0..=lawful.tasks as u8).chain([16, 127, 255]);
+    let tasks = || (0..=lawful.tasks as u8).chain([16, 32, 127, 255]);
     let mut tables = Vec::new();
     for number in 0..lawful.links {
         let link = lawful.link(number);

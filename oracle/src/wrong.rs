@@ -1,7 +1,9 @@
 //! The errors that look right. Each is a subject the corpora must expose.
 
+mod ends;
 mod engine;
 mod flaws;
+mod kinds;
 mod marks;
 mod reader;
 mod self_links;
@@ -10,14 +12,15 @@ mod tables;
 mod writer;
 
 use crate::engine::Engine;
-use crate::format::{replay_by, Event, Table};
+use crate::format::{replay_by, Event, Rules, Table};
 use crate::state::State;
 use crate::subject::{answer_of, one_event_with, Answer, Made, OneAnswer, Oracle, Subject};
 use crate::tables::LentTable;
 use crate::writing::{Handover, Written};
 use engine::WrongEngine;
 pub use flaws::{in_handovers, in_recordings, in_saved_states, in_tables, Flaw};
-use reader::{distorted, with_other_first_byte};
+use kinds::kind_rule;
+use reader::{distorted, without_first_byte};
 use soundness::{too_mild, too_strict};
 use tables::{distorted_table, link_rule};
 use writer::wrong_write;
@@ -31,12 +34,20 @@ impl Subject for Wrong {
         format!("{:?}", self.flaw)
     }
 
+    fn sizes(&self) -> [usize; 4] {
+        match self.flaw {
+            Flaw::StatesBySmaller => [16, 32, 224, 208],
+            _ => Oracle.sizes(),
+        }
+    }
+
     fn replay<'a>(&self, bytes: &'a [u8], lent: &[u32]) -> Answer<'a> {
-        if let Some(answer) = with_other_first_byte(self.flaw, bytes, lent) {
+        if let Some(answer) = without_first_byte(self.flaw, bytes, lent) {
             return answer;
         }
         let make = |table: &Table| WrongEngine::new(self.flaw, wrong_fresh(self.flaw, table));
-        let answer = answer_of(replay_by(link_rule(self.flaw), bytes, lent, make), |engine| engine.state);
+        let rules = Rules { kind: kind_rule(self.flaw), link: link_rule(self.flaw) };
+        let answer = answer_of(replay_by(rules, bytes, lent, make), |engine| engine.state);
         distorted(self.flaw, bytes, answer)
     }
 
@@ -71,7 +82,7 @@ impl Subject for Wrong {
 
 /// The fresh state of a table as a wrong reader takes it from the bytes.
 fn wrong_fresh(flaw: Flaw, table: &Table) -> State {
-    let mut state = State::fresh(table);
+    let mut state = ends::fresh(flaw, State::fresh(table));
     if flaw == Flaw::StartHighByteFirst {
         state.start_value = state.start_value.map(u32::swap_bytes);
     }

@@ -90,7 +90,7 @@ impl Engine for ZeroTime {
 }
 
 impl ZeroTime {
-    fn faults_of_arrival(&self, set: u16, applying: &mut Vec<u8>) {
+    fn faults_of_arrival(&self, set: u32, applying: &mut Vec<u8>) {
         if set == 0 {
             applying.push(12);
         }
@@ -182,6 +182,6 @@ impl ZeroTime {
     }
 }
 
-fn bits(set: u16) -> impl Iterator<Item = usize> {
-    (0..16).filter(move |task| set >> task & 1 == 1)
+fn bits(set: u32) -> impl Iterator<Item = usize> {
+    (0..32).filter(move |task| set >> task & 1 == 1)
 }

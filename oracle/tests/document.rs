@@ -1,11 +1,13 @@
-//! The document's own examples, with the bytes and places of request 2026-02
-//! and the delayed link from a task to itself of request 2026-04.
+//! The document's own examples, with the bytes and places of request 2026-02,
+//! the delayed link from a task to itself of request 2026-04, and the room of a
+//! state of request 2026-06.
 
 use oracle::engine::{Engine, FreshEngine};
 use oracle::example::long_example;
-use oracle::format::{encode, printout, Counts, Event, Link, Recording, Table, MOST_BYTES};
+use oracle::format::{encode, printout, Counts, Event, Link, Recording, Table};
 use oracle::pointers::Pointers;
 use oracle::printouts::inspected;
+use oracle::sizes::RecordingKind;
 use oracle::state::{sound, State};
 use oracle::subject::{disagreement, zero_time_reading, Answer, Made, Oracle, Subject};
 use oracle::tables::LentTable;
@@ -29,7 +31,8 @@ fn link(writer: u8, reader: u8, kind: u8) -> Link {
 }
 
 fn recording(tasks: usize, links: &[Link], events: &[Event]) -> Recording {
-    Recording { table: Table { defaults: vec![0; tasks], links: links.to_vec() }, events: events.to_vec() }
+    let table = Table { defaults: vec![0; tasks], links: links.to_vec() };
+    Recording { kind: RecordingKind::SIXTEEN, table, events: events.to_vec() }
 }
 
 fn verdict_of(tasks: usize, links: &[Link], events: &[Event]) -> (u8, usize) {
@@ -210,13 +213,13 @@ fn a_lent_table_is_judged_count_by_count_and_link_by_link() {
         made.refusal
     };
     let lent = |tasks: usize, links: &[Link]| LentTable::of(&recording(tasks, links, &[]).table);
-    let lawful = lent(16, &many_links(32));
+    let lawful = lent(32, &many_links(64));
     assert_eq!(refusal(&lawful), 0);
-    for tasks in [0, 17, 256 + 16, usize::MAX] {
+    for tasks in [0, 33, 256 + 16, 256 + 32, usize::MAX] {
         assert_eq!(refusal(&LentTable { tasks, ..lawful.clone() }), 2);
-        assert_eq!(refusal(&LentTable { tasks, links: 33, ..lawful.clone() }), 2);
+        assert_eq!(refusal(&LentTable { tasks, links: 97, ..lawful.clone() }), 2);
     }
-    for links in [33, 256 + 32, usize::MAX] {
+    for links in [97, 256 + 32, 256 + 96, usize::MAX] {
         assert_eq!(refusal(&LentTable { links, ..lawful.clone() }), 3);
     }
     assert_eq!(refusal(&lent(2, &[link(2, 2, 2)])), 4);
@@ -296,7 +299,7 @@ fn a_full_list_is_18_after_12_15_and_16() {
 fn the_longest_recording_has_60_293_bytes() {
     let head = encode(&recording(16, &many_links(32), &[]));
     assert_eq!(head.len() + 6 * 10_000, 60_293);
-    assert_eq!(MOST_BYTES, 60_293);
+    assert_eq!(RecordingKind::SIXTEEN.most_bytes(), 60_293);
 }
 
 #[test]
@@ -324,7 +327,7 @@ fn a_state_that_is_not_sound_is_19_before_anything_else() {
     };
     assert_eq!(spoiled(&|_| {}), 12);
     assert_eq!(spoiled(&|state| state.tasks = 0), 19);
-    assert_eq!(spoiled(&|state| state.links = 33), 19);
+    assert_eq!(spoiled(&|state| state.links = 97), 19);
     assert_eq!(spoiled(&|state| state.phase[0] = 3), 19);
     assert_eq!(spoiled(&|state| state.newest[1] = 5), 19);
     assert_eq!(spoiled(&|state| state.newest[1] = 4), 12);

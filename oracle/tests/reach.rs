@@ -5,21 +5,31 @@ use oracle::example::own_output_example;
 use oracle::format::{encode, Link, Recording, Table};
 use oracle::pointers::Pointers;
 use oracle::reach::Reached;
+use oracle::sizes::RecordingKind;
 use oracle::subject::{Oracle, Subject};
 
 #[test]
 fn all_that_was_not_reached_is_named() {
     let missing = Reached::default().missing();
-    // 20 refusals in recordings, 7 of one event, 10 of tables, 19 of writing; then recordings written again and refused
-    // alike; then how deep and how far; and in recordings and saved states 9 items of start values and marks, and 8 of
-    // self links.
-    assert_eq!(missing.len(), 20 + 7 + 10 + 19 + 2 + 6 + 2 * (9 + 8));
+    // 20 refusals in recordings of either kind, 2 of none, 7 of one event, 10 of tables, 19 of writing either kind, 1 of
+    // none; then recordings written again and refused alike, and wide sets; then the lines: 6 and 4 of a kind, and 4
+    // first bytes; then how deep and how far; and in recordings and saved states 9 items of start values and marks, 9 of
+    // self links, and 11 of the last task and link.
+    assert_eq!(missing.len(), 2 * 20 + 2 + 7 + 10 + 2 * 19 + 1 + 3 + 6 + 4 + 4 + 6 + 2 * (9 + 9 + 11));
     for what in [
-        "refusal 18 in recordings",
-        "refusal 20 in recordings",
+        "refusal 18 in recordings of 253",
+        "refusal 20 in recordings of 254",
+        "refusal 2 in recordings of no kind",
         "refusal 19 of one event",
         "refusal 20 of tables",
-        "refusal 20 of writing",
+        "refusal 20 of writing 253",
+        "refusal 3 of writing 254",
+        "refusal 2 of writing no kind",
+        "20 recordings of 253 refused for links for which a state has room: 0",
+        "20 recordings of 254 accepted with the most tasks: 0",
+        "20 recordings that begin with 252: 0",
+        "20 reads by link 95 in recordings: 0",
+        "20 finishes of task 31 in saved states: 0",
         "100 reads of a start value in recordings: 0",
         "100 marks gone at a finish in saved states: 0",
         "100 reads by a self link of its start value in recordings: 0",
@@ -31,14 +41,15 @@ fn all_that_was_not_reached_is_named() {
 
 #[test]
 fn what_was_reached_is_not_named() {
-    let mut reached = Reached { states: 99_528, ..Reached::default() };
+    let mut reached = Reached::default();
+    reached.states = 99_528;
     let before = reached.missing();
     assert_eq!(before.last().unwrap(), "99529 states by every sequence of events: 99528");
     reached.states += 1;
-    reached.recordings.refusals[7] = 1;
+    reached.read.note(Some(254), 7);
     let after = reached.missing();
     let gone: Vec<&String> = before.iter().filter(|what| !after.contains(what)).collect();
-    assert_eq!(gone, ["refusal 7 in recordings", "99529 states by every sequence of events: 99528"]);
+    assert_eq!(gone, ["refusal 7 in recordings of 254", "99529 states by every sequence of events: 99528"]);
 }
 
 /// The example has three runs of tasks that read their own output, the first two
@@ -46,7 +57,7 @@ fn what_was_reached_is_not_named() {
 #[test]
 fn what_self_links_did_is_counted() {
     let mut reached = Reached::default();
-    let Recording { table, events } = own_output_example();
+    let Recording { table, events, .. } = own_output_example();
     let mut engine = Pointers::fresh(&table);
     for event in events {
         let before = engine.state;
@@ -55,14 +66,16 @@ fn what_self_links_did_is_counted() {
     }
     let own = |task: u8, kind: u8| Link::of([task, task, kind], 0);
     for links in [vec![own(0, 1), own(1, 0)], vec![own(0, 0), own(1, 1)]] {
-        let bytes = encode(&Recording { table: Table { defaults: vec![0; 2], links }, events: Vec::new() });
+        let table = Table { defaults: vec![0; 2], links };
+        let bytes = encode(&Recording { kind: RecordingKind::SIXTEEN, table, events: Vec::new() });
         let answer = Oracle.replay(&bytes, &[]);
         assert_eq!(answer.refusal, 5);
-        reached.recordings.note(&bytes, &answer);
+        reached.note_recording(&bytes, &answer);
     }
     let all = (0..16).map(|task| own(task, 1)).collect::<Vec<Link>>();
-    reached.recordings.note_table(&all);
-    reached.recordings.note_table(&all[1..]);
+    reached.recordings.note_table(16, &all);
+    reached.recordings.note_table(16, &all[1..]);
+    reached.recordings.note_table(15, &all[1..]);
     let missing = reached.missing();
     for what in [
         "100 reads by a self link of its start value in recordings: 2",
@@ -72,6 +85,7 @@ fn what_self_links_did_is_counted() {
         "100 pointers of self links kept at a finish in recordings: 3",
         "100 marks of self links kept at a finish in recordings: 2",
         "100 tables of 16 tasks that all have a self link in recordings: 1",
+        "100 tables of 32 tasks that all have a self link in recordings: 0",
         "100 direct self links refused after a delayed one in recordings: 1",
     ] {
         assert!(missing.iter().any(|named| named == what), "{} in {:?}", what, missing);

@@ -3,13 +3,14 @@
 
 mod common;
 
-use common::{delayed, direct, numbers, only_clause_broken, state_after, table, verdict, verdict_on_links};
+use common::{delayed, direct, numbers, only_clause_broken, state_after, table, verdict, verdict_in, verdict_on_links};
 use oracle::example::own_output_example;
 use oracle::format::{encode, Event, Link, Recording, Table};
 use oracle::handovers::split;
+use oracle::sizes::RecordingKind;
 use oracle::state::{Clause, State};
 use oracle::subject::{Oracle, Subject};
-use oracle::writing::{write, Written};
+use oracle::writing::{write, Handover, Written};
 use Event::{Arrival as A, Finish as F, Read as R, Start as S};
 
 /// A filter alone in its table.
@@ -88,7 +89,7 @@ fn sixteen_tasks_may_all_have_one() {
     let others = (0..16).map(|number| direct(number / 8, 8 + number % 8));
     let links: Vec<Link> = own.chain(others).collect();
     assert_eq!(verdict_on_links(16, &links), (0, 67 + 7 * 32 + 2));
-    assert_eq!(verdict_on_links(16, &[&links[..], &links[..1]].concat()), (3, 66));
+    assert_eq!(verdict_in(RecordingKind::SIXTEEN, 16, &[&links[..], &links[..1]].concat()), (3, 66));
     let sixteen = table(16, &links);
     let mut events = Vec::new();
     for round in 1..=3 {
@@ -153,7 +154,7 @@ fn the_task_writes_to_others_as_ever() {
 
 #[test]
 fn the_example_of_two_filters() {
-    let Recording { table, events } = own_output_example();
+    let Recording { table, events, .. } = own_output_example();
     assert_eq!(numbers(&table, &events), [40, 41, 7, 41]);
 }
 
@@ -309,9 +310,15 @@ fn a_read_goes_by_the_pointer_and_the_mark() {
 
 #[test]
 fn the_writer_writes_it_as_the_reader_reads_it() {
-    let events = [1, 1, 2, 0, 3, 0, 4, 0, 41];
+    let handover = |defaults: &[u32], links: &[u32], events: &[u32]| Handover {
+        kind: 253,
+        defaults: defaults.to_vec(),
+        links: links.to_vec(),
+        events: events.to_vec(),
+    };
+    let filter = handover(&[9], &[0, 0, 1, 40], &[1, 1, 2, 0, 3, 0, 4, 0, 41]);
     let mut buffer = [0xA5; 29];
-    assert_eq!(write(&[9], &[0, 0, 1, 40], &events, &mut buffer), Written { refusal: 0, place: 29 });
+    assert_eq!(write(&filter, &mut buffer), Written { refusal: 0, place: 29 });
     #[rustfmt::skip]
     let expected = [
         253, 1, 9, 0, 0, 0, 1, 0, 0, 1, 40, 0, 0, 0,
@@ -322,7 +329,7 @@ fn the_writer_writes_it_as_the_reader_reads_it() {
     assert_eq!((read.refusal, read.place, read.list), (0, 29, vec![40]));
     let refused = |links: &[u32]| {
         let mut buffer = [0xA5; 100];
-        let written = write(&[9, 8], links, &[], &mut buffer);
+        let written = write(&handover(&[9, 8], links, &[]), &mut buffer);
         assert_eq!(buffer, [0xA5; 100]);
         (written.refusal, written.place)
     };
@@ -339,8 +346,11 @@ fn the_writer_writes_it_as_the_reader_reads_it() {
 
 #[test]
 fn accepted_ones_written_again_give_the_same_bytes() {
-    let two =
-        Recording { table: table(2, &[delayed(1, 1, u32::MAX), delayed(0, 0, 0)]), events: run(1, 0, 7).to_vec() };
+    let two = Recording {
+        kind: RecordingKind::SIXTEEN,
+        table: table(2, &[delayed(1, 1, u32::MAX), delayed(0, 0, 0)]),
+        events: run(1, 0, 7).to_vec(),
+    };
     for recording in [own_output_example(), two] {
         let bytes = encode(&recording);
         assert_eq!(Oracle.replay(&bytes, &[0; 9]).refusal, 0);
@@ -353,7 +363,8 @@ fn accepted_ones_written_again_give_the_same_bytes() {
 /// The bytes of the smallest table with one, and each cut of them.
 #[test]
 fn its_record_has_seven_bytes_like_any_other() {
-    let bytes = encode(&Recording { table: filter(0x0403_0201), events: Vec::new() });
+    let kind = RecordingKind::SIXTEEN;
+    let bytes = encode(&Recording { kind, table: filter(0x0403_0201), events: Vec::new() });
     assert_eq!(bytes, [253, 1, 0xE8, 3, 0, 0, 1, 0, 0, 1, 1, 2, 3, 4, 0, 0]);
     assert_eq!(verdict(&bytes), (0, 16));
     for cut in 7..14 {

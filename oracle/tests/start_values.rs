@@ -5,6 +5,7 @@ mod common;
 
 use common::{delayed, direct, numbers, only_clause_broken, state_after, table, verdict, verdict_on_links};
 use oracle::format::{encode, Event, Link, Recording};
+use oracle::sizes::RecordingKind;
 use oracle::state::{Clause, State};
 use oracle::subject::{Oracle, Subject};
 use Event::{Arrival as A, Finish as F, Read as R, Start as S};
@@ -14,12 +15,12 @@ const SMALLEST: [u8; 9] = [253, 1, 0, 0, 0, 0, 0, 0, 0];
 // ------------------------------------------------------------------- bytes
 
 #[test]
-fn the_first_byte_is_253() {
+fn the_first_byte_names_a_kind() {
     assert_eq!(verdict(&SMALLEST), (0, 9));
     assert_eq!(verdict(&[&SMALLEST[..], &[0]].concat()), (17, 9));
     assert_eq!(verdict(&[]), (1, 0));
     assert_eq!(verdict(&[253]), (1, 1));
-    for first in (0..=255).filter(|first| *first != 253) {
+    for first in (0..=255).filter(|first| ![253, 254].contains(first)) {
         assert_eq!(verdict(&[first]), (2, 0));
         assert_eq!(verdict(&[&[first], &SMALLEST[1..]].concat()), (2, 0));
         // Before a fault in T.
@@ -32,7 +33,8 @@ fn the_first_byte_is_253() {
 
 #[test]
 fn a_link_has_seven_bytes() {
-    let bytes = encode(&Recording { table: table(2, &[delayed(0, 1, 0x0403_0201)]), events: Vec::new() });
+    let table = table(2, &[delayed(0, 1, 0x0403_0201)]);
+    let bytes = encode(&Recording { kind: RecordingKind::SIXTEEN, table, events: Vec::new() });
     assert_eq!(bytes[10..], [1, 0, 1, 1, 1, 2, 3, 4, 0, 0]);
     for cut in 11..18 {
         assert_eq!(verdict(&bytes[..cut]), (1, 11));
@@ -116,7 +118,7 @@ fn each_link_has_its_own_start_value() {
 #[test]
 fn a_fresh_state_has_no_arrivals_and_no_marks() {
     let fresh = State::fresh(&table(2, &[delayed(0, 1, 90)]));
-    assert_eq!((fresh.seen, fresh.mark), ([0; 16], [0; 32]));
+    assert_eq!((fresh.seen, fresh.mark), ([0; 32], [0; 96]));
     assert_eq!(fresh.start_value[..2], [90, 0]);
     // Positions hold the default.
     assert_eq!(fresh.cells[..10], [1000; 10]);

@@ -1,5 +1,5 @@
-//! A recording written from numbers, by requests 2026-01, 2026-02 and 2026-04:
-//! handovers and answers worked out by hand.
+//! A recording of the smaller kind written from numbers, by requests 2026-01,
+//! 2026-02 and 2026-04: handovers and answers worked out by hand.
 
 use oracle::example::long_example;
 use oracle::format::{encode, Fault};
@@ -13,7 +13,7 @@ use oracle::writing::{write, Handover, Written};
 fn answer(defaults: &[u32], links: &[u32], events: &[u32], room: usize) -> (u8, usize) {
     let [zeros, ones] = [0x00, 0xFF].map(|filled| {
         let mut buffer = vec![filled; room];
-        let written = write(defaults, links, events, &mut buffer);
+        let written = write(&handover(defaults, links, events), &mut buffer);
         let touched = if written.refusal == 0 { written.place } else { 0 };
         assert!(buffer[touched..].iter().all(|byte| *byte == filled), "{:?} touched {:?}", written, buffer);
         (written, buffer[..touched].to_vec())
@@ -29,7 +29,7 @@ fn answer(defaults: &[u32], links: &[u32], events: &[u32], room: usize) -> (u8, 
 }
 
 fn handover(defaults: &[u32], links: &[u32], events: &[u32]) -> Handover {
-    Handover { defaults: defaults.to_vec(), links: links.to_vec(), events: events.to_vec() }
+    Handover { kind: 253, defaults: defaults.to_vec(), links: links.to_vec(), events: events.to_vec() }
 }
 
 /// With room for the longest recording.
@@ -40,7 +40,7 @@ fn verdict(defaults: &[u32], links: &[u32], events: &[u32]) -> (u8, usize) {
 /// What is written, which must fill the buffer.
 fn bytes_of<const LENGTH: usize>(defaults: &[u32], links: &[u32], events: &[u32]) -> [u8; LENGTH] {
     let mut buffer = [0xA5; LENGTH];
-    assert_eq!(write(defaults, links, events, &mut buffer), Written { refusal: 0, place: LENGTH });
+    assert_eq!(write(&handover(defaults, links, events), &mut buffer), Written { refusal: 0, place: LENGTH });
     buffer
 }
 
@@ -98,7 +98,7 @@ fn every_number_stands_with_its_lowest_byte_first() {
     assert_eq!(sixteen[66..], [0, 1, 0, 1, 0x02, 0x80]);
     let mut many = [0; 613];
     let reads: Vec<u32> = [1, 3, 2, 0, 4, 0, 1, 2, 1].into_iter().chain([3, 0].repeat(0x102 - 4)).collect();
-    let written = write(&TWO, &LINK, &reads, &mut many);
+    let written = write(&handover(&TWO, &LINK, &reads), &mut many);
     assert_eq!((written.refusal, many[AT_E], many[AT_E + 1]), (0, 0x02, 0x01));
 }
 
@@ -327,8 +327,8 @@ fn a_recording_is_taken_apart_as_far_as_it_goes() {
     let whole = handover(&TWO, &LINK, &[1, 1, 2, 0, 4, 0, 77]);
     assert_eq!(split(&bytes), whole);
     assert_eq!(split(&[&bytes[..], &[1, 1, 0]].concat()), whole);
-    // Whatever the first byte is.
-    assert_eq!(split(&[&[252], &bytes[1..]].concat()), whole);
+    // Of no kind, as of this one.
+    assert_eq!(split(&[&[252], &bytes[1..]].concat()), Handover { kind: 252, ..whole });
     // Inside the value, the task, the set, E, a start value, a link, and a default.
     assert_eq!(split(&bytes[..30]), handover(&TWO, &LINK, &[1, 1, 2, 0, 4, 0]));
     assert_eq!(split(&bytes[..26]), handover(&TWO, &LINK, &[1, 1, 2, 0, 4]));
@@ -337,8 +337,8 @@ fn a_recording_is_taken_apart_as_far_as_it_goes() {
     assert_eq!(split(&bytes[..17]), handover(&TWO, &LINK[..3], &[]));
     assert_eq!(split(&bytes[..13]), handover(&TWO, &LINK[..2], &[]));
     assert_eq!(split(&bytes[..9]), handover(&TWO[..1], &[], &[]));
-    assert_eq!(split(&bytes[..1]), Handover::default());
-    assert_eq!(split(&[]), Handover::default());
+    assert_eq!(split(&bytes[..1]), handover(&[], &[], &[]));
+    assert_eq!(split(&[]), Handover { kind: 0, ..handover(&[], &[], &[]) });
 }
 
 #[test]
@@ -347,10 +347,10 @@ fn which_refusals_the_numbers_of_a_recording_earn_too() {
     let alike = |bytes: &[u8]| {
         let read = Oracle.replay(bytes, &[0; 10]);
         let numbers = split(bytes);
-        let written = verdict(&numbers.defaults, &numbers.links, &numbers.events);
+        let Written { refusal, place } = write(&numbers, &mut [0; 100]);
         let fault = Fault { refusal: read.refusal, place: read.place };
-        assert_eq!(arises_in_writing(&numbers, fault), written == (read.refusal, read.place), "{:?}", bytes);
-        written == (read.refusal, read.place)
+        assert_eq!(arises_in_writing(&numbers, fault), (refusal, place) == (read.refusal, read.place), "{:?}", bytes);
+        (refusal, place) == (read.refusal, read.place)
     };
     // Cut inside the events' numbers or a link; not between records, nor inside a default or E.
     let same = [12, 13, 14, 15, 16, 17, 21, 22, 24, 26, 27, 28, 29, 30, 31];
@@ -362,7 +362,7 @@ fn which_refusals_the_numbers_of_a_recording_earn_too() {
         changed[place] = byte;
         alike(&changed)
     };
-    assert!(!changed(0, 252));
+    assert!(changed(0, 252));
     assert!(changed(1, 0));
     assert!(!changed(1, 17));
     assert!(!changed(10, 33));

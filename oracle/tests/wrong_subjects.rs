@@ -79,6 +79,13 @@ fn the_saved_states_expose_each_of_them() {
     assert_eq!(hidden(in_saved_states(), &saved_states(), answers_apart), []);
 }
 
+#[test]
+fn other_sizes_of_a_state_show() {
+    assert_eq!(Oracle.sizes(), [32, 96, 608, 448]);
+    assert_ne!(Wrong { flaw: Flaw::StatesBySmaller }.sizes(), Oracle.sizes());
+    assert_eq!(Wrong { flaw: Flaw::BytePastEnd }.sizes(), Oracle.sizes());
+}
+
 /// A flaw that is a writer's alone leaves all else right.
 #[test]
 fn without_a_flaw_nothing_is_exposed() {

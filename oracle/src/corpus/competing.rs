@@ -7,15 +7,16 @@ use crate::nasty::{competing_table, nasty_event};
 use crate::prng::Prng;
 use crate::random_table::Size;
 use crate::schedule::{random_recording, reads};
+use crate::sizes::KINDS;
 
 /// A possible history, then one event that breaks several rules at once, then
 /// perhaps more bytes, a wrong E, a cut, or no room in the list.
 pub fn competing_events(prng: &mut Prng) -> Case {
-    let size = prng.pick(&[Size::Small, Size::Any]);
+    let size = prng.pick(&[Size::Small, Size::Small, Size::Any, Size::Any, Size::Full]);
     let (recording, schedule) = random_recording(prng, size, 30);
     let mut bytes = encode(&recording);
     let mut last = Vec::new();
-    encode_event(nasty_event(prng, &recording.table, &schedule), &mut last);
+    encode_event(recording.kind, nasty_event(prng, &recording.table, &schedule), &mut last);
     if prng.chance(10) {
         last[0] = prng.pick(&[0, 5, 6, 255]);
     }
@@ -34,7 +35,8 @@ pub fn competing_events(prng: &mut Prng) -> Case {
 }
 
 pub fn competing_links(prng: &mut Prng) -> Case {
-    let mut bytes = encode_table(&competing_table(prng));
+    let kind = prng.pick(&KINDS);
+    let mut bytes = encode_table(kind, &competing_table(prng, kind.limits));
     if prng.chance(80) {
         bytes.extend_from_slice(&[0, 0]);
     } else {

@@ -5,21 +5,21 @@ use std::rc::Rc;
 
 use super::{Case, Origin};
 use crate::example::example;
-use crate::format::{
-    encode, place_of_event_count, place_of_link_count, Recording, FIRST_BYTE, MOST_BYTES, MOST_EVENTS,
-};
+use crate::format::{encode, place_of_event_count, place_of_link_count, Recording};
 use crate::prng::Prng;
 use crate::random_table::{random_table, Size};
 use crate::schedule::{random_events, random_recording, reads};
+use crate::sizes::{RecordingKind, KINDS, MOST_EVENTS};
 
 pub fn small_or_example(prng: &mut Prng, number: usize) -> Rc<Recording> {
     if let Some(example) = example(number) {
         return Rc::new(example);
     }
-    let table = random_table(prng, Size::Small);
+    let kind = prng.pick(&KINDS);
+    let table = random_table(prng, kind.limits, Size::Small);
     let count = prng.between(6, 14);
     let (events, _) = random_events(prng, &table, count);
-    Rc::new(Recording { table, events })
+    Rc::new(Recording { kind, table, events })
 }
 
 pub fn every_cut(recording: Rc<Recording>) -> Vec<Case> {
@@ -80,7 +80,8 @@ pub fn extra_bytes(prng: &mut Prng, number: usize) -> Case {
     let (recording, _) = random_recording(prng, Size::Any, 40);
     let mut bytes = encode(&recording);
     // The first few go to the longest recording, one byte past it, and beyond.
-    let total = [MOST_BYTES, MOST_BYTES + 1, 2 * MOST_BYTES].get(number).copied();
+    let totals = KINDS.map(RecordingKind::most_bytes).map(|most| [most, most + 1, 2 * most]).concat();
+    let total = totals.get(number);
     let extra = total.map_or(prng.between(1, 8), |total| total - bytes.len());
     for _ in 0..extra {
         bytes.push(prng.pick(&[0, 1, 2, 3, 4, 5, 17, 255]));
@@ -98,9 +99,9 @@ pub fn counts_changed(prng: &mut Prng) -> Case {
         0 if prng.chance(30) => {
             bytes.remove(0);
         }
-        0 => bytes[0] = near(prng, bytes[0], &[0, 1, 16, 125, 253, 255]),
-        1 => bytes[1] = near(prng, bytes[1], &[0, 1, 15, 16, 17, 255]),
-        2 => bytes[links_at] = near(prng, bytes[links_at], &[0, 1, 31, 32, 33, 255]),
+        0 => bytes[0] = near(prng, bytes[0], &[0, 1, 16, 125, 252, 253, 254, 255]),
+        1 => bytes[1] = near(prng, bytes[1], &[0, 1, 15, 16, 17, 31, 32, 33, 255]),
+        2 => bytes[links_at] = near(prng, bytes[links_at], &[0, 1, 31, 32, 33, 95, 96, 97, 255]),
         _ => {
             let count = changed_event_count(prng, recording.events.len() as u16);
             bytes[events_at..events_at + 2].copy_from_slice(&count.to_le_bytes());
@@ -146,7 +147,7 @@ pub fn soup(prng: &mut Prng) -> Case {
     let small = prng.chance(70);
     let mut bytes: Vec<u8> = (0..length).map(|_| if small { prng.below(5) as u8 } else { prng.byte() }).collect();
     if prng.chance(90) {
-        bytes.insert(0, FIRST_BYTE);
+        bytes.insert(0, prng.pick(&KINDS).first_byte);
     }
     Case::other(bytes, prng.below(4))
 }

@@ -1,8 +1,37 @@
 //! The small tables over which every sequence of events is tried.
 
 use crate::format::{Link, Table, DELAYED, DIRECT};
+use crate::sizes::ROOM;
 
-/// Every table of one task and of two. Of three tasks: without self links every
+/// A table, and the first task and link that events are about.
+#[derive(Debug)]
+pub struct Explored {
+    pub table: Table,
+    pub first_task: usize,
+    pub first_link: usize,
+}
+
+impl Explored {
+    fn whole(table: Table) -> Explored {
+        Explored { table, first_task: 0, first_link: 0 }
+    }
+
+    /// A small table at the end of the room of a state. The tasks before it never
+    /// arrive, and the links before its own are theirs.
+    fn at_the_end(small: &Table) -> Explored {
+        let first_task = ROOM.tasks - small.defaults.len();
+        let first_link = ROOM.links - small.links.len();
+        let pairs = (0..first_task as u8).flat_map(|writer| (0..=writer).map(move |reader| (writer, reader)));
+        let before = pairs.map(|(writer, reader)| delayed(writer, reader)).take(first_link);
+        let moved = |task: u8| first_task as u8 + task;
+        let own =
+            small.links.iter().map(|link| Link { writer: moved(link.writer), reader: moved(link.reader), ..*link });
+        let table = Table { defaults: defaults(ROOM.tasks as u8), links: before.chain(own).collect() };
+        Explored { table, first_task, first_link }
+    }
+}
+
+/// Every table of one task and of two, and each of them at the end of the room. Of three tasks: without self links every
 /// one with four links; with self links every one with up to one link between
 /// different tasks, and with two such links every one in which each task has a
 /// self link. With `long` every one of three tasks in which none or each has a
@@ -11,13 +40,15 @@ use crate::format::{Link, Table, DELAYED, DIRECT};
 /// From its task's first arrival on a self link points to `previous`, and it is
 /// marked until the second. So it adds reads but no states: where each task has
 /// one, all is tried that is where fewer have.
-pub fn explored_tables(long: bool) -> Vec<Table> {
+pub fn explored_tables(long: bool) -> Vec<Explored> {
     let wanted = if long { in_long_run } else { in_default_run };
     let of_three = small_tables(3).into_iter().filter(|table| {
         let self_links = self_links(table);
         wanted(self_links, table.links.len() - self_links)
     });
-    small_tables(1).into_iter().chain(small_tables(2)).chain(of_three).collect()
+    let smaller = [small_tables(1), small_tables(2)].concat();
+    let at_the_end: Vec<Explored> = smaller.iter().map(Explored::at_the_end).collect();
+    smaller.into_iter().chain(of_three).map(Explored::whole).chain(at_the_end).collect()
 }
 
 /// How many links of a table are self links.

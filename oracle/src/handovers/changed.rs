@@ -7,16 +7,18 @@ use crate::format::Recording;
 use crate::prng::Prng;
 use crate::random_table::{random_table, Size};
 use crate::schedule::random_events;
+use crate::sizes::KINDS;
 use crate::writing::Handover;
 
 pub fn small_or_example(prng: &mut Prng, number: usize) -> Handover {
     if let Some(example) = example(number) {
         return Handover::of(&example);
     }
-    let table = random_table(prng, Size::Small);
+    let kind = prng.pick(&KINDS);
+    let table = random_table(prng, kind.limits, Size::Small);
     let count = prng.between(4, 12);
     let (events, _) = random_events(prng, &table, count);
-    Handover::of(&Recording { table, events })
+    Handover::of(&Recording { kind, table, events })
 }
 
 /// Each slice cut at every length, the others whole; then the links and the
@@ -40,7 +42,7 @@ pub fn every_cut(whole: &Handover) -> Vec<Lent> {
 /// Each number in turn replaced by those near it and near every limit, and by
 /// those that would be it again if they were cut to a field.
 pub fn every_number(whole: &Handover) -> Vec<Lent> {
-    let fixed = [0, 1, 2, 3, 4, 5, 15, 16, 17, 31, 32, 33, 254, 255, 256, 257, 65_535, 65_536, u32::MAX];
+    let fixed = [0, 1, 2, 3, 4, 5, 16, 17, 31, 32, 33, 95, 96, 97, 255, 256, 257, 65_535, 65_536, u32::MAX];
     let mut changed = Vec::new();
     for slice in 0..3 {
         for place in 0..part(&mut whole.clone(), slice).len() {

@@ -1,18 +1,21 @@
 //! Handovers in which several rules are broken at once, so that the order of
 //! the refusals shows.
 
-use super::{numbers, some_room, Lent};
+use super::numbers;
 use crate::format::Recording;
 use crate::nasty::{competing_table, nasty_event};
 use crate::prng::Prng;
 use crate::random_table::Size;
 use crate::schedule::random_recording;
+use crate::sizes::KINDS;
 use crate::writing::Handover;
 
 /// Links that break several rules, then perhaps a cut inside the last link, a
-/// number too large for a byte, events, and a buffer too short.
-pub fn competing_links(prng: &mut Prng) -> Lent {
-    let mut handover = Handover::of(&Recording { table: competing_table(prng), events: Vec::new() });
+/// number too large for a byte, and events.
+pub fn competing_links(prng: &mut Prng) -> Handover {
+    let kind = prng.pick(&KINDS);
+    let table = competing_table(prng, kind.limits);
+    let mut handover = Handover::of(&Recording { kind, table, events: Vec::new() });
     let length = handover.links.len();
     if prng.chance(15) {
         handover.links.truncate(length - prng.between(1, 3));
@@ -23,14 +26,14 @@ pub fn competing_links(prng: &mut Prng) -> Lent {
     if prng.chance(20) {
         handover.events = vec![prng.pick(&[0, 1, 2, 3, 4, 5])];
     }
-    some_room(prng, handover)
+    handover
 }
 
 /// A possible history, then an event that breaks several rules, of an unknown
 /// kind, with a number too large for its field or without all its numbers;
-/// then perhaps more, and a buffer too short.
-pub fn competing_events(prng: &mut Prng) -> Lent {
-    let size = prng.pick(&[Size::Small, Size::Any]);
+/// then perhaps more.
+pub fn competing_events(prng: &mut Prng) -> Handover {
+    let size = prng.pick(&[Size::Small, Size::Small, Size::Any, Size::Any, Size::Full]);
     let (recording, schedule) = random_recording(prng, size, 30);
     let mut handover = Handover::of(&recording);
     let mut last = numbers(nasty_event(prng, &recording.table, &schedule));
@@ -44,7 +47,7 @@ pub fn competing_events(prng: &mut Prng) -> Lent {
         last.push(prng.below(6) as u32);
     }
     handover.events.extend(last);
-    some_room(prng, handover)
+    handover
 }
 
 /// A number that would be the old one again, cut to a byte or to two.
@@ -53,12 +56,12 @@ fn widened(prng: &mut Prng, number: u32) -> u32 {
 }
 
 /// Numbers that were never a table, links or events, small ones in the main.
-pub fn soup(prng: &mut Prng) -> Lent {
+pub fn soup(prng: &mut Prng) -> Handover {
+    let kind = prng.pick(&KINDS).number();
     let small = prng.chance(80);
     let mut slice = |most: usize| -> Vec<u32> {
         let length = prng.below(most + 1);
         (0..length).map(|_| if small { prng.below(5) as u32 } else { prng.word() >> prng.below(32) }).collect()
     };
-    let handover = Handover { defaults: slice(5), links: slice(9), events: slice(20) };
-    some_room(prng, handover)
+    Handover { kind, defaults: slice(5), links: slice(9), events: slice(20) }
 }

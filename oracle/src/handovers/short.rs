@@ -1,9 +1,10 @@
 //! Every short handover.
 
 use super::Lent;
+use crate::sizes::KINDS;
 use crate::writing::Handover;
 
-/// Every slice of links of up to five numbers from 0 to 3, with none to three
+/// Of either kind in turn: every slice of links of up to five numbers from 0 to 3, with none to three
 /// tasks, and of up to eight numbers from 0 to 2, with two tasks and with
 /// three; every slice of events of up to seven numbers from 0 to 4, with two
 /// tasks and the link between them, and of up to five without the link.
@@ -14,7 +15,8 @@ pub fn every_short() -> impl Iterator<Item = Lent> {
     let without = slices(5, 5).map(|events| (2, Vec::new(), events));
     let all = links.chain(pairs).chain(linked).chain(without).enumerate();
     all.map(|(number, (tasks, links, events))| {
-        let handover = Handover { defaults: (7..7 + tasks).collect(), links, events };
+        let kind = KINDS[number / 3 % KINDS.len()].number();
+        let handover = Handover { kind, defaults: (7..7 + tasks).collect(), links, events };
         // One byte short, exact, and one more.
         handover.lent(number as isize % 3 - 1)
     })

@@ -1,18 +1,19 @@
 //! Writing by way of reading: the answer to a handover is what the reader says
 //! of the bytes that stand for it.
 
-use crate::format::{Counts, MOST_EVENTS};
+use crate::format::Counts;
 use crate::handovers::split;
+use crate::sizes::MOST_EVENTS;
 use crate::subject::{Oracle, Subject};
 use crate::writing::{begun_events, Handover, Written};
 
 /// The bytes that stand for a handover, nothing judged. A count or number that
 /// is too large for its field is the largest there, which is outside of every
-/// table too, and such a set is the empty one. The bytes end inside what the
-/// numbers end inside of, and after an unknown kind.
-fn stand_in(handover: &Handover) -> Vec<u8> {
+/// table too, and no kind of recording either; such a set is the empty one. The
+/// bytes end inside what the numbers end inside of, and after an unknown kind.
+pub fn stand_in(handover: &Handover) -> Vec<u8> {
     let byte = |number: u32| number.min(255) as u8;
-    let mut bytes = vec![253, handover.defaults.len().min(255) as u8];
+    let mut bytes = vec![byte(handover.kind), handover.defaults.len().min(255) as u8];
     let four = |number: u32| [0, 8, 16, 24].map(|shift| (number >> shift & 255) as u8);
     bytes.extend(handover.defaults.iter().flat_map(|default| four(*default)));
     let numbers = handover.links.len();
@@ -28,14 +29,18 @@ fn stand_in(handover: &Handover) -> Vec<u8> {
     if numbers % 4 > 0 {
         return bytes;
     }
-    let (events, records) = stand_in_events(&handover.events, byte);
+    let set = |set: u32| match handover.kind {
+        254 => four(set).to_vec(),
+        _ => u16::try_from(set).unwrap_or(0).to_le_bytes().to_vec(),
+    };
+    let (events, records) = stand_in_events(&handover.events, byte, set);
     bytes.extend([(events.min(65_535) % 256) as u8, (events.min(65_535) / 256) as u8]);
     bytes.extend(records);
     bytes
 }
 
 /// How many events were begun, and their bytes.
-fn stand_in_events(numbers: &[u32], byte: impl Fn(u32) -> u8) -> (usize, Vec<u8>) {
+fn stand_in_events(numbers: &[u32], byte: impl Fn(u32) -> u8, set: impl Fn(u32) -> Vec<u8>) -> (usize, Vec<u8>) {
     let mut bytes = Vec::new();
     let mut events = 0;
     let mut at = 0;
@@ -43,7 +48,7 @@ fn stand_in_events(numbers: &[u32], byte: impl Fn(u32) -> u8) -> (usize, Vec<u8>
         events += 1;
         bytes.push(byte(numbers[at]));
         match (numbers[at], numbers.get(at + 1), numbers.get(at + 2)) {
-            (1, Some(set), _) => bytes.extend(u16::try_from(*set).unwrap_or(0).to_le_bytes()),
+            (1, Some(named), _) => bytes.extend(set(*named)),
             (2 | 3, Some(which), _) => bytes.push(byte(*which)),
             (4, Some(task), Some(value)) => {
                 bytes.push(byte(*task));

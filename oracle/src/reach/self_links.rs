@@ -1,6 +1,7 @@
 //! What became of self links, by which a task reads its own last output.
 
-use crate::format::{link_refusal, place_of_link_count, Event, Link, LINK_BYTES, MOST_TASKS};
+use crate::format::{link_refusal, place_of_link_count, Event, Link, LINK_BYTES};
+use crate::sizes::KINDS;
 use crate::state::{State, ABSENT};
 
 #[derive(Default)]
@@ -15,8 +16,8 @@ pub struct SelfLinks {
     /// At a finish: pointers that stayed, and marks.
     pointer_kept: usize,
     mark_kept: usize,
-    /// Tables of sixteen tasks that all have one.
-    of_all_tasks: usize,
+    /// Tables of the most tasks of a kind that all have one.
+    of_all_tasks: [usize; KINDS.len()],
     /// Direct ones refused after a delayed one.
     direct_refused: usize,
 }
@@ -52,10 +53,12 @@ impl SelfLinks {
         }
     }
 
-    /// The table of a recording or of a sound state.
-    pub fn note_table(&mut self, links: &[Link]) {
-        let has = |task: usize| links.iter().any(|link| link.to_itself() && usize::from(link.writer) == task);
-        self.of_all_tasks += usize::from((0..MOST_TASKS).all(has));
+    /// The tasks and links of a recording or of a sound state.
+    pub fn note_table(&mut self, tasks: usize, links: &[Link]) {
+        let all = links.iter().filter(|link| link.to_itself()).count() == tasks;
+        for (kind, count) in KINDS.iter().zip(&mut self.of_all_tasks) {
+            *count += usize::from(all && tasks == kind.limits.tasks);
+        }
     }
 
     /// A recording that was refused with 5, at the place of the link.
@@ -79,7 +82,7 @@ impl SelfLinks {
     }
 
     /// Each of them with its name.
-    pub fn counts(&self) -> [(&'static str, usize); 8] {
+    pub fn counts(&self) -> [(&'static str, usize); 9] {
         [
             ("reads by a self link of its start value", self.start_read),
             ("reads by a self link of the output of the run before", self.output_read),
@@ -87,7 +90,8 @@ impl SelfLinks {
             ("positions taken that a self link pointed to", self.position_taken),
             ("pointers of self links kept at a finish", self.pointer_kept),
             ("marks of self links kept at a finish", self.mark_kept),
-            ("tables of 16 tasks that all have a self link", self.of_all_tasks),
+            ("tables of 16 tasks that all have a self link", self.of_all_tasks[0]),
+            ("tables of 32 tasks that all have a self link", self.of_all_tasks[1]),
             ("direct self links refused after a delayed one", self.direct_refused),
         ]
     }

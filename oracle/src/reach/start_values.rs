@@ -43,7 +43,7 @@ impl StartValues {
         self.output_read += usize::from(!marked && state.kind[link] == DELAYED);
     }
 
-    fn note_arrival(&mut self, before: &State, set: u16, after: &State, link: usize) {
+    fn note_arrival(&mut self, before: &State, set: u32, after: &State, link: usize) {
         let writer = usize::from(before.writer[link]);
         let second = before.seen[writer] == 1 && set >> writer & 1 == 1;
         match after.seen[writer] {
@@ -73,7 +73,7 @@ impl StartValues {
 }
 
 /// The delayed links whose reader is in the set.
-fn delayed_into(state: &State, set: u16) -> impl Iterator<Item = usize> + '_ {
+fn delayed_into(state: &State, set: u32) -> impl Iterator<Item = usize> + '_ {
     let into = move |l: &usize| state.kind[*l] == DELAYED && set >> state.reader[*l] & 1 == 1;
     (0..usize::from(state.links)).filter(into)
 }

@@ -1,12 +1,14 @@
 //! Recordings written from what is handed over: the answers to each compared,
 //! and the whole buffer.
 
+use super::exposure::given;
 use super::recordings::hex;
 use super::Run;
 use crate::format::Fault;
 use crate::handovers::{arises_in_writing, batch, every_short, limits, split, Lent};
 use crate::laws;
 use crate::prng::Prng;
+use crate::sizes::KINDS;
 use crate::subject::{Answer, Oracle, Subject};
 use crate::tables::LentTable;
 use crate::writing::{Handover, Written};
@@ -15,14 +17,14 @@ impl Run<'_> {
     /// The oracle's answer and buffer, after comparing the subject's.
     fn compare_writing(&mut self, handover: &Handover, lent: &[u8]) -> (Written, Vec<u8>) {
         self.handovers += 1;
-        let (answer, buffer) = given(&Oracle, handover, lent);
-        let (other, other_buffer) = given(self.subject, handover, lent);
+        let (answer, buffer) = written(&Oracle, handover, lent);
+        let (other, other_buffer) = written(self.subject, handover, lent);
         if (other, &other_buffer) != (answer, &buffer) {
             let name = self.subject.name();
             let told = format!("{:?}, buffer {}", other, hex(&other_buffer));
             self.differ("the subject's writing", || both_writings(handover, lent, answer, &buffer, &name, &told));
         }
-        self.reached.writing[usize::from(answer.refusal)] += 1;
+        self.reached.note_writing(handover, answer);
         (answer, buffer)
     }
 
@@ -44,10 +46,9 @@ impl Run<'_> {
     fn take_lent(&mut self, Lent { handover, room }: &Lent) {
         let lent = lent_buffer(self.handovers, *room);
         let (answer, buffer) = self.take_handover(handover, &lent);
-        for (wrong, exposure) in &mut self.wrong_writers {
-            let (other, other_buffer) = given(wrong, handover, &lent);
-            exposure.whole += (other != answer || other_buffer != buffer) as usize;
-            exposure.without_state += (other != answer) as usize;
+        for (wrong, exposure) in given(&mut self.wrong_writers, self.handovers) {
+            let (other, other_buffer) = written(wrong, handover, &lent);
+            exposure.note(other != answer || other_buffer != buffer, other != answer);
         }
     }
 
@@ -90,12 +91,18 @@ impl Run<'_> {
         }
     }
 
-    /// A table by itself earns in writing what it earns by itself.
+    /// A table by itself earns in writing what it earns by itself, unless its
+    /// counts are past the limits of the kind, of which there are two in turn.
     pub fn take_table_handover(&mut self, table: &LentTable, refusal: u8) {
-        if let Some(handover) = table.handed_over() {
+        let kind = KINDS[self.tables % KINDS.len()];
+        if let Some(handover) = table.handed_over(kind) {
             let lent = lent_buffer(self.handovers, handover.length());
             let (answer, _) = self.take_handover(&handover, &lent);
-            if answer.refusal != refusal {
+            let wanted = match kind.limits.refusal(table.tasks, table.links) {
+                0 => refusal,
+                past => past,
+            };
+            if answer.refusal != wanted {
                 self.differ("a table earns the same refusal in writing", || format!("{:?}\n{:?}", table, answer));
             }
         }
@@ -121,7 +128,7 @@ impl Run<'_> {
 }
 
 /// A subject's answer, and a copy of the lent buffer after it.
-fn given(subject: &dyn Subject, handover: &Handover, lent: &[u8]) -> (Written, Vec<u8>) {
+fn written(subject: &dyn Subject, handover: &Handover, lent: &[u8]) -> (Written, Vec<u8>) {
     let mut buffer = lent.to_vec();
     (subject.write(handover, &mut buffer), buffer)
 }

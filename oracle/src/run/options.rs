@@ -1,6 +1,6 @@
 //! How large a run is, and where each part of it draws from.
 
-use crate::corpus::Corpus;
+use crate::corpus::{limits, Corpus};
 use crate::prng::Prng;
 
 pub struct Options {
@@ -21,9 +21,9 @@ impl Default for Options {
 /// A corpus's part of the recordings, in thousandths of `--count`.
 fn share(corpus: Corpus) -> usize {
     match corpus {
-        Corpus::ValidShort => 250,
+        Corpus::ValidShort => 240,
         Corpus::ValidDeep => 60,
-        Corpus::ValidLong => 0,
+        Corpus::ValidLong | Corpus::Limits => 0,
         Corpus::EveryCut => 50,
         Corpus::EveryByte => 250,
         Corpus::RandomDamage => 80,
@@ -33,6 +33,7 @@ fn share(corpus: Corpus) -> usize {
         Corpus::CompetingLinks => 60,
         Corpus::ShortLists => 50,
         Corpus::Soup => 30,
+        Corpus::OtherKind => 20,
     }
 }
 
@@ -40,6 +41,8 @@ pub fn quota(corpus: Corpus, options: &Options) -> usize {
     match corpus {
         Corpus::ValidLong if options.long => 600,
         Corpus::ValidLong => 30,
+        // All of them once.
+        Corpus::Limits => limits().len(),
         _ => options.count * share(corpus) / 1000,
     }
 }

@@ -1,5 +1,6 @@
 //! Whole recordings: the answers to each compared.
 
+use super::exposure::given;
 use super::Run;
 use crate::corpus::{batch, Case, Corpus, Origin};
 use crate::engine::{Engine, FreshEngine};
@@ -30,7 +31,7 @@ impl Run<'_> {
         self.compare_origin(case, &lent, &answer);
         self.take_split(bytes, &answer);
         self.expose_replay(bytes, &lent, &answer);
-        self.reached.recordings.note(bytes, &answer);
+        self.reached.note_recording(bytes, &answer);
     }
 
     fn compare_zero_time(&mut self, bytes: &[u8], lent: &[u32], answer: &Answer) {
@@ -70,7 +71,7 @@ impl Run<'_> {
 
     fn note_history(&mut self, recording: &Recording) {
         let reach = &mut self.reached.recordings;
-        reach.note_table(&recording.table.links);
+        reach.note_table(recording.table.defaults.len(), &recording.table.links);
         let mut engine = Pointers::fresh(&recording.table);
         for &event in &recording.events {
             let before = engine.state;
@@ -80,14 +81,11 @@ impl Run<'_> {
     }
 
     fn expose_replay(&mut self, bytes: &[u8], lent: &[u32], answer: &Answer) {
-        for (wrong, exposure) in &mut self.wrong_replays {
-            let given = wrong.replay(bytes, lent);
-            if given != *answer {
-                exposure.whole += 1;
-                let same = (given.refusal, given.place, given.counts, given.rest)
-                    == (answer.refusal, answer.place, answer.counts, answer.rest);
-                exposure.without_state += (!same || given.list != answer.list) as usize;
-            }
+        for (wrong, exposure) in given(&mut self.wrong_replays, self.recordings) {
+            let other = wrong.replay(bytes, lent);
+            let same = (other.refusal, other.place, other.counts, other.rest)
+                == (answer.refusal, answer.place, answer.counts, answer.rest);
+            exposure.note(other != *answer, !same || other.list != answer.list);
         }
     }
 

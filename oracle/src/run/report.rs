@@ -5,13 +5,13 @@ use super::Run;
 
 impl Run<'_> {
     fn print_exposures(&self) -> bool {
-        println!("wrong subjects, recordings that exposed each (without looking at the state):");
+        println!("wrong subjects, recordings that exposed each (without looking at the state) of those it was given:");
         let replays = print_exposed(&self.wrong_replays);
-        println!("wrong subjects, saved states that exposed each (by refusal or value alone):");
+        println!("wrong subjects, saved states that exposed each (by refusal or value alone) of those it was given:");
         let events = print_exposed(&self.wrong_events);
-        println!("wrong subjects, tables that exposed each (by refusal alone):");
+        println!("wrong subjects, tables that exposed each (by refusal alone) of those it was given:");
         let tables = print_exposed(&self.wrong_tables);
-        println!("wrong subjects, handovers that exposed each (by refusal or place alone):");
+        println!("wrong subjects, handovers that exposed each (by refusal or place alone) of those it was given:");
         let writers = print_exposed(&self.wrong_writers);
         replays && events && tables && writers
     }

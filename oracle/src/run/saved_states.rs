@@ -1,5 +1,6 @@
 //! One event given to a saved state: the answers to each compared.
 
+use super::exposure::given;
 use super::Run;
 use crate::engine::Engine;
 use crate::format::Event;
@@ -23,14 +24,11 @@ impl Run<'_> {
         if let Some(law) = laws::one_event_law_broken(state, event, &answer) {
             self.differ(law, || both_ones(state, event, &answer, "law", law));
         }
-        for (wrong, exposure) in &mut self.wrong_events {
-            let given = wrong.one_event(state, event);
-            if given != answer {
-                exposure.whole += 1;
-                exposure.without_state += ((given.refusal, given.value) != (answer.refusal, answer.value)) as usize;
-            }
+        for (wrong, exposure) in given(&mut self.wrong_events, self.saved_states) {
+            let other = wrong.one_event(state, event);
+            exposure.note(other != answer, (other.refusal, other.value) != (answer.refusal, answer.value));
         }
-        self.reached.events.note_one(state, event, &answer);
+        self.reached.note_one(state, event, &answer);
         answer
     }
 

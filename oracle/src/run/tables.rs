@@ -1,5 +1,6 @@
 //! Tables: the answers to each compared.
 
+use super::exposure::given;
 use super::Run;
 use crate::laws;
 use crate::prng::Prng;
@@ -19,10 +20,9 @@ impl Run<'_> {
         if let Some(law) = laws::made_law_broken(table, &answer) {
             self.differ(law, || both("law", law));
         }
-        for (wrong, exposure) in &mut self.wrong_tables {
-            let given = wrong.fresh(table);
-            exposure.whole += (given != answer) as usize;
-            exposure.without_state += (given.refusal != answer.refusal) as usize;
+        for (wrong, exposure) in given(&mut self.wrong_tables, self.tables) {
+            let other = wrong.fresh(table);
+            exposure.note(other != answer, other.refusal != answer.refusal);
         }
         self.reached.tables[usize::from(answer.refusal)] += 1;
         self.take_table_handover(table, answer.refusal);

@@ -1,6 +1,6 @@
 //! An engine with a flaw: the right one's parts, put together wrongly.
 
-use super::{marks, self_links, Flaw};
+use super::{ends, marks, self_links, Flaw};
 use crate::engine::{Engine, IDLE, RUNNING};
 use crate::format::Event;
 use crate::pointers as right;
@@ -19,7 +19,7 @@ impl WrongEngine {
         WrongEngine { flaw, state, held: state }
     }
 
-    fn arrival(&mut self, set: u16) {
+    fn arrival(&mut self, set: u32) {
         let flaw = self.flaw;
         let before = self.state;
         let settles = |state: &State, link: usize| marks::settles(flaw, &before, state, link);
@@ -29,6 +29,7 @@ impl WrongEngine {
         }
         right::writers_part(&mut self.state, set, search);
         marks::after_writers(flaw, &before, &mut self.state, set);
+        ends::after_writers(flaw, &before, &mut self.state);
         if flaw != Flaw::ReadersFirst && flaw != Flaw::PointersAtStart {
             right::readers_part(&mut self.state, set, settles);
         }
@@ -37,6 +38,7 @@ impl WrongEngine {
         }
         self_links::after_readers(flaw, &before, &mut self.state, set);
         right::now_waiting(&mut self.state, set);
+        ends::after_arrival(flaw, &before, &mut self.state);
     }
 
     fn start(&mut self, task: usize) {
@@ -89,6 +91,7 @@ impl WrongEngine {
         }
         marks::at_finish(self.flaw, &before, state, task);
         self_links::at_finish(self.flaw, &before, state, task);
+        ends::at_finish(self.flaw, &before, state);
         state.phase[task] = IDLE;
     }
 
@@ -125,12 +128,12 @@ impl Engine for WrongEngine {
                 _ => refusal,
             },
             (Flaw::ThirteenBeforeTwelve, Event::Arrival(set)) if right::has_active(&self.state, set) => 13,
-            _ => refusal,
+            _ => ends::judged(self.flaw, &self.state, event, refusal),
         }
     }
 
     fn apply(&mut self, event: Event) -> u32 {
-        match event {
+        match ends::cut(self.flaw, event) {
             Event::Arrival(set) => self.arrival(set),
             Event::Start(task) => self.start(usize::from(task)),
             Event::Read(link) => return self.read(usize::from(link)),
@@ -165,7 +168,7 @@ fn wrong_search(flaw: Flaw, state: &State, task: usize) -> u8 {
     found.unwrap_or(1)
 }
 
-fn all_direct(state: &mut State, set: u16) {
+fn all_direct(state: &mut State, set: u32) {
     for number in 0..usize::from(state.links) {
         if set >> state.reader[number] & 1 == 1 {
             state.pointer[number] = state.newest[usize::from(state.writer[number])];

@@ -36,8 +36,38 @@ pub enum Flaw {
     SeenAtStart,
     SeenAtFinish,
     SeenPastTwo,
+    // About the last task and link of a state, and sets past two bytes.
+    LastTaskRefused,
+    LastTaskNotMoved,
+    LastTaskNotPointed,
+    LastTaskNotWaiting,
+    LastTaskNotFreed,
+    LastLinkRefused,
+    LastLinkNotSet,
+    LastLinkNotFreed,
+    FullSetWraps,
+    WideSetCut,
+    OnlySixteenBlock,
+    LastTaskNotFilled,
+    LastLinkLeftOut,
+    LastTaskNotAsked,
+    LastLinkNotAsked,
+    StatesBySmaller,
+    // About kinds of recordings, in the reader and in the writer; the smaller one
+    // is that of 253.
+    SmallerByRoom,
+    LargerBySmaller,
+    SmallerSetsOfFour,
+    LargerSetsOfTwo,
+    SmallerRefused,
+    LargerRefused,
+    KindsSwapped,
+    UnknownAsSmaller,
+    UnknownAsLarger,
+    AllAsSmaller,
+    NextKindTaken,
+    KindCut,
     // In the reader of recordings.
-    FirstByteIgnored,
     FirstByteOptional,
     FirstByteAtOne,
     TaskCountAtZero,
@@ -51,6 +81,7 @@ pub enum Flaw {
     PlacePastExtra,
     SeventeenNotGiven,
     ArrivalEventsCounted,
+    WideArrivalsNotCounted,
     LinkFaultsFalling,
     RestBeforeKind,
     ListCleared,
@@ -94,8 +125,8 @@ pub enum Flaw {
     NotAskedOfSelf(Clause),
     // In the writer of recordings: its counts and limits,
     NoTaskWritten,
-    SeventeenTasks,
-    ThirtyThreeLinks,
+    OneTaskMore,
+    OneLinkMore,
     OneEventMore,
     OneEventLess,
     UnfinishedLinkNotCounted,
@@ -106,10 +137,12 @@ pub enum Flaw {
     UnknownEventDropped,
     CountedPastUnknown,
     // the order of what it tries,
+    TasksBeforeKind,
     EventCountBeforeLinks,
     RoomFirst,
     RoomBeforeEvents,
     // the places,
+    KindAtOne,
     PlaceWithoutEventCount,
     PlaceWithoutFirstByte,
     PlaceOfNumber,
@@ -133,6 +166,7 @@ pub enum Flaw {
     Untried(u8),
     // the bytes,
     FirstByteLeftOut,
+    SmallerByteAlways,
     StartLeftOut,
     StartBeforeEnds,
     LinkFieldsSwapped,
@@ -211,10 +245,47 @@ const OF_SAVED_SELF_LINKS: [Flaw; 9] = [
     Flaw::NotAskedOfSelf(Clause::MarkMissing),
 ];
 
+/// The errors about the last task and link in the engine, which both recordings
+/// and saved states must expose.
+const OF_ENDS: [Flaw; 11] = [
+    Flaw::LastTaskRefused,
+    Flaw::LastTaskNotMoved,
+    Flaw::LastTaskNotPointed,
+    Flaw::LastTaskNotWaiting,
+    Flaw::LastTaskNotFreed,
+    Flaw::LastLinkRefused,
+    Flaw::LastLinkNotSet,
+    Flaw::LastLinkNotFreed,
+    Flaw::FullSetWraps,
+    Flaw::WideSetCut,
+    Flaw::OnlySixteenBlock,
+];
+
+/// Those in a fresh state, which both recordings and tables must expose.
+const OF_FRESH_ENDS: [Flaw; 2] = [Flaw::LastTaskNotFilled, Flaw::LastLinkLeftOut];
+
+/// The errors about kinds of recordings, which both recordings and handovers must
+/// expose.
+const OF_KINDS: [Flaw; 11] = [
+    Flaw::SmallerByRoom,
+    Flaw::LargerBySmaller,
+    Flaw::SmallerSetsOfFour,
+    Flaw::LargerSetsOfTwo,
+    Flaw::SmallerRefused,
+    Flaw::LargerRefused,
+    Flaw::KindsSwapped,
+    Flaw::UnknownAsSmaller,
+    Flaw::UnknownAsLarger,
+    Flaw::AllAsSmaller,
+    Flaw::NextKindTaken,
+];
+
 /// The errors the corpus of whole recordings must expose.
 pub fn in_recordings() -> Vec<Flaw> {
     let of_self_links = OF_SELF_LINK_RULES.iter().chain(&OF_SELF_LINKS);
-    IN_RECORDINGS.iter().chain(&OF_START_VALUES).chain(of_self_links).copied().collect()
+    let of_ends = OF_ENDS.iter().chain(&OF_FRESH_ENDS);
+    let all = IN_RECORDINGS.iter().chain(&OF_START_VALUES).chain(of_self_links).chain(of_ends).chain(&OF_KINDS);
+    all.copied().collect()
 }
 
 const IN_RECORDINGS: [Flaw; 34] = [
@@ -246,7 +317,7 @@ const IN_RECORDINGS: [Flaw; 34] = [
     Flaw::ListCleared,
     Flaw::EarlyTableKept,
     Flaw::RestFromTheLeft,
-    Flaw::FirstByteIgnored,
+    Flaw::WideArrivalsNotCounted,
     Flaw::FirstByteOptional,
     Flaw::FirstByteAtOne,
     Flaw::TaskCountAtZero,
@@ -265,7 +336,9 @@ pub fn in_tables() -> Vec<Flaw> {
         Flaw::PastCountsKept,
         Flaw::TwentyBeforeNine,
         Flaw::TwentyByLowByte,
+        Flaw::StatesBySmaller,
     ];
+    flaws.extend(OF_FRESH_ENDS);
     flaws.extend(OF_SELF_LINK_RULES);
     let table_rules = CLAUSES.iter().filter(|clause| clause.table_refusal().is_some());
     flaws.extend(table_rules.map(|clause| Flaw::Unsound(*clause)));
@@ -281,6 +354,8 @@ pub fn in_saved_states() -> Vec<Flaw> {
     flaws.extend([Flaw::NoMarkAfterSecond, Flaw::MarkAtEachPresent, Flaw::SeenPastCounts, Flaw::MarkPastCounts]);
     flaws.extend(OF_SELF_LINKS);
     flaws.extend(OF_SAVED_SELF_LINKS);
+    flaws.extend(OF_ENDS);
+    flaws.extend([Flaw::LastTaskNotAsked, Flaw::LastLinkNotAsked, Flaw::StatesBySmaller]);
     // Which rule a table breaks does not show: each is 19.
     let one_for_another = [Flaw::SelfDirectSeven, Flaw::SelfUnknownKindFive];
     flaws.extend(OF_SELF_LINK_RULES.iter().filter(|flaw| !one_for_another.contains(flaw)));
@@ -293,9 +368,11 @@ pub fn in_saved_states() -> Vec<Flaw> {
 pub fn in_handovers() -> Vec<Flaw> {
     use Flaw::*;
     let mut flaws = vec![
-        NoTaskWritten, SeventeenTasks, ThirtyThreeLinks, OneEventMore, OneEventLess, CountsCutToBytes,
+        NoTaskWritten, OneTaskMore, OneLinkMore, OneEventMore, OneEventLess, CountsCutToBytes,
         UnfinishedLinkNotCounted, UnfinishedLinkDropped, UnfinishedEventNotCounted, UnfinishedEventDropped,
         UnknownEventNotCounted, UnknownEventDropped, CountedPastUnknown,
+        KindCut, TasksBeforeKind, KindAtOne, SmallerByteAlways,
+        LastTaskRefused, LastLinkRefused, FullSetWraps, WideSetCut,
         EventCountBeforeLinks, RoomFirst, RoomBeforeEvents, RestBeforeKind, LinkFaultsFalling, ThirteenBeforeTwelve,
         SixteenFirst, TwentyBeforeNine, TwentyByLowByte,
         PlaceInsideLink, PlaceInsideEvent, PlaceInsideCount, PlaceWithoutEventCount, PlaceWithoutFirstByte,
@@ -307,6 +384,7 @@ pub fn in_handovers() -> Vec<Flaw> {
         EventCountHighByteFirst, LinkCountOneLess, EventCountOneLess, KindFromZero,
         BytePastEnd, BufferCleared, ShortBufferFilled, TouchedOnRefusal, ExactRoomRefused, OneShortWritten,
     ];
+    flaws.extend(OF_KINDS);
     flaws.extend(OF_SELF_LINK_RULES);
     flaws.extend((4..=9).chain(12..=16).chain([20]).map(Untried));
     flaws

@@ -22,7 +22,7 @@ pub fn settles(flaw: Flaw, before: &State, state: &State, link: usize) -> bool {
 }
 
 /// After the writers' part of an arrival.
-pub fn after_writers(flaw: Flaw, before: &State, state: &mut State, set: u16) {
+pub fn after_writers(flaw: Flaw, before: &State, state: &mut State, set: u32) {
     match flaw {
         Flaw::SeenAtStart | Flaw::SeenAtFinish => state.seen = before.seen,
         Flaw::SeenPastTwo => {

@@ -2,21 +2,22 @@
 
 use super::Flaw;
 use crate::engine::{Engine, IDLE, RUNNING};
-use crate::format::{place_of_link_count, Event, Table, Walker, FIRST_BYTE, LINK_BYTES};
+use crate::format::{event_at, place_of_link_count, Event, Table, Walker, LINK_BYTES};
 use crate::pointers as right;
+use crate::sizes::RecordingKind;
 use crate::state::State;
 use crate::subject::{Answer, Oracle, Subject};
 
-/// The answer of a reader that takes the first byte for another one.
-pub fn with_other_first_byte<'a>(flaw: Flaw, bytes: &'a [u8], lent: &[u32]) -> Option<Answer<'a>> {
-    let (&first, after) = bytes.split_first()?;
-    let taken = match flaw {
-        Flaw::FirstByteIgnored => [&[FIRST_BYTE], after].concat(),
-        Flaw::FirstByteOptional if first != FIRST_BYTE => [&[FIRST_BYTE], bytes].concat(),
-        _ => return None,
-    };
+/// The answer of a reader that takes a recording of no kind as one from before
+/// there were kinds.
+pub fn without_first_byte<'a>(flaw: Flaw, bytes: &'a [u8], lent: &[u32]) -> Option<Answer<'a>> {
+    let first = bytes.first()?;
+    if flaw != Flaw::FirstByteOptional || RecordingKind::of_number(u32::from(*first)).is_some() {
+        return None;
+    }
+    let taken = [&[RecordingKind::SIXTEEN.first_byte], bytes].concat();
     let Answer { refusal, place, counts, state, list, .. } = Oracle.replay(&taken, lent);
-    let place = place.saturating_sub(taken.len() - bytes.len());
+    let place = place.saturating_sub(1);
     let rest = if refusal == 0 { &[] } else { &bytes[place..] };
     Some(Answer { refusal, place, counts, state, list, rest })
 }
@@ -43,7 +44,10 @@ pub fn distorted<'a>(flaw: Flaw, bytes: &'a [u8], mut answer: Answer<'a>) -> Ans
             answer.place = bytes.len();
             answer.rest = &[];
         }
-        Flaw::ArrivalEventsCounted => answer.counts.arrivals = arrival_events(bytes, answer.place),
+        Flaw::ArrivalEventsCounted => answer.counts.arrivals = arrivals(bytes, answer.place, |_| 1),
+        Flaw::WideArrivalsNotCounted => {
+            answer.counts.arrivals = arrivals(bytes, answer.place, |set| (set & 0xFFFF).count_ones());
+        }
         Flaw::RestBeforeKind if refusal == 11 && answer.rest.len() < 2 => answer.refusal = 1,
         Flaw::ListCleared => {
             let reads = answer.counts.reads as usize;
@@ -88,7 +92,7 @@ fn table_before(bytes: &[u8]) -> Table {
     let links = usize::from(bytes[links_at]);
     let mut whole = bytes[..links_at + 1 + LINK_BYTES * links].to_vec();
     whole.extend_from_slice(&[0, 0]);
-    Walker::new(&whole).head().map(|(table, _)| table).unwrap_or_default()
+    Walker::new(&whole).head().map(|head| head.table).unwrap_or_default()
 }
 
 fn shift_place(answer: &mut Answer) {
@@ -99,13 +103,9 @@ fn shift_place(answer: &mut Answer) {
 }
 
 fn keep_effect(bytes: &[u8], answer: &mut Answer) {
-    let event = match Walker::at(bytes, answer.place).look_at_event() {
-        Ok((event, _)) => event,
-        Err(_) => return,
-    };
     let state = &mut answer.state;
-    match event {
-        Event::Arrival(set) => {
+    match event_at(bytes, answer.place) {
+        Some(Event::Arrival(set)) => {
             // As an arrival that moves each task before it meets the fault.
             let fine =
                 right::tasks_of(set, state).filter(|task| !state.active(*task)).fold(0, |set, task| set | 1 << task);
@@ -113,8 +113,8 @@ fn keep_effect(bytes: &[u8], answer: &mut Answer) {
             engine.apply(Event::Arrival(fine));
             *state = engine.state;
         }
-        Event::Start(task) if task < state.tasks => state.phase[usize::from(task)] = RUNNING,
-        Event::Finish(task, _) if task < state.tasks => state.phase[usize::from(task)] = IDLE,
+        Some(Event::Start(task)) if task < state.tasks => state.phase[usize::from(task)] = RUNNING,
+        Some(Event::Finish(task, _)) if task < state.tasks => state.phase[usize::from(task)] = IDLE,
         _ => {}
     }
 }
@@ -125,16 +125,20 @@ fn room_first(bytes: &[u8], answer: &mut Answer) {
     }
 }
 
-fn arrival_events(bytes: &[u8], place: usize) -> u32 {
+/// The arrivals before the place, counted by a wrong count of each set.
+fn arrivals(bytes: &[u8], place: usize, count: fn(u32) -> u32) -> u32 {
     let mut walker = Walker::new(bytes);
     let mut arrivals = 0;
-    if walker.head().is_err() {
-        return 0;
-    }
+    let kind = match walker.head() {
+        Ok(head) => head.kind,
+        Err(_) => return 0,
+    };
     while walker.place() < place {
-        match walker.look_at_event() {
+        match walker.look_at_event(kind) {
             Ok((event, length)) => {
-                arrivals += matches!(event, Event::Arrival(_)) as u32;
+                if let Event::Arrival(set) = event {
+                    arrivals += count(set);
+                }
                 walker.pass(length);
             }
             Err(_) => break,

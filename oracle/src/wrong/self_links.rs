@@ -1,8 +1,9 @@
 //! Self links judged, set or freed with a flaw.
 
 use super::Flaw;
-use crate::format::{link_refusal, Link, LinkRule, DELAYED, MOST_BEHIND};
+use crate::format::{link_refusal, Link, LinkRule, DELAYED};
 use crate::pointers::settles_on_start;
+use crate::sizes::MOST_BEHIND;
 use crate::state::{State, ABSENT};
 
 /// The rule by which a flaw judges links, if it is one of these.
@@ -84,7 +85,7 @@ pub fn more_positions(flaw: Flaw, state: &State, task: usize) -> usize {
 }
 
 /// After the readers' part of an arrival. `before` is the state before it.
-pub fn after_readers(flaw: Flaw, before: &State, state: &mut State, set: u16) {
+pub fn after_readers(flaw: Flaw, before: &State, state: &mut State, set: u32) {
     let change: fn(&State, &mut State, usize) = match flaw {
         Flaw::SelfAtNewest => |_, state, link| state.pointer[link] = state.newest[reader(state, link)],
         Flaw::SelfSetFirst => |before, state, link| state.pointer[link] = before.previous[reader(before, link)],

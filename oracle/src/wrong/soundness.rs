@@ -1,7 +1,7 @@
 //! Soundness judged with a flaw: too little asked of a state, or too much.
 
 use super::tables::link_rule;
-use super::Flaw;
+use super::{ends, Flaw};
 use crate::format::{link_faults, DELAYED};
 use crate::state::{broken_clauses, sound, Clause, State, ABSENT, SEEN_TWO};
 
@@ -14,7 +14,7 @@ pub fn too_mild(flaw: Flaw, state: &State) -> bool {
         Flaw::TwentyByLowByte | Flaw::SelfDirectAccepted | Flaw::SelfTwice => {
             broken_in_links(state) && !fault_by_rule(flaw, state)
         }
-        _ => false,
+        _ => ends::too_mild(flaw, state),
     }
 }
 
@@ -33,13 +33,14 @@ pub fn too_strict(flaw: Flaw, state: &State) -> bool {
         Flaw::SelfPreviousAsked => |_, state| {
             any_present_self_link(state, |link| state.pointer[link] != state.previous[usize::from(state.writer[link])])
         },
+        Flaw::StatesBySmaller => |_, state| ends::past_smaller(state),
         Flaw::SelfCountedBehind | Flaw::SelfAsNinth | Flaw::SelfDelayedRefused => fault_by_rule,
         _ => return false,
     };
     sound(state) && refuses(flaw, state)
 }
 
-/// The counts must be within the limits.
+/// The counts must be such that there is room.
 fn any_link(state: &State, of: impl Fn(usize) -> bool) -> bool {
     (0..usize::from(state.links)).any(of)
 }
@@ -49,7 +50,7 @@ fn present_and_delayed(state: &State, link: usize) -> bool {
 }
 
 fn any_present_self_link(state: &State, of: impl Fn(usize) -> bool) -> bool {
-    state.self_links_of(u16::MAX).any(|link| state.pointer[link] != ABSENT && of(link))
+    state.self_links_of(u32::MAX).any(|link| state.pointer[link] != ABSENT && of(link))
 }
 
 /// Whether a link breaks a rule of tables, after counts that break none.
@@ -67,7 +68,7 @@ fn fault_by_rule(flaw: Flaw, state: &State) -> bool {
 /// may have there: what is still broken is so by the others.
 fn with_self_links_mended(state: &State) -> State {
     let mut mended = *state;
-    for link in state.self_links_of(u16::MAX) {
+    for link in state.self_links_of(u32::MAX) {
         mended.pointer[link] = 1;
         mended.mark[link] = 1;
     }

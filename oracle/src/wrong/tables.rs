@@ -1,7 +1,8 @@
 //! A judge of tables with a flaw: the right answer, bent.
 
-use super::{self_links, Flaw};
+use super::{ends, self_links, Flaw};
 use crate::format::{link_faults, link_refusal, Link, LinkRule, DIRECT};
+use crate::sizes::{RecordingKind, ROOM};
 use crate::state::State;
 use crate::subject::{made_of, Made, Oracle, Subject};
 use crate::tables::LentTable;
@@ -9,7 +10,7 @@ use crate::tables::LentTable;
 /// The right answer to a table bent the way a wrong judge would give it.
 pub fn distorted_table(flaw: Flaw, table: &LentTable, right: Made) -> Made {
     if let Some(rule) = own_rule(flaw) {
-        return made_of(table.judged_by(rule));
+        return made_of(table.judged_by(ROOM, rule));
     }
     let in_links = matches!(right.refusal, 4..=9 | 20);
     match flaw {
@@ -18,7 +19,10 @@ pub fn distorted_table(flaw: Flaw, table: &LentTable, right: Made) -> Made {
             Made { refusal: least.unwrap_or(0), ..right }
         }
         Flaw::EarlyTableKept if in_links => Made { state: State::fresh(&table.as_it_stands()), ..right },
-        Flaw::LinksBeforeTasks if right.refusal == 2 && table.links > 32 => Made { refusal: 3, ..right },
+        Flaw::LinksBeforeTasks if right.refusal == 2 && ROOM.link_refusal(table.links) != 0 => {
+            Made { refusal: 3, ..right }
+        }
+        Flaw::StatesBySmaller => made_of(table.judged_by(RecordingKind::SIXTEEN.limits, link_refusal)),
         Flaw::CountsCutToBytes => {
             let byte = |count: usize| usize::from(count as u8);
             Oracle.fresh(&LentTable { tasks: byte(table.tasks), links: byte(table.links), ..table.clone() })
@@ -29,6 +33,7 @@ pub fn distorted_table(flaw: Flaw, table: &LentTable, right: Made) -> Made {
             Made { refusal: 0, state }
         }
         Flaw::Unsound(clause) if clause.table_refusal() == Some(right.refusal) => Made { refusal: 0, ..right },
+        _ if right.refusal == 0 => Made { refusal: 0, state: ends::fresh(flaw, right.state) },
         _ => right,
     }
 }

@@ -3,6 +3,7 @@
 use oracle::engine::{Engine, FreshEngine};
 use oracle::format::{encode, Event, Link, Recording, Table};
 use oracle::pointers::Pointers;
+use oracle::sizes::{RecordingKind, KINDS};
 use oracle::state::{broken_clauses, sound, Clause, State};
 use oracle::subject::{disagreement, zero_time_reading, Made, Oracle, Subject};
 use oracle::tables::LentTable;
@@ -20,9 +21,16 @@ pub fn table(tasks: u32, links: &[Link]) -> Table {
     Table { defaults: (1000..1000 + tasks).collect(), links: links.to_vec() }
 }
 
-/// The numbers read, by the pointers and by the run that takes no time.
+/// The numbers read, by the pointers and by the run that takes no time, alike in
+/// a recording of either kind.
 pub fn numbers(table: &Table, events: &[Event]) -> Vec<u32> {
-    let bytes = encode(&Recording { table: table.clone(), events: events.to_vec() });
+    let [smaller, larger] = KINDS.map(|kind| numbers_in(kind, table, events));
+    assert_eq!(smaller, larger);
+    larger
+}
+
+pub fn numbers_in(kind: RecordingKind, table: &Table, events: &[Event]) -> Vec<u32> {
+    let bytes = encode(&Recording { kind, table: table.clone(), events: events.to_vec() });
     let lent = vec![7; events.len()];
     let answer = Oracle.replay(&bytes, &lent);
     assert_eq!(disagreement(&answer, &zero_time_reading(&bytes, &lent)), None);
@@ -39,12 +47,16 @@ pub fn verdict(bytes: &[u8]) -> (u8, usize) {
     (answer.refusal, answer.place)
 }
 
-/// The verdict on a recording without events; its table by itself must earn the
-/// same refusal.
+/// The verdict on a recording without events.
+pub fn verdict_in(kind: RecordingKind, tasks: u32, links: &[Link]) -> (u8, usize) {
+    verdict(&encode(&Recording { kind, table: table(tasks, links), events: Vec::new() }))
+}
+
+/// The same, alike in either kind; the table by itself must earn the same refusal.
 pub fn verdict_on_links(tasks: u32, links: &[Link]) -> (u8, usize) {
-    let table = table(tasks, links);
-    let made = Oracle.fresh(&LentTable::of(&table));
-    let (refusal, place) = verdict(&encode(&Recording { table, events: Vec::new() }));
+    let made = Oracle.fresh(&LentTable::of(&table(tasks, links)));
+    let [(refusal, place), larger] = KINDS.map(|kind| verdict_in(kind, tasks, links));
+    assert_eq!((refusal, place), larger);
     assert_eq!(made.refusal, refusal);
     assert!(refusal == 0 || made == Made { refusal, state: State::single() });
     (refusal, place)

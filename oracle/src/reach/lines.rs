@@ -1,0 +1,98 @@
+//! Either side of the limits of each kind of recording.
+
+use super::{at_least, OFTEN};
+use crate::format::place_of_link_count;
+use crate::sizes::{RecordingKind, KINDS, ROOM};
+use crate::subject::Answer;
+
+/// Of one kind of recording.
+#[derive(Clone, Copy, Default)]
+struct Line {
+    /// Accepted with the most tasks, and with the most links.
+    most_tasks: usize,
+    most_links: usize,
+    /// Refused with one task more, and with one link more.
+    task_more: usize,
+    link_more: usize,
+    /// Refused for tasks, or links, for which a state has room.
+    tasks_in_room: usize,
+    links_in_room: usize,
+}
+
+/// Of each kind, and of first bytes that name none.
+#[derive(Default)]
+pub struct Lines {
+    of_kinds: [Line; KINDS.len()],
+    first_bytes: [usize; OF_NO_KIND.len()],
+}
+
+/// First bytes that are near those of a kind, and that of recordings without
+/// one: T, which is as often small.
+const OF_NO_KIND: [u8; 4] = [0, 16, 252, 255];
+
+impl Lines {
+    pub fn note(&mut self, bytes: &[u8], answer: &Answer) {
+        let first = bytes.first().copied();
+        for (kind, line) in KINDS.iter().zip(&mut self.of_kinds) {
+            if first == Some(kind.first_byte) {
+                line.note(*kind, bytes, answer);
+            }
+        }
+        for (byte, count) in OF_NO_KIND.iter().zip(&mut self.first_bytes) {
+            *count += usize::from(first == Some(*byte));
+        }
+    }
+
+    pub fn print(&self) {
+        self.counts().for_each(|(what, count)| println!("  {:<69} {:>8}", what, count));
+    }
+
+    pub fn missing(&self, missing: &mut Vec<String>) {
+        self.counts().for_each(|(what, count)| at_least(missing, &what, count, OFTEN));
+    }
+
+    fn counts(&self) -> impl Iterator<Item = (String, usize)> + '_ {
+        let of_kinds = KINDS.iter().zip(&self.of_kinds).flat_map(|(kind, line)| line.counts(*kind));
+        let of_none = OF_NO_KIND.iter().zip(self.first_bytes);
+        of_kinds.chain(of_none.map(|(byte, count)| (format!("recordings that begin with {}", byte), count)))
+    }
+}
+
+impl Line {
+    fn note(&mut self, kind: RecordingKind, bytes: &[u8], answer: &Answer) {
+        let byte = |place: usize| bytes.get(place).map_or(0, |byte| usize::from(*byte));
+        let tasks = byte(1);
+        let links = byte(place_of_link_count(tasks));
+        match answer.refusal {
+            0 => {
+                self.most_tasks += usize::from(tasks == kind.limits.tasks);
+                self.most_links += usize::from(links == kind.limits.links);
+            }
+            2 => {
+                self.task_more += usize::from(tasks == kind.limits.tasks + 1);
+                self.tasks_in_room += usize::from(ROOM.task_refusal(tasks) == 0);
+            }
+            3 => {
+                self.link_more += usize::from(links == kind.limits.links + 1);
+                self.links_in_room += usize::from(ROOM.link_refusal(links) == 0);
+            }
+            _ => {}
+        }
+    }
+
+    /// Each of them with its name. Where the limits are the room, nothing is
+    /// refused for which there is room.
+    fn counts(&self, kind: RecordingKind) -> Vec<(String, usize)> {
+        let mut counts = vec![
+            ("accepted with the most tasks", self.most_tasks),
+            ("accepted with the most links", self.most_links),
+            ("refused with one task more", self.task_more),
+            ("refused with one link more", self.link_more),
+        ];
+        if kind.limits != ROOM {
+            counts.push(("refused for tasks for which a state has room", self.tasks_in_room));
+            counts.push(("refused for links for which a state has room", self.links_in_room));
+        }
+        counts.into_iter().map(|(what, count)| (format!("recordings of {} {}", kind.first_byte, what), count)).collect()
+    }
+}
