@@ -80,8 +80,8 @@ pub const CORPORA: [Corpus; 14] = [
 pub fn batch(corpus: Corpus, number: usize, prng: &mut Prng) -> Vec<Case> {
     match corpus {
         Corpus::ValidShort => one(valid(prng, Size::Any, 60)),
-        Corpus::ValidDeep if number % 4 == 0 => one(valid(prng, Size::Full, 600)),
-        Corpus::ValidDeep => one(valid(prng, Size::Limit, 600)),
+        Corpus::ValidDeep if number % 4 == 0 => one(valid(prng, Size::Full, 400)),
+        Corpus::ValidDeep => one(valid(prng, Size::Limit, 400)),
         Corpus::ValidLong => one(valid_long(prng, number)),
         Corpus::EveryCut => every_cut(small_or_example(prng, number)),
         Corpus::EveryByte => every_byte(&small_or_example(prng, number)),

@@ -2,11 +2,12 @@
 
 use oracle::engine::{Engine, FreshEngine};
 use oracle::example::own_output_example;
-use oracle::format::{encode, Link, Recording, Table};
+use oracle::format::{encode, Event, Link, Recording, Table};
 use oracle::pointers::Pointers;
 use oracle::reach::Reached;
 use oracle::sizes::RecordingKind;
 use oracle::subject::{Oracle, Subject};
+use Event::{Arrival as A, Finish as F, Read as R, Start as S};
 
 #[test]
 fn all_that_was_not_reached_is_named() {
@@ -16,7 +17,7 @@ fn all_that_was_not_reached_is_named() {
     // first bytes; then how deep and how far; and in recordings and saved states 9 items of start values and marks, 9 of
     // self links, and 11 of the last task and link.
     assert_eq!(missing.len(), 2 * 20 + 2 + 7 + 10 + 2 * 19 + 1 + 3 + 6 + 4 + 4 + 6 + 2 * (9 + 9 + 11));
-    for what in [
+    let named = [
         "refusal 18 in recordings of 253",
         "refusal 20 in recordings of 254",
         "refusal 2 in recordings of no kind",
@@ -34,9 +35,8 @@ fn all_that_was_not_reached_is_named() {
         "100 marks gone at a finish in saved states: 0",
         "100 reads by a self link of its start value in recordings: 0",
         "100 direct self links refused after a delayed one in saved states: 0",
-    ] {
-        assert!(missing.iter().any(|named| named == what), "{}", what);
-    }
+    ];
+    assert_all(&missing, &named);
 }
 
 #[test]
@@ -76,8 +76,7 @@ fn what_self_links_did_is_counted() {
     reached.recordings.note_table(16, &all);
     reached.recordings.note_table(16, &all[1..]);
     reached.recordings.note_table(15, &all[1..]);
-    let missing = reached.missing();
-    for what in [
+    let named = [
         "100 reads by a self link of its start value in recordings: 2",
         "100 reads by a self link of the output of the run before in recordings: 1",
         "100 pointers of self links set while the task's newest moves in recordings: 3",
@@ -87,7 +86,88 @@ fn what_self_links_did_is_counted() {
         "100 tables of 16 tasks that all have a self link in recordings: 1",
         "100 tables of 32 tasks that all have a self link in recordings: 0",
         "100 direct self links refused after a delayed one in recordings: 1",
-    ] {
+    ];
+    assert_all(&reached.missing(), &named);
+}
+
+/// Two tasks of thirty-two, by the last of ninety-six links; then an event past
+/// the end of each: of the tasks, of the links, and of two bytes.
+#[test]
+fn what_the_last_task_and_link_did_is_counted() {
+    let mut reached = Reached::default();
+    let links = (0..96).map(|number| Link::of([number / 8, 24 + number % 8, 0], 0)).collect();
+    let table = Table { defaults: vec![0; 32], links };
+    let events = [A(1 << 31 | 1 << 11), S(11), F(11, 7), S(31), R(95), F(31, 8)];
+    let mut engine = Pointers::fresh(&table);
+    for event in events {
+        let before = engine.state;
+        engine.apply(event);
+        reached.recordings.note_event(&before, event, &engine.state);
+    }
+    let sixteen = Table { defaults: vec![0; 16], links: Vec::new() };
+    for (table, event) in [(&table, S(32)), (&table, F(32, 0)), (&table, R(96)), (&sixteen, A(1 << 16))] {
+        assert_eq!(note(&mut reached, RecordingKind::THIRTY_TWO, table, event), 12);
+    }
+    assert_all(
+        &reached.missing(),
+        &[
+            "20 arrivals of task 31 in recordings: 1",
+            "20 starts of task 31 in recordings: 1",
+            "20 finishes of task 31 in recordings: 1",
+            "20 reads by task 31 in recordings: 1",
+            "20 reads by a link of task 31 in recordings: 0",
+            "20 reads by link 95 in recordings: 1",
+            "20 reads by link 95, its writer with ten positions in recordings: 1",
+            "20 arrivals of more than 16 tasks at once in recordings: 0",
+            "20 sets refused for tasks past the first 16 alone in recordings: 1",
+            "20 starts and finishes of task 32 of 32 refused in recordings: 2",
+            "20 reads by link 96 of 96 refused in recordings: 1",
+        ],
+    );
+}
+
+/// Notes a recording of one event, which is refused with the answer.
+fn note(reached: &mut Reached, kind: RecordingKind, table: &Table, event: Event) -> u8 {
+    let bytes = encode(&Recording { kind, table: table.clone(), events: vec![event] });
+    let answer = Oracle.replay(&bytes, &[]);
+    reached.note_recording(&bytes, &answer);
+    answer.refusal
+}
+
+fn assert_all(missing: &[String], named: &[&str]) {
+    for what in named {
         assert!(missing.iter().any(|named| named == what), "{} in {:?}", what, missing);
     }
+}
+
+#[test]
+fn either_side_of_the_limits_is_counted_by_kind() {
+    let mut reached = Reached::default();
+    let (smaller, larger) = (RecordingKind::SIXTEEN, RecordingKind::THIRTY_TWO);
+    let refusals =
+        [(smaller, 16), (smaller, 17), (smaller, 32), (smaller, 33), (larger, 17), (larger, 32), (larger, 33)].map(
+            |(kind, tasks)| {
+                let table = Table { defaults: vec![0; tasks], links: Vec::new() };
+                note(&mut reached, kind, &table, A(1))
+            },
+        );
+    assert_eq!(refusals, [0, 2, 2, 2, 0, 0, 2]);
+    for first in [0, 252, 255, 255] {
+        reached.note_recording(&[first], &Oracle.replay(&[first], &[]));
+    }
+    assert_all(
+        &reached.missing(),
+        &[
+            "20 recordings of 253 accepted with the most tasks: 1",
+            "20 recordings of 253 accepted with the most links: 0",
+            "20 recordings of 253 refused with one task more: 1",
+            "20 recordings of 253 refused for tasks for which a state has room: 2",
+            "20 recordings of 254 accepted with the most tasks: 1",
+            "20 recordings of 254 refused with one task more: 1",
+            "20 recordings that begin with 0: 1",
+            "20 recordings that begin with 16: 0",
+            "20 recordings that begin with 252: 1",
+            "20 recordings that begin with 255: 2",
+        ],
+    );
 }
