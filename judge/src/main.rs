@@ -73,6 +73,10 @@ impl Subject for Proved {
         "the proved library".to_string()
     }
 
+    fn sizes(&self) -> [usize; 4] {
+        parnusild::sizes()
+    }
+
     fn replay<'a>(&self, bytes: &'a [u8], list: &[u32]) -> Answer<'a> {
         let mut list = list.to_vec();
         let answer = parnusild::replay(bytes, &mut list);
@@ -98,7 +102,7 @@ impl Subject for Proved {
 
     fn one_event(&self, state: &State, event: Event) -> OneAnswer {
         let (kind, which, value) = match event {
-            Event::Arrival(set) => (1, u32::from(set), 0),
+            Event::Arrival(set) => (1, set, 0),
             Event::Start(task) => (2, u32::from(task), 0),
             Event::Read(link) => (3, u32::from(link), 0),
             Event::Finish(task, value) => (4, u32::from(task), value),
@@ -109,7 +113,8 @@ impl Subject for Proved {
     }
 
     fn write(&self, handover: &Handover, buffer: &mut [u8]) -> Written {
-        let written = parnusild::write(&handover.defaults, &handover.links, &handover.events, buffer);
+        let Handover { kind, defaults, links, events } = handover;
+        let written = parnusild::write(*kind, defaults, links, events, buffer);
         Written { refusal: written.refusal, place: written.place }
     }
 }
