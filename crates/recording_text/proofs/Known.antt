@@ -97,3 +97,40 @@ kind-once (l ∷ ls) z = go (eqb (faultIn false (says l)) 0) refl z (kind-once l
         (textFault false ls ≡ 0 → length (recordsOf 4 (readable false ls)) ≡ 1) → length (recordsOf 4 (cond b (l ∷ readable (knownAfter false (says l)) ls) [])) ≡ 1
     go true e f r = said (eqb (sort (says l .letter)) 4) refl f r
     go false e f r = absurd (eqb-false (faultIn false (says l)) 0 e f)
+
+-- it is read to its end
+pub all-read : (known : Bool) (ls : List (List ℕ)) → textFault known ls ≡ 0 → readable known ls ≡ ls
+unfolding readable textFault
+all-read known [] z = refl
+all-read known (l ∷ ls) z = go (eqb (faultIn known (says l)) 0) refl z (all-read (knownAfter known (says l)) ls)
+  where
+    go :
+        (b : Bool) → eqb (faultIn known (says l)) 0 ≡ b → cond b (textFault (knownAfter known (says l)) ls) (faultIn known (says l)) ≡ 0 →
+        (textFault (knownAfter known (says l)) ls ≡ 0 → readable (knownAfter known (says l)) ls ≡ ls) → cond b (l ∷ readable (knownAfter known (says l)) ls) [] ≡ l ∷ ls
+    go true e f r = ap (λ (rest : List (List ℕ)). l ∷ rest) (r f)
+    go false e f r = absurd (eqb-false (faultIn known (says l)) 0 e f)
+
+-- the sort of the first line that has a record; 0 where none has
+pub firstSort : List (List ℕ) → ℕ
+firstSort [] = 0
+firstSort (l ∷ ls) = cond (eqb (sort (says l .letter)) 0) (firstSort ls) (sort (says l .letter))
+
+-- and in a text that can be read that line says the kind
+pub kind-first : (ls : List (List ℕ)) → textFault false ls ≡ 0 → firstSort ls ≡ 4
+unfolding firstSort textFault
+kind-first [] z = absurd (omega arith)
+kind-first (l ∷ ls) z = go (eqb (faultIn false (says l)) 0) refl z (kind-first ls)
+  where
+    said :
+        (k : ℕ) → inPlace false k ≡ true → (a b : Bool) → eqb k 0 ≡ a → eqb k 4 ≡ b → textFault b ls ≡ 0 → (textFault false ls ≡ 0 → firstSort ls ≡ 4) →
+        cond a (firstSort ls) k ≡ 4
+    said k p true true e f t r = absurd (omega (arith, eqb-true k 0 e, eqb-true k 4 f))
+    said k p true false e f t r = r t
+    said k p false true e f t r = eqb-true k 4 f
+    said k p false false e f t r = let q : false ≡ true = rw (e, f) at p in absurd (true≢false (sym q))
+
+    go :
+        (b : Bool) → eqb (faultIn false (says l)) 0 ≡ b → cond b (textFault (knownAfter false (says l)) ls) (faultIn false (says l)) ≡ 0 →
+        (textFault false ls ≡ 0 → firstSort ls ≡ 4) → cond (eqb (sort (says l .letter)) 0) (firstSort ls) (sort (says l .letter)) ≡ 4
+    go true e f r = said (sort (says l .letter)) (stands false (says l) (eqb-true (faultIn false (says l)) 0 e)) _ _ refl refl f r
+    go false e f r = absurd (eqb-false (faultIn false (says l)) 0 e f)
