@@ -11,7 +11,7 @@ use crate::writing::{begun_events, Handover, LINK_NUMBERS};
 pub fn split(bytes: &[u8]) -> Handover {
     let mut rest = Rest { bytes };
     let kind = rest.number(1).unwrap_or(0);
-    let set_bytes = RecordingKind::of_number(kind).unwrap_or(RecordingKind::SIXTEEN).set_bytes;
+    let set = [RecordingKind::of_number(kind).unwrap_or(RecordingKind::SIXTEEN).set_bytes];
     let mut handover = Handover { kind, defaults: Vec::new(), links: Vec::new(), events: Vec::new() };
     let tasks = rest.number(1).unwrap_or(0);
     handover.defaults.extend((0..tasks).map_while(|_| rest.number(4)));
@@ -26,7 +26,7 @@ pub fn split(bytes: &[u8]) -> Handover {
         };
         handover.events.push(kind);
         let fields: &[usize] = match kind {
-            1 => &[set_bytes],
+            1 => &set,
             2 | 3 => &[1],
             4 => &[1, 4],
             _ => break,
