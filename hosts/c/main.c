@@ -437,17 +437,20 @@ static void try_rings(uint32_t kind, size_t tasks, size_t links, uint32_t set)
     edge("replayed in the other kind", written, size, numbers, links);
 }
 
-/* either side of each limit: 16 tasks, 32 links, and task 15 in a set for the first kind; 32, 96 and 31 for the other */
+/* either side of the first kind's limits, 16 tasks, 32 links, and task 15 in a set, for a recording of any kind */
+static void base_limits(uint32_t kind)
+{
+    try_rings(kind, 16, 32, 0xffff);
+    try_rings(kind, 17, 32, 0x1ffff);
+    try_rings(kind, 16, 33, 0xffff);
+    try_rings(kind, 16, 32, 0x1ffff);
+}
+
+/* these in both kinds, and the other kind's, 32, 96 and 31 */
 static void limits(void)
 {
-    try_rings(PARNUSILD_KIND_BASE, 16, 32, 0xffff);
-    try_rings(PARNUSILD_KIND_BASE, 17, 32, 0x1ffff);
-    try_rings(PARNUSILD_KIND_BASE, 16, 33, 0xffff);
-    try_rings(PARNUSILD_KIND_BASE, 16, 32, 0x1ffff);
-    try_rings(PARNUSILD_KIND_WIDE, 16, 32, 0xffff);
-    try_rings(PARNUSILD_KIND_WIDE, 17, 32, 0x1ffff);
-    try_rings(PARNUSILD_KIND_WIDE, 16, 33, 0xffff);
-    try_rings(PARNUSILD_KIND_WIDE, 16, 32, 0x1ffff);
+    base_limits(PARNUSILD_KIND_BASE);
+    base_limits(PARNUSILD_KIND_WIDE);
     try_rings(PARNUSILD_KIND_WIDE, 32, 96, 0xffffffff);
     try_rings(PARNUSILD_KIND_WIDE, 33, 96, 0xffffffff);
     try_rings(PARNUSILD_KIND_WIDE, 32, 97, 0xffffffff);

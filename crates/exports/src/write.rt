@@ -2,8 +2,8 @@
 ghost use Rattle.recording_format.specs.Words.{Words};
 ghost use Rattle.exports.specs.Wrote.{Wrote};
 
-// Writes a recording of the kind that is told, 253 or 254, from numbers: the refusal, 0 for none, and its place; for none, how many bytes were written. Each number has 32 bits:
-// `numbers` hands that fact on, as the writer's does.
+// Writes a recording of the kind that is told, 253 or 254, from numbers: the refusal, 0 for none, and its place; for none, how many bytes were
+// written. Each number has 32 bits: `numbers` hands that fact on, as the writer's does.
 #[no_mangle]
 pub extern "C" fn parnusild_write_32_96(
     kind: u32,
