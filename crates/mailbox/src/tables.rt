@@ -11,6 +11,7 @@ use mailbox_base::numbers::LINKS;
 use mailbox_base::numbers::TASKS;
 use mailbox_layout::CONTROL;
 use mailbox_layout::DEFAULT;
+use mailbox_layout::Link;
 use mailbox_layout::VALUES;
 use mailbox_layout::fresh::fill_cells;
 use mailbox_layout::fresh::put_link;
@@ -32,15 +33,13 @@ pub(crate) fn put_links(
     let end = few(n, LINKS);
     let mut l = 0;
     while l < end {
-        put_link(
-            control,
-            values,
-            l,
-            writer[l],
-            reader[l],
-            kind[l],
-            start_value[l],
-        );
+        let link = Link {
+            writer: writer[l],
+            reader: reader[l],
+            kind: kind[l],
+            start_value: start_value[l],
+        };
+        put_link(control, values, l, link);
         l += 1;
     }
 }

@@ -8,6 +8,7 @@ use Rattle.protocol_state.specs.Records.{Task, defaultOf, Link}
 use Rattle.protocol_state.specs.Saved.{stateRoom, at, positions}
 use Rattle.protocol_state.specs.Fresh.{column, filled}
 use Rattle.regions.specs.Regions.{region}
+use Rattle.mailbox_layout.specs.declared.Link.{Link as ByValue}
 use Rattle.mailbox_layout.specs.Layout.{writerRegion, readerRegion, kindRegion, startValueRegion}
 
 -- the control of a fresh state with the links ls, region by region: every task idle, newest and previous at 1, no arrivals; every pointer absent, no marks
@@ -39,6 +40,10 @@ freshValues ts ls =
 -- with the number x at place l of region k
 abbrev pub withNumber : ℕ → ℕ → ℕ → List (List ℕ) → List (List ℕ)
 withNumber k l x rs = set rs k (set (region rs k) l x)
+
+-- a link by value is this link of a table
+abbrev pub asRecord : ByValue → Link
+asRecord k = record { writer = k .writer; reader = k .reader; kind = k .kind; startValue = k .«start_value» }
 
 -- the link k put at place l: in the control its writer, reader and kind
 abbrev pub linkPut : List (List ℕ) → ℕ → Link → List (List ℕ)

@@ -3,11 +3,12 @@ ghost use mathlib.Core.Path.{_≡_};
 ghost use mathlib.Core.List.{[]};
 ghost use lib.ListN.{set};
 ghost use Rattle.mailbox_layout.specs.Layout.{cellRegion, cut, cutValues, cellsIn, defaultsIn};
-ghost use Rattle.mailbox_layout.specs.Fresh.{freshControl, linkPut, startPut, eachDefault};
+ghost use Rattle.mailbox_layout.specs.Fresh.{freshControl, asRecord, linkPut, startPut, eachDefault};
 use crate::CELL;
 use crate::CONTROL;
 use crate::DEFAULT;
 use crate::KIND;
+use crate::Link;
 use crate::NEWEST;
 use crate::PREVIOUS;
 use crate::READER;
@@ -36,22 +37,14 @@ pub fn fresh_control() -> [u8; CONTROL]
 }
 
 // Puts link `l`: its writer, its reader and its kind into the control, its start value into the values.
-pub fn put_link(
-    control: &mut [u8; CONTROL],
-    values: &mut [u32; VALUES],
-    l: usize,
-    w: u8,
-    r: u8,
-    k: u8,
-    v: u32,
-)
-    ensures control { λ _. ⌜ cut (now (control .exit)) ≡ linkPut (cut (now (control .entry))) l (record { writer = w; reader = r; kind = k; startValue = v }) ⌝ }
-    ensures values { λ _. ⌜ cutValues (now (values .exit)) ≡ startPut (cutValues (now (values .entry))) l (record { writer = w; reader = r; kind = k; startValue = v }) ⌝ }
+pub fn put_link(control: &mut [u8; CONTROL], values: &mut [u32; VALUES], l: usize, link: Link)
+    ensures control { λ _. ⌜ cut (now (control .exit)) ≡ linkPut (cut (now (control .entry))) l (asRecord link) ⌝ }
+    ensures values { λ _. ⌜ cutValues (now (values .exit)) ≡ startPut (cutValues (now (values .entry))) l (asRecord link) ⌝ }
 {
-    put_control(control, WRITER, l, w);
-    put_control(control, READER, l, r);
-    put_control(control, KIND, l, k);
-    put_value(values, START_VALUE, l, v);
+    put_control(control, WRITER, l, link.writer);
+    put_control(control, READER, l, link.reader);
+    put_control(control, KIND, l, link.kind);
+    put_value(values, START_VALUE, l, link.start_value);
 }
 
 // Each position of a task holds its default.

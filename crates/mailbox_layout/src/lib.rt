@@ -55,6 +55,14 @@ const CELLS_FROM: usize = TASKS + LINKS;
 // The numbers of a state's values.
 pub const VALUES: usize = CELLS_FROM + CELLS;
 
+// A link of a table, by value.
+pub struct Link {
+    pub writer: u8,
+    pub reader: u8,
+    pub kind: u8,
+    pub start_value: u32,
+}
+
 // Where place `i` of region `k` of the control stands, by task or by link: at the end, if there is no such place.
 fn control_place(k: usize, i: usize) -> usize
     ensures { λ r. ⌜ r ≡ place controlWidths k i ⌝ }

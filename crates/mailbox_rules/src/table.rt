@@ -1,12 +1,13 @@
 // The rules of a table, refusals 2 to 9 and 20.
 ghost use mathlib.Core.Path.{_≡_};
-ghost use mathlib.Core.Bool.{cond};
+ghost use mathlib.Core.Bool.{Bool, cond};
 ghost use mathlib.Core.List.{List};
 ghost use Prim.Native.Nat.{ℕ, _≤_, _<_, min};
 ghost use lib.Dec.{eqb};
 ghost use Rattle.lists.specs.Lists.{leading};
 ghost use Rattle.protocol_state.specs.Saved.{stateRoom};
 ghost use Rattle.mailbox_layout.specs.Layout.{linkHeld};
+ghost use Rattle.mailbox_layout.specs.Fresh.{asRecord};
 ghost use Rattle.protocol_state.specs.Rules.{faultOf, faultAfter, fault, judgedTable};
 ghost use Rattle.protocol_state.specs.Records.{earlier};
 use crate::links::has_pair;
@@ -16,6 +17,7 @@ use mailbox_base::numbers::TASKS;
 use mailbox_base::numbers::pick;
 use mailbox_layout::CONTROL;
 use mailbox_layout::KIND;
+use mailbox_layout::Link;
 use mailbox_layout::READER;
 use mailbox_layout::START_VALUE;
 use mailbox_layout::VALUES;
@@ -23,36 +25,33 @@ use mailbox_layout::WRITER;
 use mailbox_layout::control_at;
 use mailbox_layout::value_at;
 
-// The refusal that a link from `w` to `r` of kind `k` with start value `v` earns, the lowest that applies; `twice` and `n` speak of its
-// writer's earlier links.
-fn fault_of(tasks: usize, w: u8, r: u8, k: u8, v: u32, twice: bool, n: usize) -> u8
-    ensures { λ res. ⌜ res ≡ faultOf earlier tasks (record { writer = w; reader = r; kind = k; startValue = v }) twice n ⌝ }
+// The refusal that a link earns, the lowest that applies: `behind` says that its reader is behind its writer, `front` that it is ahead;
+// `twice` and `n` speak of its writer's earlier links.
+fn fault_of(tasks: usize, link: Link, behind: bool, front: bool, twice: bool, n: usize) -> u8
+    ensures { λ res. ⌜ ((ahead : ℕ → ℕ → Bool) → behind ≡ ahead (link .writer) (link .reader) → front ≡ ahead (link .reader) (link .writer) → res ≡ faultOf ahead tasks (asRecord link) twice n) ⌝ }
 {
-    let twenty = pick((k == 0) & !(v == 0), 20, 0);
-    let nine = pick((w < r) & (8 <= n), 9, twenty);
+    let w = link.writer;
+    let r = link.reader;
+    let k = link.kind;
+    let twenty = pick((k == 0) & !(link.start_value == 0), 20, 0);
+    let nine = pick(behind & (8 <= n), 9, twenty);
     let eight = pick(twice, 8, nine);
-    let seven = pick((k == 0) & (r < w), 7, eight);
+    let seven = pick((k == 0) & front, 7, eight);
     let six = pick(1 < k, 6, seven);
     let five = pick((k == 0) & (w == r), 5, six);
     pick((tasks <= w as usize) | (tasks <= r as usize), 4, five)
 }
 
-// The refusal that a link from `w` to `r` of kind `k` with start value `v` earns after the first `n` links, no more than there is room
-// for. Whatever start values these have, it is the same.
-pub fn fault_after(
-    tasks: usize,
-    control: &[u8; CONTROL],
-    n: usize,
-    w: u8,
-    r: u8,
-    k: u8,
-    v: u32,
-) -> u8
-    ensures { λ res. ⌜ ((b : List ℕ) → res ≡ faultAfter earlier tasks (linkHeld (now (control .entry)) b) (min n (stateRoom .links)) (record { writer = w; reader = r; kind = k; startValue = v })) ⌝ }
+// The refusal that a link earns after the first `n` links, no more than there is room for. Whatever start values these have, it is the
+// same.
+pub fn fault_after(tasks: usize, control: &[u8; CONTROL], n: usize, link: Link) -> u8
+    ensures { λ res. ⌜ ((b : List ℕ) → res ≡ faultAfter earlier tasks (linkHeld (now (control .entry)) b) (min n (stateRoom .links)) (asRecord link)) ⌝ }
 {
+    let w = link.writer;
+    let r = link.reader;
     let twice = has_pair(control, n, w, r);
-    let behind = readers_behind(control, n, w as usize);
-    fault_of(tasks, w, r, k, v, twice, behind)
+    let count = readers_behind(control, n, w as usize);
+    fault_of(tasks, link, w < r, r < w, twice, count)
 }
 
 // The refusal that link `l` earns, 0 for none.
@@ -60,15 +59,13 @@ fn fault_at(tasks: usize, control: &[u8; CONTROL], values: &[u32; VALUES], l: us
     requires { ⌜ l < stateRoom .links ⌝ }
     ensures { λ r. ⌜ r ≡ fault earlier tasks (linkHeld (now (control .entry)) (now (values .entry))) l ⌝ }
 {
-    fault_after(
-        tasks,
-        control,
-        l,
-        control_at(control, WRITER, l),
-        control_at(control, READER, l),
-        control_at(control, KIND, l),
-        value_at(values, START_VALUE, l),
-    )
+    let link = Link {
+        writer: control_at(control, WRITER, l),
+        reader: control_at(control, READER, l),
+        kind: control_at(control, KIND, l),
+        start_value: value_at(values, START_VALUE, l),
+    };
+    fault_after(tasks, control, l, link)
 }
 
 // The first fault: `before` where there is one, else that of link `l`.

@@ -29,20 +29,20 @@ loop-holds : tie.Need-loop-holds Inv-loop μ-loop
 unfolding upward
 loop-holds c = (omega arith, (λ e. e, λ ts e. e))
 
-element-copy-out-put-link : tie.Need-element-copy-out-put-link Inv-loop μ-loop
-element-copy-out-put-link c = search needs
+element-copy-out-t14 : tie.Need-element-copy-out-t14 Inv-loop μ-loop
+element-copy-out-t14 c = search needs
 
-element-copy-out-put-link-2 : tie.Need-element-copy-out-put-link-2 Inv-loop μ-loop
-element-copy-out-put-link-2 c = search needs
+element-copy-out-t17 : tie.Need-element-copy-out-t17 Inv-loop μ-loop
+element-copy-out-t17 c = search needs
 
-element-copy-out-put-link-3 : tie.Need-element-copy-out-put-link-3 Inv-loop μ-loop
-element-copy-out-put-link-3 c = search needs
+element-copy-out-t20 : tie.Need-element-copy-out-t20 Inv-loop μ-loop
+element-copy-out-t20 c = search needs
 
-mul-put-link : tie.Need-mul-put-link Inv-loop μ-loop
-mul-put-link c = search needs
+mul-t21 : tie.Need-mul-t21 Inv-loop μ-loop
+mul-t21 c = search needs
 
-element-copy-out-put-link-4 : tie.Need-element-copy-out-put-link-4 Inv-loop μ-loop
-element-copy-out-put-link-4 c = search needs
+element-copy-out-t24 : tie.Need-element-copy-out-t24 Inv-loop μ-loop
+element-copy-out-t24 c = search needs
 
 put-link-requires : tie.Need-put-link-requires Inv-loop μ-loop
 put-link-requires c κs = search needs
@@ -81,11 +81,11 @@ put-links-spec =
     μ-loop
     few-requires
     loop-holds
-    element-copy-out-put-link
-    element-copy-out-put-link-2
-    element-copy-out-put-link-3
-    mul-put-link
-    element-copy-out-put-link-4
+    element-copy-out-t14
+    element-copy-out-t17
+    element-copy-out-t20
+    mul-t21
+    element-copy-out-t24
     put-link-requires
     add-l
     loop-less

@@ -24,7 +24,7 @@ returns c =
     let p = c .before .before in
     let a = p .before .before .before .before .before .before .args in (
       p .put-control3 .ensures
-          ∙ ap (withNumber kindRegion (a .l) (a .k)) (p .before .before .put-control2 .ensures ∙ ap (withNumber readerRegion (a .l) (a .r)) (p .before .before .before .before .put-control .ensures)),
+          ∙ ap (withNumber kindRegion (a .l) (a .link .kind)) (p .before .before .put-control2 .ensures ∙ ap (withNumber readerRegion (a .l) (a .link .reader)) (p .before .before .before .before .put-control .ensures)),
       c .put-value .ensures,
     )
 

@@ -22,12 +22,20 @@ pick-requires-5 c κs = search needs
 pick-requires-6 : tie.Need-pick-requires-6
 pick-requires-6 c κs = search needs
 
+cast-pick : tie.Need-cast-pick
+cast-pick c = search needs
+
+cast-pick-2 : tie.Need-cast-pick-2
+cast-pick-2 c = search needs
+
 pick-requires-7 : tie.Need-pick-requires-7
 pick-requires-7 c κs = search needs
 
 returns : tie.Need-returns
-returns c =
+returns c ahead b f =
     rw (
+      ← b,
+      ← f,
       c .pick7 .ensures,
       c .before .pick6 .ensures,
       c .before .before .pick5 .ensures,
@@ -47,5 +55,7 @@ fault-of-spec =
     pick-requires-4
     pick-requires-5
     pick-requires-6
+    cast-pick
+    cast-pick-2
     pick-requires-7
     returns)
