@@ -1,0 +1,55 @@
+-- A plan, flag by flag, and what a flag says.
+-- Assumes nothing.
+use mathlib.Core.Path.{_≡_, refl, ap, _∙_}
+use mathlib.Core.Bool.{Bool, true, false, cond}
+use mathlib.Core.List.{List}
+use Prim.Native.Nat.{ℕ, _+_, _≤_, _<_}
+use native.Mathlib.Nat.{le-antisymm}
+use native.Mathlib.Omega.{arith}
+use borrow.Author.Tests.{eqb-true, eqb-false}
+use lib.Dec.{eqb}
+use lib.ListN.{length, set}
+use lib.Seq.{getD-set-same, getD-set-other}
+use Rattle.protocol_state.specs.Saved.{stateRoom}
+use Rattle.mailbox_free.specs.Pattern.{patterns, AllLowest}
+use Rattle.mailbox_plan.specs.Plan.{planSize, flagAt, Planned}
+
+digit : (b : Bool) → eqb (cond b 1 0) 1 ≡ b
+digit true = refl
+digit false = refl
+
+module _ {ahead : ℕ → ℕ → Bool} {W R : ℕ → ℕ} where
+  -- of no link nothing is said
+  pub plan-none : {plan : List ℕ} → AllLowest plan → Planned ahead W R 0 plan
+  plan-none a = record { lowest = a; flag = λ l h. absurd (omega arith) }
+
+  -- one flag more keeps the plan
+  pub plan-more :
+      (n : ℕ) (plan : List ℕ) {plan′ : List ℕ} {b : Bool} → Planned ahead W R n plan → length plan ≡ planSize → n < stateRoom .links → b ≡ ahead (W n) (R n) →
+      plan′ ≡ set plan (patterns + n) (cond b 1 0) → Planned ahead W R (n + 1) plan′
+  plan-more n plan {plan′} {b} p size room e s = rw (s, e) record {
+    lowest = record { entry = λ k h. getD-set-other plan (patterns + n) k x 0 (omega arith) ∙ p .lowest .entry k h };
+    flag = λ l h. go l h (eqb l n) refl;
+  } where
+    x : ℕ
+    x = cond (ahead (W n) (R n)) 1 0
+
+    go : (l : ℕ) → l < n + 1 → (c : Bool) → eqb l n ≡ c → flagAt (set plan (patterns + n) x) l ≡ cond (ahead (W l) (R l)) 1 0
+    go l h true i =
+        let same : l ≡ n = eqb-true l n i in
+        rw same (getD-set-same plan (patterns + n) x 0 (omega arith))
+    go l h false i =
+        let other = eqb-false l n i in
+        getD-set-other plan (patterns + n) (patterns + l) x 0 (omega (arith, other)) ∙ p .flag l (omega arith)
+
+  pub plan-end : (i n : ℕ) {plan : List ℕ} → Planned ahead W R i plan → i ≤ n → n ≤ i → Planned ahead W R n plan
+  plan-end i n p l h = rw (← le-antisymm l h) p
+
+  -- what the flag of a link says
+  pub flag-says : {n : ℕ} {plan : List ℕ} (l : ℕ) → Planned ahead W R n plan → l < n → eqb (flagAt plan l) 1 ≡ ahead (W l) (R l)
+  flag-says l p h = ap (λ (x : ℕ). eqb x 1) (p .flag l h) ∙ digit (ahead (W l) (R l))
+
+-- the plan of links is that of others that agree with them
+pub plan-same : {ahead : ℕ → ℕ → Bool} {W R W′ R′ : ℕ → ℕ} {n : ℕ} {plan : List ℕ} → ((l : ℕ) → l < n → W l ≡ W′ l) → ((l : ℕ) → l < n → R l ≡ R′ l) → Planned ahead W R n plan →
+    Planned ahead W′ R′ n plan
+plan-same w r p = record { lowest = p .lowest; flag = λ l h. rw (← w l h, ← r l h) (p .flag l h) }

@@ -1,0 +1,2 @@
+-- What a plan says.
+pub mod Plan
