@@ -42,7 +42,7 @@ pub has-none : (p : ℕ) → has 0 p ≡ false
 has-none p = has-not 0 0 p (omega arith) (omega arith)
 
 -- ---- one bit
-digit : (b : Bool) → eqb (cond b 1 0) 1 ≡ b
+pub digit : (b : Bool) → eqb (cond b 1 0) 1 ≡ b
 digit true = refl
 digit false = refl
 

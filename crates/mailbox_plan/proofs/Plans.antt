@@ -1,7 +1,7 @@
 -- A plan, flag by flag, and what a flag says.
 -- Assumes nothing.
 use mathlib.Core.Path.{_≡_, refl, ap, _∙_}
-use mathlib.Core.Bool.{Bool, true, false, cond}
+use mathlib.Core.Bool.{Bool, true, false, cond, _&&_}
 use mathlib.Core.List.{List}
 use Prim.Native.Nat.{ℕ, _+_, _≤_, _<_}
 use native.Mathlib.Nat.{le-antisymm}
@@ -10,13 +10,17 @@ use borrow.Author.Tests.{eqb-true, eqb-false}
 use lib.Dec.{eqb}
 use lib.ListN.{length, set}
 use lib.Seq.{getD-set-same, getD-set-other}
-use Rattle.protocol_state.specs.Saved.{stateRoom}
+use Rattle.protocol_state.specs.Saved.{at, stateRoom}
 use Rattle.mailbox_free.specs.Pattern.{patterns, AllLowest}
+use Rattle.mailbox_free.proofs.TakenBits.{digit}
 use Rattle.mailbox_plan.specs.Plan.{planSize, flagAt, Planned}
 
-digit : (b : Bool) → eqb (cond b 1 0) 1 ≡ b
-digit true = refl
-digit false = refl
+-- a test of x where x is y is one of y
+tested-at : (f : ℕ → Bool) (x y : ℕ) → (eqb x y && f x) ≡ (eqb x y && f y)
+tested-at f x y = go (eqb x y) refl where
+  go : (b : Bool) → eqb x y ≡ b → (b && f x) ≡ (b && f y)
+  go true e = ap f (eqb-true x y e)
+  go false e = refl
 
 module _ {ahead : ℕ → ℕ → Bool} {W R : ℕ → ℕ} where
   -- of no link nothing is said
@@ -49,7 +53,19 @@ module _ {ahead : ℕ → ℕ → Bool} {W R : ℕ → ℕ} where
   pub flag-says : {n : ℕ} {plan : List ℕ} (l : ℕ) → Planned ahead W R n plan → l < n → eqb (flagAt plan l) 1 ≡ ahead (W l) (R l)
   flag-says l p h = ap (λ (x : ℕ). eqb x 1) (p .flag l h) ∙ digit (ahead (W l) (R l))
 
+  -- so where task t writes by it, that t is ahead of its reader
+  pub flag-from : {n : ℕ} {plan : List ℕ} (l t : ℕ) → Planned ahead W R n plan → l < n → (eqb (W l) t && eqb (flagAt plan l) 1) ≡ (eqb (W l) t && ahead t (R l))
+  flag-from l t p h = rw (flag-says l p h) (tested-at (λ w. ahead w (R l)) (W l) t)
+
+  -- and where t reads by it, that its writer is ahead of t
+  pub flag-to : {n : ℕ} {plan : List ℕ} (l t : ℕ) → Planned ahead W R n plan → l < n → (eqb (R l) t && eqb (flagAt plan l) 1) ≡ (eqb (R l) t && ahead (W l) t)
+  flag-to l t p h = rw (flag-says l p h) (tested-at (ahead (W l)) (R l) t)
+
 -- the plan of links is that of others that agree with them
 pub plan-same : {ahead : ℕ → ℕ → Bool} {W R W′ R′ : ℕ → ℕ} {n : ℕ} {plan : List ℕ} → ((l : ℕ) → l < n → W l ≡ W′ l) → ((l : ℕ) → l < n → R l ≡ R′ l) → Planned ahead W R n plan →
     Planned ahead W′ R′ n plan
 plan-same w r p = record { lowest = p .lowest; flag = λ l h. rw (← w l h, ← r l h) (p .flag l h) }
+
+-- and that of a state is that of another with the same writers and readers
+pub plan-kept : {ahead : ℕ → ℕ → Bool} {W R W′ R′ : List ℕ} {n : ℕ} {plan : List ℕ} → W′ ≡ W → R′ ≡ R → Planned ahead (at W) (at R) n plan → Planned ahead (at W′) (at R′) n plan
+plan-kept w r p = rw (w, r) p
