@@ -1,8 +1,8 @@
 // What an arrival does: the writers' part, with the phases, then the readers' part.
 ghost use mathlib.Core.Path.{_≡_};
-ghost use mathlib.Core.Bool.{cond, _&&_};
+ghost use mathlib.Core.Bool.{Bool, cond, _&&_};
 ghost use Prim.Native.Nat.{ℕ, _≤_, _<_, min};
-ghost use lib.Dec.{eqb, ltb};
+ghost use lib.Dec.{eqb};
 ghost use Rattle.lists.specs.Lists.{some};
 ghost use Rattle.protocol.specs.Event.{has};
 ghost use Rattle.protocol.specs.Table.{marked};
@@ -10,10 +10,9 @@ ghost use Rattle.protocol.specs.Published.{seenOnce};
 ghost use Rattle.protocol.specs.Free.{holds, lowestFree};
 ghost use Rattle.protocol_state.specs.Saved.{at, stateRoom, delayedKind};
 ghost use Rattle.protocol_state.specs.Next.{arrived};
-ghost use Rattle.protocol_state.specs.Records.{earlier};
 ghost use Rattle.mailbox_free.specs.Bits.{lastBit};
-ghost use Rattle.mailbox_free.specs.Pattern.{AllLowest};
 ghost use Rattle.mailbox_layout.specs.Layout.{Becomes, newestIn, previousIn, pointerIn, writerIn, readerIn};
+ghost use Rattle.mailbox_plan.specs.Plan.{Planned};
 ghost use Rattle.mailbox_arrival.specs.Arrives.{movedAt, moved, pointedAt, pointed};
 use lists::few;
 use mailbox_base::decision::ARRIVAL;
@@ -24,7 +23,7 @@ use mailbox_base::numbers::has;
 use mailbox_base::numbers::pick;
 use mailbox_free::bits::lowest_outside;
 use mailbox_free::bits::taken_bit;
-use mailbox_free::table::PATTERNS;
+use mailbox_free::table::PLAN;
 use mailbox_layout::CONTROL;
 use mailbox_layout::KIND;
 use mailbox_layout::MARK;
@@ -37,31 +36,32 @@ use mailbox_layout::SEEN;
 use mailbox_layout::WRITER;
 use mailbox_layout::control_at;
 use mailbox_layout::put_control;
+use mailbox_plan::goes_behind;
 
-// Whether a link with this writer and reader is one of task `t`'s to readers behind.
-fn is_behind(w: u8, r: u8, t: u8) -> bool
-    ensures { λ res. ⌜ res ≡ (eqb w t && ltb t r) ⌝ }
+// Whether a link with this writer and this flag is one of task `t`'s to readers behind.
+fn is_behind(w: u8, behind: bool, t: u8) -> bool
+    ensures { λ r. ⌜ r ≡ (eqb w t && behind) ⌝ }
 {
-    (w == t) & (t < r)
+    (w == t) & behind
 }
 
 // Whether such a link, with pointer `x`, holds position `p`.
-fn holds_at(w: u8, r: u8, x: u8, t: u8, p: u8) -> bool
-    ensures { λ res. ⌜ res ≡ ((eqb w t && ltb t r) && eqb x p) ⌝ }
+fn holds_at(w: u8, behind: bool, x: u8, t: u8, p: u8) -> bool
+    ensures { λ r. ⌜ r ≡ ((eqb w t && behind) && eqb x p) ⌝ }
 {
-    is_behind(w, r, t) & (x == p)
+    is_behind(w, behind, t) & (x == p)
 }
 
 // Whether one of the links holds position `p` of task `t`.
-fn held(control: &[u8; CONTROL], links: usize, t: u8, p: u8) -> bool
-    ensures { λ r. ⌜ r ≡ some (holds earlier (at (writerIn (now (control .entry)))) (at (readerIn (now (control .entry)))) (at (pointerIn (now (control .entry)))) t p) links ⌝ }
+fn held(plan: &[u8; PLAN], control: &[u8; CONTROL], links: usize, t: u8, p: u8) -> bool
+    ensures { λ r. ⌜ ((ahead : ℕ → ℕ → Bool) → Planned ahead (at (writerIn (now (control .entry)))) (at (readerIn (now (control .entry)))) links (now (plan .entry)) → r ≡ some (holds ahead (at (writerIn (now (control .entry)))) (at (readerIn (now (control .entry)))) (at (pointerIn (now (control .entry)))) t p) links) ⌝ }
 {
     let mut found = false;
     let mut l = 0;
     while l < links {
         found = holds_at(
             control_at(control, WRITER, l),
-            control_at(control, READER, l),
+            goes_behind(plan, l),
             control_at(control, POINTER, l),
             t,
             p,
@@ -73,15 +73,15 @@ fn held(control: &[u8; CONTROL], links: usize, t: u8, p: u8) -> bool
 }
 
 // The bits of the positions of task `t` that the links hold.
-fn held_bits(control: &[u8; CONTROL], links: usize, t: u8) -> u16
-    ensures { λ r. ⌜ ((p : ℕ) → p < lastBit → has r p ≡ some (holds earlier (at (writerIn (now (control .entry)))) (at (readerIn (now (control .entry)))) (at (pointerIn (now (control .entry)))) t p) links) ⌝ }
+fn held_bits(plan: &[u8; PLAN], control: &[u8; CONTROL], links: usize, t: u8) -> u16
+    ensures { λ r. ⌜ ((ahead : ℕ → ℕ → Bool) → Planned ahead (at (writerIn (now (control .entry)))) (at (readerIn (now (control .entry)))) links (now (plan .entry)) → (p : ℕ) → p < lastBit → has r p ≡ some (holds ahead (at (writerIn (now (control .entry)))) (at (readerIn (now (control .entry)))) (at (pointerIn (now (control .entry)))) t p) links) ⌝ }
 {
     let mut bits = 0;
     let mut l = 0;
     while l < links {
         let w = control_at(control, WRITER, l);
-        let r = control_at(control, READER, l);
-        bits = taken_bit(is_behind(w, r, t), control_at(control, POINTER, l)) | bits;
+        let behind = goes_behind(plan, l);
+        bits = taken_bit(is_behind(w, behind, t), control_at(control, POINTER, l)) | bits;
         l += 1;
     }
     bits
@@ -89,14 +89,17 @@ fn held_bits(control: &[u8; CONTROL], links: usize, t: u8) -> u16
 
 // The lowest free position of task `t`, whose newest is `x`. Mostly no link holds the lowest position other than `x`, and one look at the
 // links shows it; else it is looked up. Where the links keep the rules at most nine of ten positions are taken, so the tenth needs no test.
-fn lowest_free(lowest: &[u8; PATTERNS], control: &[u8; CONTROL], links: usize, t: u8, x: u8) -> u8
-    ensures { λ r. ⌜ (AllLowest (now (lowest .entry)) → r ≡ lowestFree earlier (at (writerIn (now (control .entry)))) (at (readerIn (now (control .entry)))) (at (pointerIn (now (control .entry)))) links t x) ⌝ }
+fn lowest_free(plan: &[u8; PLAN], control: &[u8; CONTROL], links: usize, t: u8, x: u8) -> u8
+    ensures { λ r. ⌜ ((ahead : ℕ → ℕ → Bool) → Planned ahead (at (writerIn (now (control .entry)))) (at (readerIn (now (control .entry)))) links (now (plan .entry)) → r ≡ lowestFree ahead (at (writerIn (now (control .entry)))) (at (readerIn (now (control .entry)))) (at (pointerIn (now (control .entry)))) links t x) ⌝ }
 {
     let next = pick(x == 1, 2, 1);
-    if !held(control, links, t, next) {
+    if !held(plan, control, links, t, next) {
         return next;
     }
-    lowest_outside(lowest, taken_bit(true, x) | held_bits(control, links, t))
+    lowest_outside(
+        plan,
+        taken_bit(true, x) | held_bits(plan, control, links, t),
+    )
 }
 
 // One arrival more, where no, one or more (0, 1, 2) were seen.
@@ -108,15 +111,15 @@ fn seen_once(a: u8) -> u8
 
 // The writers' part for task `t`, where it is in the set: its newest position becomes its previous, its lowest free one its newest,
 // one more of its arrivals is seen, and it is waiting.
-fn move_task(lowest: &[u8; PATTERNS], set: u32, t: usize, links: usize, control: &mut [u8; CONTROL])
+fn move_task(plan: &[u8; PLAN], set: u32, t: usize, links: usize, control: &mut [u8; CONTROL])
     requires { ⌜ t < stateRoom .tasks ⌝ }
-    ensures { λ _. ⌜ (AllLowest (now (lowest .entry)) → (T : ℕ) → Becomes (movedAt set t) T links (now (control .entry)) (now (control .exit))) ⌝ }
+    ensures { λ _. ⌜ ((ahead : ℕ → ℕ → Bool) → Planned ahead (at (writerIn (now (control .entry)))) (at (readerIn (now (control .entry)))) links (now (plan .entry)) → (T : ℕ) → Becomes (movedAt ahead set t) T links (now (control .entry)) (now (control .exit))) ⌝ }
 {
     if !has(set, t) {
         return;
     }
     let x = control_at(control, NEWEST, t);
-    let free = lowest_free(lowest, control, links, t as u8, x);
+    let free = lowest_free(plan, control, links, t as u8, x);
     let phase = decide(ARRIVAL, control_at(control, PHASE, t));
     let seen = seen_once(control_at(control, SEEN, t));
     put_control(control, PREVIOUS, t, x);
@@ -126,19 +129,13 @@ fn move_task(lowest: &[u8; PATTERNS], set: u32, t: usize, links: usize, control:
 }
 
 // The writers' part: each task of the set moves.
-fn move_tasks(
-    lowest: &[u8; PATTERNS],
-    set: u32,
-    tasks: usize,
-    links: usize,
-    control: &mut [u8; CONTROL],
-)
+fn move_tasks(plan: &[u8; PLAN], set: u32, tasks: usize, links: usize, control: &mut [u8; CONTROL])
     requires { ⌜ tasks ≤ stateRoom .tasks ⌝ }
-    ensures { λ _. ⌜ (AllLowest (now (lowest .entry)) → (T : ℕ) → Becomes (moved set tasks) T links (now (control .entry)) (now (control .exit))) ⌝ }
+    ensures { λ _. ⌜ ((ahead : ℕ → ℕ → Bool) → Planned ahead (at (writerIn (now (control .entry)))) (at (readerIn (now (control .entry)))) links (now (plan .entry)) → (T : ℕ) → Becomes (moved ahead set tasks) T links (now (control .entry)) (now (control .exit))) ⌝ }
 {
     let mut t = 0;
     while t < tasks {
-        move_task(lowest, set, t, links, control);
+        move_task(plan, set, t, links, control);
         t += 1;
     }
 }
@@ -189,17 +186,11 @@ fn point_links(set: u32, links: usize, control: &mut [u8; CONTROL])
 }
 
 // An arrival that is allowed. The order matters: the readers' part comes after the writers'. Counts above the room are taken as the room.
-// `lowest` is the table of free positions, which is lent so that it is not made anew at each arrival; of any other array nothing is said.
-pub fn arrive(
-    lowest: &[u8; PATTERNS],
-    set: u32,
-    tasks: usize,
-    links: usize,
-    control: &mut [u8; CONTROL],
-)
-    ensures { λ _. ⌜ (AllLowest (now (lowest .entry)) → Becomes (arrived earlier set) (min tasks (stateRoom .tasks)) (min links (stateRoom .links)) (now (control .entry)) (now (control .exit))) ⌝ }
+// What is done is said under any order that the plan is right for. The plan is lent so that it is not made anew at each arrival.
+pub fn arrive(plan: &[u8; PLAN], set: u32, tasks: usize, links: usize, control: &mut [u8; CONTROL])
+    ensures { λ _. ⌜ ((ahead : ℕ → ℕ → Bool) → Planned ahead (at (writerIn (now (control .entry)))) (at (readerIn (now (control .entry)))) (min links (stateRoom .links)) (now (plan .entry)) → Becomes (arrived ahead set) (min tasks (stateRoom .tasks)) (min links (stateRoom .links)) (now (control .entry)) (now (control .exit))) ⌝ }
 {
     let n = few(links, LINKS);
-    move_tasks(lowest, set, few(tasks, TASKS), n, control);
+    move_tasks(plan, set, few(tasks, TASKS), n, control);
     point_links(set, n, control);
 }

@@ -13,7 +13,6 @@ use Rattle.protocol.specs.Event.{has}
 use Rattle.protocol.specs.Free.{holds}
 use Rattle.mailbox_layout.specs.Layout.{writerIn, readerIn, pointerIn}
 use Rattle.protocol_state.specs.Saved.{at}
-use Rattle.protocol_state.specs.Records.{earlier}
 use Rattle.mailbox_free.proofs.TakenBits.{has-or, has-taken}
 use Rattle.mailbox_arrival.proofs.Other.{other-than}
 use Rattle.mailbox_arrival.proofs.lowest_free.Statement.{statement}
@@ -26,11 +25,11 @@ held-requires : tie.Need-held-requires
 held-requires c κs = search needs
 
 returns : tie.Need-returns
-returns c right =
+returns c ahead right =
     let a = c .before .before .before .args in
-    let taken : ℕ → Bool = λ (p : ℕ). some (holds earlier (at (writerIn (a .control .now))) (at (readerIn (a .control .now))) (at (pointerIn (a .control .now))) (a .t) p) (a .links) in
+    let taken : ℕ → Bool = λ (p : ℕ). some (holds ahead (at (writerIn (a .control .now))) (at (readerIn (a .control .now))) (at (pointerIn (a .control .now))) (a .t) p) (a .links) in
     c .before .before .pick .ensures
-    ∙ other-than taken (a .x) (ap taken (sym (c .before .before .pick .ensures)) ∙ sym (c .before .held .ensures) ∙ not-true _ (c .if1 .taken))
+    ∙ other-than taken (a .x) (ap taken (sym (c .before .before .pick .ensures)) ∙ sym (c .before .held .ensures ahead right) ∙ not-true _ (c .if1 .taken))
 
 taken-bit-requires : tie.Need-taken-bit-requires
 taken-bit-requires c κs = search needs
@@ -42,14 +41,14 @@ lowest-outside-requires : tie.Need-lowest-outside-requires
 lowest-outside-requires c κs = search needs
 
 returns-2 : tie.Need-returns-2
-returns-2 c right =
+returns-2 c ahead right =
     let x = c .before .before .before .before .before .before .args .x in
-    c .lowest-outside .ensures right
+    c .lowest-outside .ensures (right .lowest)
     ∙ first-same _ _ 9 1
     (λ p l h. has-or _ _ p
     ∙ ap₂ _||_
     (ap (λ (n : ℕ). has n p) (c .before .before .taken-bit .ensures) ∙ has-taken true x p (omega arith))
-    (c .before .held-bits .ensures p (omega arith)))
+    (c .before .held-bits .ensures ahead right p (omega arith)))
 
 pub lowest-free-spec : {M : Type 1} → statement M
 lowest-free-spec = tie.close (tie.spec pick-requires held-requires returns taken-bit-requires held-bits-requires lowest-outside-requires returns-2)

@@ -1,23 +1,29 @@
 -- `mailbox_arrival::move_tasks` meets its contract: after t turns the first t tasks are as the writers' part leaves them.
 -- Assumes nothing.
+use mathlib.Core.Path.{ap}
+use mathlib.Core.Bool.{Bool}
 use Prim.Native.Nat.{ℕ, _≤_, _-_}
 use native.Mathlib.Omega.{arith}
 use borrow.Author.Needs.{needs}
-use Rattle.mailbox_free.specs.Pattern.{AllLowest}
-use Rattle.mailbox_layout.specs.Layout.{Becomes}
+use Rattle.protocol_state.specs.Saved.{Saved, at}
+use Rattle.mailbox_layout.specs.Layout.{Becomes, writerIn, readerIn}
+use Rattle.mailbox_plan.specs.Plan.{Planned}
+use Rattle.mailbox_plan.proofs.Plans.{plan-kept}
 use Rattle.mailbox_arrival.specs.Arrives.{moved}
 use Rattle.mailbox_arrival.proofs.Moves.{moved-none, moved-more, moved-end}
 use Rattle.mailbox_arrival.proofs.move_tasks.Statement.{statement}
 use Rattle.mailbox_arrival.proofs.move_tasks.Tie as tie
 
 abbrev Inv-loop : tie.InvT-loop
-Inv-loop lowest set tasks links control₀ t₀ control t = (t ≤ tasks) × (AllLowest lowest → (T : ℕ) → Becomes (moved set t) T links control₀ control)
+Inv-loop plan set tasks links control₀ t₀ control t =
+    (t ≤ tasks)
+    × ((ahead : ℕ → ℕ → Bool) → Planned ahead (at (writerIn control₀)) (at (readerIn control₀)) links plan → (T : ℕ) → Becomes (moved ahead set t) T links control₀ control)
 
 abbrev μ-loop : tie.MeasureT-loop
-μ-loop lowest set tasks links control₀ t₀ control t = tasks - t
+μ-loop plan set tasks links control₀ t₀ control t = tasks - t
 
 loop-holds : tie.Need-loop-holds Inv-loop μ-loop
-loop-holds c = (omega arith, λ right T n. moved-none _ _)
+loop-holds c = (omega arith, λ ahead right T n. moved-none ahead _ _)
 
 move-task-requires : tie.Need-move-task-requires Inv-loop μ-loop
 move-task-requires c κs = search needs
@@ -29,10 +35,15 @@ loop-less : tie.Need-loop-less Inv-loop μ-loop
 loop-less c = omega arith
 
 loop-again : tie.Need-loop-again Inv-loop μ-loop
-loop-again c = (omega arith, λ right T n. moved-more _ _ _ (c .before .before .before .loop .inv .1 right T n) (c .move-task .ensures right T n))
+loop-again c = (
+  omega arith,
+  λ ahead right T n.
+      let e = c .before .before .before .loop .inv .1 ahead right T n in
+      moved-more ahead _ _ _ e (c .move-task .ensures ahead (plan-kept (ap (λ (q : Saved). q .writer) e) (ap (λ (q : Saved). q .reader) e) right) T n),
+)
 
 returns : tie.Need-returns Inv-loop μ-loop
-returns c right T n = moved-end _ _ _ _ (c .before .loop .inv .1 right T n) (c .before .loop .inv .0) (c .loop-test .left)
+returns c ahead right T n = moved-end ahead _ _ _ _ (c .before .loop .inv .1 ahead right T n) (c .before .loop .inv .0) (c .loop-test .left)
 
 pub move-tasks-spec : {M : Type 1} → statement M
 move-tasks-spec =
