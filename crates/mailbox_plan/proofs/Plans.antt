@@ -4,7 +4,6 @@ use mathlib.Core.Path.{_≡_, refl, ap, _∙_}
 use mathlib.Core.Bool.{Bool, true, false, cond, _&&_}
 use mathlib.Core.List.{List}
 use Prim.Native.Nat.{ℕ, _+_, _≤_, _<_}
-use native.Mathlib.Nat.{le-antisymm}
 use native.Mathlib.Omega.{arith}
 use borrow.Author.Tests.{eqb-true, eqb-false}
 use lib.Dec.{eqb}
@@ -27,6 +26,10 @@ module _ {ahead : ℕ → ℕ → Bool} {W R : ℕ → ℕ} where
   pub plan-none : {plan : List ℕ} → AllLowest plan → Planned ahead W R 0 plan
   plan-none a = record { lowest = a; flag = λ l h. absurd (omega arith) }
 
+  -- the plan of more links is that of the first
+  pub plan-first : {m n : ℕ} {plan : List ℕ} → m ≤ n → Planned ahead W R n plan → Planned ahead W R m plan
+  plan-first h p = record { lowest = p .lowest; flag = λ l i. p .flag l (omega arith) }
+
   -- one flag more keeps the plan
   pub plan-more :
       (n : ℕ) (plan : List ℕ) {plan′ : List ℕ} {b : Bool} → Planned ahead W R n plan → length plan ≡ planSize → n < stateRoom .links → b ≡ ahead (W n) (R n) →
@@ -45,9 +48,6 @@ module _ {ahead : ℕ → ℕ → Bool} {W R : ℕ → ℕ} where
     go l h false i =
         let other = eqb-false l n i in
         getD-set-other plan (patterns + n) (patterns + l) x 0 (omega (arith, other)) ∙ p .flag l (omega arith)
-
-  pub plan-end : (i n : ℕ) {plan : List ℕ} → Planned ahead W R i plan → i ≤ n → n ≤ i → Planned ahead W R n plan
-  plan-end i n p l h = rw (← le-antisymm l h) p
 
   -- what the flag of a link says
   pub flag-says : {n : ℕ} {plan : List ℕ} (l : ℕ) → Planned ahead W R n plan → l < n → eqb (flagAt plan l) 1 ≡ ahead (W l) (R l)

@@ -1,20 +1,22 @@
 // What the first links of a table, no more than there is room for, say of one link more, and of a task.
 ghost use mathlib.Core.Path.{_≡_};
-ghost use mathlib.Core.Bool.{_&&_};
-ghost use Prim.Native.Nat.{_≤_, min};
-ghost use lib.Dec.{eqb, ltb};
+ghost use mathlib.Core.Bool.{Bool, _&&_};
+ghost use Prim.Native.Nat.{ℕ, _≤_, min};
+ghost use lib.Dec.{eqb};
 ghost use Rattle.lists.specs.Lists.{some};
 ghost use Rattle.protocol.specs.Table.{behinds};
 ghost use Rattle.protocol_state.specs.Saved.{at, stateRoom};
-ghost use Rattle.protocol_state.specs.Records.{earlier};
 ghost use Rattle.mailbox_layout.specs.Layout.{writerIn, readerIn};
+ghost use Rattle.mailbox_plan.specs.Plan.{Planned};
 use lists::few;
 use lists::one_if;
 use mailbox_base::numbers::LINKS;
+use mailbox_free::table::PLAN;
 use mailbox_layout::CONTROL;
 use mailbox_layout::READER;
 use mailbox_layout::WRITER;
 use mailbox_layout::control_at;
+use mailbox_plan::goes_behind;
 
 // Whether a link from `w0` to `r0` goes from `w` to `r`.
 fn is_pair(w0: u8, r0: u8, w: u8, r: u8) -> bool
@@ -43,26 +45,23 @@ pub fn has_pair(control: &[u8; CONTROL], n: usize, w: u8, r: u8) -> bool
     found
 }
 
-// Whether a link from `w` to `r` is one of task `t`'s to readers behind.
-fn is_behind(w: u8, r: u8, t: usize) -> bool
-    ensures { λ res. ⌜ res ≡ (eqb w t && ltb t r) ⌝ }
+// Whether a link from `w`, to a reader behind or not, is one of task `t`'s to readers behind.
+fn is_behind(w: u8, behind: bool, t: usize) -> bool
+    ensures { λ res. ⌜ res ≡ (eqb w t && behind) ⌝ }
 {
-    (w as usize == t) & (t < r as usize)
+    (w as usize == t) & behind
 }
 
-// N: how many of the first `n` links are task `t`'s to readers behind.
-pub fn readers_behind(control: &[u8; CONTROL], n: usize, t: usize) -> usize
-    ensures { λ r. ⌜ (r ≡ behinds earlier (at (writerIn (now (control .entry)))) (at (readerIn (now (control .entry)))) t (min n (stateRoom .links))) × (r ≤ stateRoom .links) ⌝ }
+// N: how many of the first `n` links are task `t`'s to readers behind, by their plan.
+pub fn readers_behind(plan: &[u8; PLAN], control: &[u8; CONTROL], n: usize, t: usize) -> usize
+    ensures count { λ r. ⌜ ((ahead : ℕ → ℕ → Bool) → Planned ahead (at (writerIn (now (control .entry)))) (at (readerIn (now (control .entry)))) (min n (stateRoom .links)) (now (plan .entry)) → r ≡ behinds ahead (at (writerIn (now (control .entry)))) (at (readerIn (now (control .entry)))) t (min n (stateRoom .links))) ⌝ }
+    ensures bound { λ r. ⌜ r ≤ stateRoom .links ⌝ }
 {
     let end = few(n, LINKS);
     let mut c = 0;
     let mut l = 0;
     while l < end {
-        c += one_if(is_behind(
-            control_at(control, WRITER, l),
-            control_at(control, READER, l),
-            t,
-        ));
+        c += one_if(is_behind(control_at(control, WRITER, l), goes_behind(plan, l), t));
         l += 1;
     }
     c

@@ -5,9 +5,10 @@ ghost use mathlib.Core.List.{List};
 ghost use Prim.Native.Nat.{ℕ, _≤_, _<_, min};
 ghost use lib.Dec.{eqb};
 ghost use Rattle.lists.specs.Lists.{leading};
-ghost use Rattle.protocol_state.specs.Saved.{stateRoom};
-ghost use Rattle.mailbox_layout.specs.Layout.{linkHeld};
+ghost use Rattle.protocol_state.specs.Saved.{at, stateRoom};
+ghost use Rattle.mailbox_layout.specs.Layout.{writerIn, readerIn, linkHeld};
 ghost use Rattle.mailbox_layout.specs.Fresh.{asRecord};
+ghost use Rattle.mailbox_plan.specs.Plan.{Planned};
 ghost use Rattle.protocol_state.specs.Rules.{faultOf, faultAfter, fault, judgedTable};
 ghost use Rattle.protocol_state.specs.Records.{earlier};
 use crate::links::has_pair;
@@ -15,6 +16,7 @@ use crate::links::readers_behind;
 use mailbox_base::numbers::LINKS;
 use mailbox_base::numbers::TASKS;
 use mailbox_base::numbers::pick;
+use mailbox_free::table::PLAN;
 use mailbox_layout::CONTROL;
 use mailbox_layout::KIND;
 use mailbox_layout::Link;
@@ -24,6 +26,7 @@ use mailbox_layout::VALUES;
 use mailbox_layout::WRITER;
 use mailbox_layout::control_at;
 use mailbox_layout::value_at;
+use mailbox_plan::is_ahead;
 
 // The refusal that a link earns, the lowest that applies: `behind` says that its reader is behind its writer, `front` that it is ahead;
 // `twice` and `n` speak of its writer's earlier links.
@@ -42,22 +45,34 @@ fn fault_of(tasks: usize, link: Link, behind: bool, front: bool, twice: bool, n:
     pick((tasks <= w as usize) | (tasks <= r as usize), 4, five)
 }
 
-// The refusal that a link earns after the first `n` links, no more than there is room for. Whatever start values these have, it is the
-// same.
-pub fn fault_after(tasks: usize, control: &[u8; CONTROL], n: usize, link: Link) -> u8
-    ensures { λ res. ⌜ ((b : List ℕ) → res ≡ faultAfter earlier tasks (linkHeld (now (control .entry)) b) (min n (stateRoom .links)) (asRecord link)) ⌝ }
+// The refusal that a link earns after the first `n` links, no more than there is room for, whose plan is lent. Whatever start values
+// these have, it is the same.
+pub fn fault_after(
+    plan: &[u8; PLAN],
+    tasks: usize,
+    control: &[u8; CONTROL],
+    n: usize,
+    link: Link,
+) -> u8
+    ensures { λ res. ⌜ (Planned earlier (at (writerIn (now (control .entry)))) (at (readerIn (now (control .entry)))) (min n (stateRoom .links)) (now (plan .entry)) → (b : List ℕ) → res ≡ faultAfter earlier tasks (linkHeld (now (control .entry)) b) (min n (stateRoom .links)) (asRecord link)) ⌝ }
 {
     let w = link.writer;
     let r = link.reader;
     let twice = has_pair(control, n, w, r);
-    let count = readers_behind(control, n, w as usize);
-    fault_of(tasks, link, w < r, r < w, twice, count)
+    let count = readers_behind(plan, control, n, w as usize);
+    fault_of(tasks, link, is_ahead(w, r), is_ahead(r, w), twice, count)
 }
 
 // The refusal that link `l` earns, 0 for none.
-fn fault_at(tasks: usize, control: &[u8; CONTROL], values: &[u32; VALUES], l: usize) -> u8
+fn fault_at(
+    plan: &[u8; PLAN],
+    tasks: usize,
+    control: &[u8; CONTROL],
+    values: &[u32; VALUES],
+    l: usize,
+) -> u8
     requires { ⌜ l < stateRoom .links ⌝ }
-    ensures { λ r. ⌜ r ≡ fault earlier tasks (linkHeld (now (control .entry)) (now (values .entry))) l ⌝ }
+    ensures { λ r. ⌜ (Planned earlier (at (writerIn (now (control .entry)))) (at (readerIn (now (control .entry)))) l (now (plan .entry)) → r ≡ fault earlier tasks (linkHeld (now (control .entry)) (now (values .entry))) l) ⌝ }
 {
     let link = Link {
         writer: control_at(control, WRITER, l),
@@ -65,45 +80,58 @@ fn fault_at(tasks: usize, control: &[u8; CONTROL], values: &[u32; VALUES], l: us
         kind: control_at(control, KIND, l),
         start_value: value_at(values, START_VALUE, l),
     };
-    fault_after(tasks, control, l, link)
+    fault_after(plan, tasks, control, l, link)
 }
 
 // The first fault: `before` where there is one, else that of link `l`.
 fn fault_or(
     before: u8,
+    plan: &[u8; PLAN],
     tasks: usize,
     control: &[u8; CONTROL],
     values: &[u32; VALUES],
     l: usize,
 ) -> u8
     requires { ⌜ l < stateRoom .links ⌝ }
-    ensures { λ r. ⌜ r ≡ cond (eqb before 0) (fault earlier tasks (linkHeld (now (control .entry)) (now (values .entry))) l) before ⌝ }
+    ensures { λ r. ⌜ (Planned earlier (at (writerIn (now (control .entry)))) (at (readerIn (now (control .entry)))) l (now (plan .entry)) → r ≡ cond (eqb before 0) (fault earlier tasks (linkHeld (now (control .entry)) (now (values .entry))) l) before) ⌝ }
 {
-    pick(before == 0, fault_at(tasks, control, values, l), before)
+    pick(
+        before == 0,
+        fault_at(plan, tasks, control, values, l),
+        before,
+    )
 }
 
 // The refusal of the first link at fault, 0 for none.
-fn first_fault(tasks: usize, links: usize, control: &[u8; CONTROL], values: &[u32; VALUES]) -> u8
-    requires { ⌜ links ≤ stateRoom .links ⌝ }
-    ensures { λ r. ⌜ r ≡ leading (fault earlier tasks (linkHeld (now (control .entry)) (now (values .entry)))) links ⌝ }
-{
-    let mut found: u8 = 0;
-    let mut l = 0;
-    while l < links {
-        found = fault_or(found, tasks, control, values, l);
-        l += 1;
-    }
-    found
-}
-
-// The refusal that a table earns, 0 for none: its counts, then the first link at fault.
-pub fn judge_table(
+fn first_fault(
+    plan: &[u8; PLAN],
     tasks: usize,
     links: usize,
     control: &[u8; CONTROL],
     values: &[u32; VALUES],
 ) -> u8
-    ensures { λ r. ⌜ r ≡ judgedTable earlier tasks (linkHeld (now (control .entry)) (now (values .entry))) stateRoom links ⌝ }
+    requires { ⌜ links ≤ stateRoom .links ⌝ }
+    ensures { λ r. ⌜ (Planned earlier (at (writerIn (now (control .entry)))) (at (readerIn (now (control .entry)))) links (now (plan .entry)) → r ≡ leading (fault earlier tasks (linkHeld (now (control .entry)) (now (values .entry)))) links) ⌝ }
+{
+    let mut found: u8 = 0;
+    let mut l = 0;
+    while l < links {
+        found = fault_or(found, plan, tasks, control, values, l);
+        l += 1;
+    }
+    found
+}
+
+// The refusal that a table earns, 0 for none: its counts, then the first link at fault. The plan of its links is lent.
+pub fn judge_table(
+    plan: &[u8; PLAN],
+    tasks: usize,
+    links: usize,
+    control: &[u8; CONTROL],
+    values: &[u32; VALUES],
+) -> u8
+    ensures refusal { λ r. ⌜ (Planned earlier (at (writerIn (now (control .entry)))) (at (readerIn (now (control .entry)))) (min links (stateRoom .links)) (now (plan .entry)) → r ≡ judgedTable earlier tasks (linkHeld (now (control .entry)) (now (values .entry))) stateRoom links) ⌝ }
+    ensures room { λ r. ⌜ (r ≡ 0 → links ≤ stateRoom .links) ⌝ }
 {
     if (tasks == 0) | (TASKS < tasks) {
         return 2;
@@ -111,5 +139,5 @@ pub fn judge_table(
     if LINKS < links {
         return 3;
     }
-    first_fault(tasks, links, control, values)
+    first_fault(plan, tasks, links, control, values)
 }

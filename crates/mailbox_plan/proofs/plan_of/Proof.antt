@@ -9,7 +9,7 @@ use Rattle.protocol_state.specs.Records.{earlier}
 use Rattle.protocol_state.specs.Saved.{at}
 use Rattle.mailbox_layout.specs.Layout.{writerIn, readerIn}
 use Rattle.mailbox_plan.specs.Plan.{planSize, Planned}
-use Rattle.mailbox_plan.proofs.Plans.{plan-none, plan-more, plan-end}
+use Rattle.mailbox_plan.proofs.Plans.{plan-none, plan-first, plan-more}
 use Rattle.mailbox_plan.proofs.plan_of.Statement.{statement}
 use Rattle.mailbox_plan.proofs.plan_of.Tie as tie
 
@@ -57,9 +57,7 @@ loop-again c =
     )
 
 returns : tie.Need-returns Inv-loop μ-loop
-returns c =
-    let i = c .before .loop in
-    rw (← c .before .before .before .few .ensures) (plan-end _ _ (i .inv .2) (i .inv .0) (c .loop-test .left))
+returns c = rw (← c .before .before .before .few .ensures) (plan-first (c .loop-test .left) (c .before .loop .inv .2))
 
 pub plan-of-spec : {M : Type 1} → statement M
 plan-of-spec =

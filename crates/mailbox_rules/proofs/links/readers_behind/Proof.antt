@@ -1,25 +1,34 @@
--- `mailbox_rules::links::readers_behind` meets its contract: after l turns `c` counts those of the first l links, at most l.
+-- `mailbox_rules::links::readers_behind` meets its contract: after l turns `c` counts those of the first l links whose flag says so, at most l.
 -- Assumes nothing.
-use mathlib.Core.Path.{_≡_}
-use Prim.Native.Nat.{_≤_, _-_}
+use mathlib.Core.Path.{_≡_, _∙_}
+use mathlib.Core.Bool.{Bool, _&&_}
+use mathlib.Core.List.{List}
+use Prim.Native.Nat.{ℕ, _≤_, _-_}
 use native.Mathlib.Omega.{arith}
 use Rattle.mailbox_layout.specs.Layout.{writerIn, readerIn}
+use lib.Dec.{eqb}
 use borrow.Author.Needs.{needs}
 use Rattle.lists.specs.Lists.{count}
 use Rattle.lists.proofs.Lists.{count-none, count-more, count-end, count-le}
 use Rattle.lists.proofs.Bools.{cond-small}
 use Rattle.protocol.specs.Table.{toBehind}
 use Rattle.protocol_state.specs.Saved.{at}
-use Rattle.protocol_state.specs.Records.{earlier}
+use Rattle.protocol_state.proofs.Places.{count-same}
+use Rattle.mailbox_plan.specs.Plan.{flagAt}
+use Rattle.mailbox_plan.proofs.Plans.{flag-from}
 use Rattle.mailbox_rules.proofs.links.readers_behind.Statement.{statement}
 use Rattle.mailbox_rules.proofs.links.readers_behind.Tie as tie
 
+-- link j is task t's and has its flag
+abbrev flagged : List ℕ → List ℕ → ℕ → ℕ → Bool
+flagged plan control t j = eqb (at (writerIn control) j) t && eqb (flagAt plan j) 1
+
 abbrev Inv-loop : tie.InvT-loop
-Inv-loop control n t end c₀ l₀ c l =
-    (l ≤ end) × (c ≡ count (toBehind earlier (at (writerIn control)) (at (readerIn control)) t) l)
+Inv-loop plan control n t end c₀ l₀ c l =
+    (l ≤ end) × (c ≡ count (flagged plan control t) l)
 
 abbrev μ-loop : tie.MeasureT-loop
-μ-loop control n t end c₀ l₀ c l = end - l
+μ-loop plan control n t end c₀ l₀ c l = end - l
 
 few-requires : tie.Need-few-requires Inv-loop μ-loop
 few-requires c κs = search needs
@@ -30,8 +39,8 @@ loop-holds c = (omega arith, count-none _)
 control-at-requires : tie.Need-control-at-requires Inv-loop μ-loop
 control-at-requires c κs = search needs
 
-control-at-requires-2 : tie.Need-control-at-requires-2 Inv-loop μ-loop
-control-at-requires-2 c κs = search needs
+goes-behind-requires : tie.Need-goes-behind-requires Inv-loop μ-loop
+goes-behind-requires c κs = search needs
 
 is-behind-requires : tie.Need-is-behind-requires Inv-loop μ-loop
 is-behind-requires c κs = search needs
@@ -45,7 +54,7 @@ add-c c =
     let l = c .before .before .before .before .before .loop in
     omega (
       arith,
-      count-le (toBehind earlier (at (writerIn (a .control .now))) (at (readerIn (a .control .now))) (a .t)) (l .l),
+      count-le (flagged (a .plan .now) (a .control .now) (a .t)) (l .l),
       l .inv .1,
       c .one-if .ensures,
       cond-small (c .before .is-behind .result) {x = 1} {y = 0} {m = 1} (omega arith) (omega arith),
@@ -61,15 +70,15 @@ loop-again : tie.Need-loop-again Inv-loop μ-loop
 loop-again c =
     let a = c .before .before .before .before .before .before .before .args in (
       omega arith,
-      count-more (toBehind earlier (at (writerIn (a .control .now))) (at (readerIn (a .control .now))) (a .t)) _
-          (rw (c .before .before .before .control-at .ensures, c .before .before .control-at2 .ensures) at (c .before .is-behind .ensures)) (c .before .before .before .before .before .loop .inv .1) (c .one-if .ensures),
+      count-more (flagged (a .plan .now) (a .control .now) (a .t)) _
+          (rw (c .before .before .before .control-at .ensures, c .before .before .goes-behind .ensures) at (c .before .is-behind .ensures)) (c .before .before .before .before .before .loop .inv .1) (c .one-if .ensures),
     )
 
 returns : tie.Need-returns Inv-loop μ-loop
 returns c =
     let a = c .before .before .before .args in
-    let e = count-end (toBehind earlier (at (writerIn (a .control .now))) (at (readerIn (a .control .now))) (a .t)) _ _ (c .before .loop .inv .1) (c .before .loop .inv .0) (c .loop-test .left) in
-    (rw (← c .before .before .few .ensures) e, omega (arith, count-le (toBehind earlier (at (writerIn (a .control .now))) (at (readerIn (a .control .now))) (a .t)) (c .before .loop .l), c .before .loop .inv .1))
+    let e = count-end (flagged (a .plan .now) (a .control .now) (a .t)) _ _ (c .before .loop .inv .1) (c .before .loop .inv .0) (c .loop-test .left) in
+    (rw (← c .before .before .few .ensures) λ ahead p. e ∙ count-same (flagged (a .plan .now) (a .control .now) (a .t)) (toBehind ahead (at (writerIn (a .control .now))) (at (readerIn (a .control .now))) (a .t)) _ (λ j h. flag-from j (a .t) p h), omega (arith, count-le (flagged (a .plan .now) (a .control .now) (a .t)) (c .before .loop .l), c .before .loop .inv .1))
 
 pub readers-behind-spec : {M : Type 1} → statement M
 readers-behind-spec =
@@ -80,7 +89,7 @@ readers-behind-spec =
     few-requires
     loop-holds
     control-at-requires
-    control-at-requires-2
+    goes-behind-requires
     is-behind-requires
     one-if-requires
     add-c

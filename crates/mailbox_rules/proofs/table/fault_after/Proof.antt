@@ -1,6 +1,5 @@
--- `mailbox_rules::table::fault_after` meets its contract: what the three calls ensure, put together.
+-- `mailbox_rules::table::fault_after` meets its contract: what the calls ensure, put together.
 -- Assumes nothing.
-use mathlib.Core.Path.{refl}
 use borrow.Author.Needs.{needs}
 use Rattle.protocol_state.specs.Records.{earlier}
 use Rattle.mailbox_rules.proofs.table.fault_after.Statement.{statement}
@@ -15,12 +14,24 @@ cast-readers-behind c = search needs
 readers-behind-requires : tie.Need-readers-behind-requires
 readers-behind-requires c κs = search needs
 
+is-ahead-requires : tie.Need-is-ahead-requires
+is-ahead-requires c κs = search needs
+
+is-ahead-requires-2 : tie.Need-is-ahead-requires-2
+is-ahead-requires-2 c κs = search needs
+
 fault-of-requires : tie.Need-fault-of-requires
 fault-of-requires c κs = search needs
 
 returns : tie.Need-returns
-returns c b = rw (c .fault-of .ensures earlier refl refl, c .before .readers-behind .ensures .0, c .before .before .has-pair .ensures)
+returns c plan b =
+    let n = c .before .before .before in
+    rw (
+      c .fault-of .ensures earlier (c .before .before .is-ahead .ensures) (c .before .is-ahead2 .ensures),
+      n .readers-behind .ensures .0 earlier plan,
+      n .before .has-pair .ensures,
+    )
 
 pub fault-after-spec : {M : Type 1} → statement M
 fault-after-spec =
-    tie.close (tie.spec has-pair-requires cast-readers-behind readers-behind-requires fault-of-requires returns)
+    tie.close (tie.spec has-pair-requires cast-readers-behind readers-behind-requires is-ahead-requires is-ahead-requires-2 fault-of-requires returns)

@@ -26,7 +26,7 @@ fault-after-requires c κs = search needs
 
 returns : tie.Need-returns
 unfolding fault
-returns c =
+returns c plan =
     let a = c .before .before .before .before .before in
     let l : a .args .l ≤ stateRoom .links = omega (arith, a .pre) in
     rw (
@@ -35,7 +35,7 @@ returns c =
       c .before .before .before .control-at2 .ensures,
       c .before .before .control-at3 .ensures,
       c .before .value-at .ensures,
-    ) at (c .fault-after .ensures (a .args .values .now))
+    ) at (c .fault-after .ensures (rw (min-eq-left l) plan) (a .args .values .now))
 
 pub fault-at-spec : {M : Type 1} → statement M
 fault-at-spec =

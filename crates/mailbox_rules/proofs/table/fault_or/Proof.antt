@@ -11,7 +11,7 @@ pick-requires : tie.Need-pick-requires
 pick-requires c κs = search needs
 
 returns : tie.Need-returns
-returns c = rw (c .pick .ensures, c .before .fault-at .ensures)
+returns c plan = rw (c .pick .ensures, c .before .fault-at .ensures plan)
 
 pub fault-or-spec : {M : Type 1} → statement M
 fault-or-spec = tie.close (tie.spec fault-at-requires pick-requires returns)
