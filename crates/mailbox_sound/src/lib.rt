@@ -1,13 +1,15 @@
 // Soundness of a state, on its lent arrays: what refusal 19 tests.
 ghost use mathlib.Core.Path.{_≡_};
-ghost use mathlib.Core.Bool.{cond};
+ghost use mathlib.Core.Bool.{Bool, cond};
 ghost use mathlib.Core.List.{List};
-ghost use Prim.Native.Nat.{ℕ, _≤_};
+ghost use Prim.Native.Nat.{ℕ, _≤_, _<_, min};
 ghost use Rattle.lists.specs.Lists.{every};
-ghost use Rattle.protocol_state.specs.Saved.{stateRoom};
+ghost use Rattle.protocol_state.specs.Saved.{at, stateRoom};
 ghost use Rattle.protocol_state.specs.Sound.{within, taskIs, seenIs, markIs, taskOk, pointerIs, pointerOk, markOk, taskStands, linkStands, isSound};
 ghost use Rattle.protocol_state.specs.Records.{earlier};
-ghost use Rattle.mailbox_layout.specs.Layout.{stateOf};
+ghost use Rattle.mailbox_layout.specs.Layout.{writerIn, readerIn, stateOf};
+ghost use Rattle.mailbox_plan.specs.Plan.{Planned};
+use mailbox_free::table::PLAN;
 use mailbox_layout::CONTROL;
 use mailbox_layout::KIND;
 use mailbox_layout::MARK;
@@ -20,6 +22,7 @@ use mailbox_layout::SEEN;
 use mailbox_layout::VALUES;
 use mailbox_layout::WRITER;
 use mailbox_layout::control_at;
+use mailbox_plan::goes_behind;
 use mailbox_rules::links::readers_behind;
 use mailbox_rules::table::judge_table;
 
@@ -47,11 +50,11 @@ fn seen_is(phase: u8, seen: u8) -> bool
 }
 
 // Whether task `t` has a phase and positions that it may have: its links to readers behind are counted.
-fn task_ok(links: usize, control: &[u8; CONTROL], t: usize) -> bool
+fn task_ok(plan: &[u8; PLAN], links: usize, control: &[u8; CONTROL], t: usize) -> bool
     requires { ⌜ links ≤ stateRoom .links ⌝ }
-    ensures { λ r. ⌜ ((T : ℕ) (v : List ℕ) → r ≡ taskOk earlier (stateOf T links (now (control .entry)) v) t) ⌝ }
+    ensures { λ r. ⌜ ((ahead : ℕ → ℕ → Bool) → Planned ahead (at (writerIn (now (control .entry)))) (at (readerIn (now (control .entry)))) links (now (plan .entry)) → (T : ℕ) (v : List ℕ) → r ≡ taskOk ahead (stateOf T links (now (control .entry)) v) t) ⌝ }
 {
-    let n = readers_behind(control, links, t);
+    let n = readers_behind(plan, control, links, t);
     task_is(
         control_at(control, PHASE, t),
         control_at(control, NEWEST, t),
@@ -61,23 +64,23 @@ fn task_ok(links: usize, control: &[u8; CONTROL], t: usize) -> bool
 }
 
 // Whether task `t` is as it may be.
-fn task_stands(links: usize, control: &[u8; CONTROL], t: usize) -> bool
+fn task_stands(plan: &[u8; PLAN], links: usize, control: &[u8; CONTROL], t: usize) -> bool
     requires { ⌜ links ≤ stateRoom .links ⌝ }
-    ensures { λ r. ⌜ ((T : ℕ) (v : List ℕ) → r ≡ taskStands earlier (stateOf T links (now (control .entry)) v) t) ⌝ }
+    ensures { λ r. ⌜ ((ahead : ℕ → ℕ → Bool) → Planned ahead (at (writerIn (now (control .entry)))) (at (readerIn (now (control .entry)))) links (now (plan .entry)) → (T : ℕ) (v : List ℕ) → r ≡ taskStands ahead (stateOf T links (now (control .entry)) v) t) ⌝ }
 {
     let seen_stands = seen_is(control_at(control, PHASE, t), control_at(control, SEEN, t));
-    task_ok(links, control, t) & seen_stands
+    task_ok(plan, links, control, t) & seen_stands
 }
 
 // Whether each task is as it may be.
-fn tasks_stand(tasks: usize, links: usize, control: &[u8; CONTROL]) -> bool
+fn tasks_stand(plan: &[u8; PLAN], tasks: usize, links: usize, control: &[u8; CONTROL]) -> bool
     requires { ⌜ links ≤ stateRoom .links ⌝ }
-    ensures { λ r. ⌜ ((T : ℕ) (v : List ℕ) → r ≡ every (taskStands earlier (stateOf T links (now (control .entry)) v)) tasks) ⌝ }
+    ensures { λ r. ⌜ ((ahead : ℕ → ℕ → Bool) → Planned ahead (at (writerIn (now (control .entry)))) (at (readerIn (now (control .entry)))) links (now (plan .entry)) → (T : ℕ) (v : List ℕ) → r ≡ every (taskStands ahead (stateOf T links (now (control .entry)) v)) tasks) ⌝ }
 {
     let mut ok = true;
     let mut t = 0;
     while t < tasks {
-        ok = task_stands(links, control, t) & ok;
+        ok = task_stands(plan, links, control, t) & ok;
         t += 1;
     }
     ok
@@ -90,25 +93,26 @@ fn pick_test(b: bool, x: bool, y: bool) -> bool
     if b { x } else { y }
 }
 
-// Whether a link from `w` to `r` may have the pointer `y`, where the reader has this phase and the writer `n` links to readers behind:
-// present where the reader is active, absent where it is idle and the writer ahead of it.
-fn pointer_is(w: u8, r: u8, y: u8, phase: u8, n: usize) -> bool
+// Whether a link, to a reader behind or not, may have the pointer `y`, where the reader has this phase and the writer `n` links to readers
+// behind: present where the reader is active, absent where it is idle and the writer ahead of it.
+fn pointer_is(behind: bool, y: u8, phase: u8, n: usize) -> bool
     requires { ⌜ n ≤ stateRoom .links ⌝ }
-    ensures { λ res. ⌜ res ≡ pointerIs earlier w r y phase n ⌝ }
+    ensures { λ res. ⌜ ((ahead : ℕ → ℕ → Bool) (w r : ℕ) → behind ≡ ahead w r → res ≡ pointerIs ahead w r y phase n) ⌝ }
 {
-    (y as usize <= n + 2) & pick_test(phase == 0, !(w < r) | (y == 0), 1 <= y)
+    (y as usize <= n + 2) & pick_test(phase == 0, !behind | (y == 0), 1 <= y)
 }
 
 // Whether link `l` has a pointer that it may have: its reader's phase is looked up, its writer's links are counted.
-fn pointer_ok(links: usize, control: &[u8; CONTROL], l: usize) -> bool
-    requires { ⌜ links ≤ stateRoom .links ⌝ }
-    ensures { λ r. ⌜ ((T : ℕ) (v : List ℕ) → r ≡ pointerOk earlier (stateOf T links (now (control .entry)) v) l) ⌝ }
+fn pointer_ok(plan: &[u8; PLAN], links: usize, control: &[u8; CONTROL], l: usize) -> bool
+    requires { ⌜ (l < links) × (links ≤ stateRoom .links) ⌝ }
+    ensures { λ r. ⌜ ((ahead : ℕ → ℕ → Bool) → Planned ahead (at (writerIn (now (control .entry)))) (at (readerIn (now (control .entry)))) links (now (plan .entry)) → (T : ℕ) (v : List ℕ) → r ≡ pointerOk ahead (stateOf T links (now (control .entry)) v) l) ⌝ }
 {
     let w = control_at(control, WRITER, l);
     let r = control_at(control, READER, l);
     let phase = control_at(control, PHASE, r as usize);
-    let n = readers_behind(control, links, w as usize);
-    pointer_is(w, r, control_at(control, POINTER, l), phase, n)
+    let n = readers_behind(plan, control, links, w as usize);
+    let behind = goes_behind(plan, l);
+    pointer_is(behind, control_at(control, POINTER, l), phase, n)
 }
 
 // Whether a link of kind `k` with pointer `y` may have the mark `m`, where its writer has had so many arrivals: at a present pointer of a
@@ -138,37 +142,43 @@ fn mark_ok(control: &[u8; CONTROL], l: usize) -> bool
 }
 
 // Whether link `l` is as it may be.
-fn link_stands(links: usize, control: &[u8; CONTROL], l: usize) -> bool
-    requires { ⌜ links ≤ stateRoom .links ⌝ }
-    ensures { λ r. ⌜ ((T : ℕ) (v : List ℕ) → r ≡ linkStands earlier (stateOf T links (now (control .entry)) v) l) ⌝ }
+fn link_stands(plan: &[u8; PLAN], links: usize, control: &[u8; CONTROL], l: usize) -> bool
+    requires { ⌜ (l < links) × (links ≤ stateRoom .links) ⌝ }
+    ensures { λ r. ⌜ ((ahead : ℕ → ℕ → Bool) → Planned ahead (at (writerIn (now (control .entry)))) (at (readerIn (now (control .entry)))) links (now (plan .entry)) → (T : ℕ) (v : List ℕ) → r ≡ linkStands ahead (stateOf T links (now (control .entry)) v) l) ⌝ }
 {
     let mark_stands = mark_ok(control, l);
-    pointer_ok(links, control, l) & mark_stands
+    pointer_ok(plan, links, control, l) & mark_stands
 }
 
 // Whether each link is as it may be.
-fn links_stand(links: usize, control: &[u8; CONTROL]) -> bool
+fn links_stand(plan: &[u8; PLAN], links: usize, control: &[u8; CONTROL]) -> bool
     requires { ⌜ links ≤ stateRoom .links ⌝ }
-    ensures { λ r. ⌜ ((T : ℕ) (v : List ℕ) → r ≡ every (linkStands earlier (stateOf T links (now (control .entry)) v)) links) ⌝ }
+    ensures { λ r. ⌜ ((ahead : ℕ → ℕ → Bool) → Planned ahead (at (writerIn (now (control .entry)))) (at (readerIn (now (control .entry)))) links (now (plan .entry)) → (T : ℕ) (v : List ℕ) → r ≡ every (linkStands ahead (stateOf T links (now (control .entry)) v)) links) ⌝ }
 {
     let mut ok = true;
     let mut l = 0;
     while l < links {
-        ok = link_stands(links, control, l) & ok;
+        ok = link_stands(plan, links, control, l) & ok;
         l += 1;
     }
     ok
 }
 
-// Whether a state is sound: its table keeps the rules, and each task and each link is as it may be.
-pub fn is_sound(tasks: usize, links: usize, control: &[u8; CONTROL], values: &[u32; VALUES]) -> bool
-    ensures { λ r. ⌜ r ≡ isSound earlier stateRoom (stateOf tasks links (now (control .entry)) (now (values .entry))) ⌝ }
+// Whether a state is sound: its table keeps the rules, and each task and each link is as it may be. The plan of its links is lent.
+pub fn is_sound(
+    plan: &[u8; PLAN],
+    tasks: usize,
+    links: usize,
+    control: &[u8; CONTROL],
+    values: &[u32; VALUES],
+) -> bool
+    ensures { λ r. ⌜ (Planned earlier (at (writerIn (now (control .entry)))) (at (readerIn (now (control .entry)))) (min links (stateRoom .links)) (now (plan .entry)) → r ≡ isSound earlier stateRoom (stateOf tasks links (now (control .entry)) (now (values .entry)))) ⌝ }
 {
-    let refusal = judge_table(tasks, links, control, values);
+    let refusal = judge_table(plan, tasks, links, control, values);
     if refusal != 0 {
         return false;
     }
-    let a = tasks_stand(tasks, links, control);
-    let b = links_stand(links, control);
+    let a = tasks_stand(plan, tasks, links, control);
+    let b = links_stand(plan, links, control);
     a & b
 }

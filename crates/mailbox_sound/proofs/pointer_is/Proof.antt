@@ -11,7 +11,7 @@ pick-test-requires : tie.Need-pick-test-requires
 pick-test-requires c κs = search needs
 
 returns : tie.Need-returns
-returns c = rw (c .pick-test .ensures)
+returns c ahead w r b = rw (c .pick-test .ensures, b)
 
 pub pointer-is-spec : {M : Type 1} → statement M
 pointer-is-spec = tie.close (tie.spec add-result pick-test-requires returns)

@@ -1,7 +1,9 @@
 -- `mailbox_sound::pointer_ok` meets its contract: what the calls ensure, put together.
 -- Assumes nothing.
+use mathlib.Core.Path.{_∙_}
 use native.Mathlib.Nat.{min-eq-left}
 use borrow.Author.Needs.{needs}
+use Rattle.mailbox_plan.proofs.Plans.{flag-says}
 use Rattle.mailbox_sound.proofs.pointer_ok.Statement.{statement}
 use Rattle.mailbox_sound.proofs.pointer_ok.Tie as tie
 
@@ -23,6 +25,9 @@ cast-readers-behind c = search needs
 readers-behind-requires : tie.Need-readers-behind-requires
 readers-behind-requires c κs = search needs
 
+goes-behind-requires : tie.Need-goes-behind-requires
+goes-behind-requires c κs = search needs
+
 control-at-requires-4 : tie.Need-control-at-requires-4
 control-at-requires-4 c κs = search needs
 
@@ -30,12 +35,12 @@ pointer-is-requires : tie.Need-pointer-is-requires
 pointer-is-requires c κs = search needs
 
 returns : tie.Need-returns
-returns c T v =
-    let n = c .before .before in
+returns c ahead plan T v =
+    let n = c .before .before .before in
+    let pre = n .before .before .before .before .pre in
     rw (
-      c .pointer-is .ensures,
-      n .readers-behind .ensures .0,
-      min-eq-left (n .before .before .before .before .pre),
+      c .pointer-is .ensures ahead _ _ (c .before .before .goes-behind .ensures ∙ flag-says _ plan (pre .0)),
+      rw (min-eq-left (pre .1)) at (n .readers-behind .ensures .0 ahead) plan,
       n .before .control-at3 .ensures,
       c .before .control-at4 .ensures,
       n .before .before .control-at2 .ensures,
@@ -52,6 +57,7 @@ pointer-ok-spec =
     control-at-requires-3
     cast-readers-behind
     readers-behind-requires
+    goes-behind-requires
     control-at-requires-4
     pointer-is-requires
     returns)

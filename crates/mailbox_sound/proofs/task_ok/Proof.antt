@@ -21,12 +21,11 @@ task-is-requires : tie.Need-task-is-requires
 task-is-requires c κs = search needs
 
 returns : tie.Need-returns
-returns c T v =
+returns c ahead plan T v =
     let n = c .before .before .before .before in
     rw (
       c .task-is .ensures,
-      n .readers-behind .ensures .0,
-      min-eq-left (n .before .pre),
+      rw (min-eq-left (n .before .pre)) at (n .readers-behind .ensures .0 ahead) plan,
       c .before .before .before .control-at .ensures,
       c .before .before .control-at2 .ensures,
       c .before .control-at3 .ensures,

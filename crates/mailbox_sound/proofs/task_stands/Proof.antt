@@ -17,7 +17,7 @@ task-ok-requires : tie.Need-task-ok-requires
 task-ok-requires c κs = search needs
 
 returns : tie.Need-returns
-returns c T v = rw (c .task-ok .ensures T v, c .before .seen-is .ensures, c .before .before .control-at2 .ensures, c .before .before .before .control-at .ensures)
+returns c ahead plan T v = rw (c .task-ok .ensures ahead plan T v, c .before .seen-is .ensures, c .before .before .control-at2 .ensures, c .before .before .before .control-at .ensures)
 
 pub task-stands-spec : {M : Type 1} → statement M
 task-stands-spec = tie.close (tie.spec control-at-requires control-at-requires-2 seen-is-requires task-ok-requires returns)

@@ -1,6 +1,7 @@
 -- `mailbox_sound::tasks_stand` meets its contract: after t turns `ok` says whether each of the first t tasks is as it may be.
 -- Assumes nothing.
 use mathlib.Core.Path.{_≡_}
+use mathlib.Core.Bool.{Bool}
 use mathlib.Core.List.{List}
 use Prim.Native.Nat.{ℕ, _≤_, _-_}
 use native.Mathlib.Omega.{arith}
@@ -8,20 +9,21 @@ use borrow.Author.Needs.{needs}
 use Rattle.lists.specs.Lists.{every}
 use Rattle.lists.proofs.Lists.{every-none, every-more, every-end}
 use Rattle.protocol_state.specs.Sound.{taskStands}
-use Rattle.protocol_state.specs.Records.{earlier}
-use Rattle.mailbox_layout.specs.Layout.{stateOf}
+use Rattle.protocol_state.specs.Saved.{at}
+use Rattle.mailbox_layout.specs.Layout.{writerIn, readerIn, stateOf}
+use Rattle.mailbox_plan.specs.Plan.{Planned}
 use Rattle.mailbox_sound.proofs.tasks_stand.Statement.{statement}
 use Rattle.mailbox_sound.proofs.tasks_stand.Tie as tie
 
 abbrev Inv-loop : tie.InvT-loop
-Inv-loop tasks links control ok₀ t₀ ok t =
-    (t ≤ tasks) × ((T : ℕ) (v : List ℕ) → ok ≡ every (taskStands earlier (stateOf T links control v)) t)
+Inv-loop plan tasks links control ok₀ t₀ ok t =
+    (t ≤ tasks) × ((ahead : ℕ → ℕ → Bool) → Planned ahead (at (writerIn control)) (at (readerIn control)) links plan → (T : ℕ) (v : List ℕ) → ok ≡ every (taskStands ahead (stateOf T links control v)) t)
 
 abbrev μ-loop : tie.MeasureT-loop
-μ-loop tasks links control ok₀ t₀ ok t = tasks - t
+μ-loop plan tasks links control ok₀ t₀ ok t = tasks - t
 
 loop-holds : tie.Need-loop-holds Inv-loop μ-loop
-loop-holds c = (omega arith, λ T v. every-none _)
+loop-holds c = (omega arith, λ ahead p T v. every-none _)
 
 task-stands-requires : tie.Need-task-stands-requires Inv-loop μ-loop
 task-stands-requires c κs = search needs
@@ -36,11 +38,11 @@ loop-again : tie.Need-loop-again Inv-loop μ-loop
 loop-again c =
     let a = c .before .before .before .args in (
       omega arith,
-      λ T v. every-more (taskStands earlier (stateOf T (a .links) (a .control .now) v)) _ (c .task-stands .ensures T v) (c .before .before .loop .inv .1 T v),
+      λ ahead p T v. every-more (taskStands ahead (stateOf T (a .links) (a .control .now) v)) _ (c .task-stands .ensures ahead p T v) (c .before .before .loop .inv .1 ahead p T v),
     )
 
 returns : tie.Need-returns Inv-loop μ-loop
-returns c T v = every-end _ _ _ (c .before .loop .inv .1 T v) (c .before .loop .inv .0) (c .loop-test .left)
+returns c ahead p T v = every-end _ _ _ (c .before .loop .inv .1 ahead p T v) (c .before .loop .inv .0) (c .loop-test .left)
 
 pub tasks-stand-spec : {M : Type 1} → statement M
 tasks-stand-spec =
