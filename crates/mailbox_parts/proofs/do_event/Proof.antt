@@ -26,16 +26,16 @@ finish-requires : tie.Need-finish-requires
 finish-requires c κs = search needs
 
 returns : tie.Need-returns
-returns c right = rw (c .before .before .before .e .given .1) (c .arrive .ensures right _)
+returns c ahead right = rw (c .before .before .before .e .given .1) (c .arrive .ensures ahead right _)
 
 returns-2 : tie.Need-returns-2
-returns-2 c right = rw (c .before .before .before .e2 .given .1) (c .advance .ensures _ _ _)
+returns-2 c ahead right = rw (c .before .before .before .e2 .given .1) (c .advance .ensures _ _ _)
 
 returns-3 : tie.Need-returns-3
-returns-3 c right = rw (c .enum-told .given .1)
+returns-3 c ahead right = rw (c .enum-told .given .1)
 
 returns-4 : tie.Need-returns-4
-returns-4 c right = rw (c .before .before .before .before .e3 .given .1) (c .finish .ensures _)
+returns-4 c ahead right = rw (c .before .before .before .before .e3 .given .1) (c .finish .ensures ahead right _)
 
 pub do-event-spec : {M : Type 1} → statement M
 do-event-spec =
