@@ -6,12 +6,12 @@ ghost use Rattle.protocol_state.specs.Give.{reply, givenTo};
 ghost use Rattle.mailbox_layout.specs.Layout.{stateOf};
 ghost use Rattle.mailbox_event.specs.Plain.{plain};
 use mailbox_event::Event;
-use mailbox_free::table::lowest_table;
 use mailbox_layout::CONTROL;
 use mailbox_layout::VALUES;
 use mailbox_parts::do_event;
 use mailbox_parts::judge;
 use mailbox_parts::value_of;
+use mailbox_plan::plan_of;
 use mailbox_sound::is_sound;
 
 // The refusal, 0 for none. `number` becomes that of an accepted read, else 0; a refusal leaves both arrays as they were lent.
@@ -27,7 +27,8 @@ pub fn give(
     ensures kept { λ r. ⌜ (r ≢ 0 → (now (control .exit) ≡ now (control .entry)) × (now (values .exit) ≡ now (values .entry))) ⌝ }
 {
     *number = 0;
-    if !is_sound(tasks, links, control, values) {
+    let plan = plan_of(links, control);
+    if !is_sound(&plan, tasks, links, control, values) {
         return 19;
     }
     let refusal = judge(e, tasks, links, control);
@@ -35,7 +36,6 @@ pub fn give(
         return refusal;
     }
     *number = value_of(e, control, values);
-    let lowest = lowest_table();
-    do_event(&lowest, e, tasks, links, control, values);
+    do_event(&plan, e, tasks, links, control, values);
     0
 }
