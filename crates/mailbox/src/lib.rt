@@ -34,6 +34,7 @@ use mailbox_layout::WRITER;
 use mailbox_layout::control_at;
 use mailbox_layout::fresh::fresh_control;
 use mailbox_layout::value_at;
+use mailbox_plan::plan_of;
 use mailbox_rules::table::judge_table;
 use mailbox_sound::is_sound;
 
@@ -99,7 +100,8 @@ impl State {
             &mut control,
             &mut values,
         );
-        let refusal = judge_table(tasks, links, &control, &values);
+        let plan = plan_of(links, &control);
+        let refusal = judge_table(&plan, tasks, links, &control, &values);
         if refusal != 0 {
             return Made {
                 refusal,
@@ -188,7 +190,8 @@ impl State {
     {
         let control = self.control;
         let values = self.values;
-        is_sound(self.tasks, self.links, &control, &values)
+        let plan = plan_of(self.links, &control);
+        is_sound(&plan, self.tasks, self.links, &control, &values)
     }
 
     // The fresh state of a single task with default 0 and no links.

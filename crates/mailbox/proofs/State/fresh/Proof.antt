@@ -17,6 +17,9 @@ values-of-requires c κs = search needs
 put-links-requires : tie.Need-put-links-requires
 put-links-requires c κs = search needs
 
+plan-of-requires : tie.Need-plan-of-requires
+plan-of-requires c κs = search needs
+
 judge-table-requires : tie.Need-judge-table-requires
 judge-table-requires c κs = search needs
 
@@ -26,12 +29,13 @@ single-requires c κs = search needs
 returns : tie.Need-returns
 returns c =
     let j = c .before .before in
-    let p = j .before .before .before in
+    let m = j .before .before .before .before in
+    let p = m .before .before in
     let o = p .before .before .before .before .before .before .before in
     let a = o .before .before .before .args in
     let h = p .put-links .ensures .0 (o .before .before .fresh-control .ensures) in
     let v = p .put-links .ensures .1 (firstTasks (min (a .tasks) (stateRoom .tasks)) (a .t3)) (o .values-of .ensures) in
-    let e = made-refused (a .tasks) (a .links) (a .t3) (a .t4) (a .t5) (a .t6) (a .t7) _ _ h v (j .judge-table .ensures) (c .single .result) (c .before .if1 .taken) (c .single .ensures .0) in
+    let e = made-refused (a .tasks) (a .links) (a .t3) (a .t4) (a .t5) (a .t6) (a .t7) _ _ h v (j .judge-table .ensures .0 (m .plan-of .ensures)) (c .single .result) (c .before .if1 .taken) (c .single .ensures .0) in
     (record { answer = e; whole = c .single .ensures .1 }, makes-sound (a .tasks) (a .links) (a .t3) (a .t4) (a .t5) (a .t6) (a .t7) _ e)
 
 itself-requires : tie.Need-itself-requires
@@ -40,13 +44,14 @@ itself-requires c κs = search needs
 returns-2 : tie.Need-returns-2
 returns-2 c =
     let j = c .before .before in
-    let p = j .before .before .before in
+    let m = j .before .before .before .before in
+    let p = m .before .before in
     let o = p .before .before .before .before .before .before .before in
     let a = o .before .before .before .args in
     let h = p .put-links .ensures .0 (o .before .before .fresh-control .ensures) in
     let v = p .put-links .ensures .1 (firstTasks (min (a .tasks) (stateRoom .tasks)) (a .t3)) (o .values-of .ensures) in
-    let e = made-fresh (a .tasks) (a .links) (a .t3) (a .t4) (a .t5) (a .t6) (a .t7) _ _ h v (j .judge-table .ensures) (c .itself .result) (c .itself .ensures .0) (c .before .if1 .left) in
+    let e = made-fresh (a .tasks) (a .links) (a .t3) (a .t4) (a .t5) (a .t6) (a .t7) _ _ h v (j .judge-table .ensures .0 (m .plan-of .ensures)) (c .itself .result) (c .itself .ensures .0) (c .before .if1 .left) in
     (record { answer = e; whole = c .itself .ensures .1 }, makes-sound (a .tasks) (a .links) (a .t3) (a .t4) (a .t5) (a .t6) (a .t7) _ e)
 
 pub fresh-spec : {M : Type 1} → statement M
-fresh-spec = tie.close (tie.spec fresh-control-requires values-of-requires put-links-requires judge-table-requires single-requires returns itself-requires returns-2)
+fresh-spec = tie.close (tie.spec fresh-control-requires values-of-requires put-links-requires plan-of-requires judge-table-requires single-requires returns itself-requires returns-2)
