@@ -10,6 +10,7 @@ use mailbox_call::number_of;
 use mailbox_give::give;
 use mailbox_layout::CONTROL;
 use mailbox_layout::VALUES;
+use mailbox_plan::plan_of;
 use mailbox_sound::is_sound;
 
 // One event given to a state: 19 where the state isn't sound, then 11 for an unknown kind, then 12 to 16, else it is done. A refusal leaves
@@ -31,7 +32,8 @@ pub extern "C" fn parnusild_event_32_96(
     let call = ask(kind, which, value);
     let Asked::Known(e) = call else {
         *number = 0;
-        if !is_sound(tasks, links, control, values) {
+        let plan = plan_of(links, control);
+        if !is_sound(&plan, tasks, links, control, values) {
             return 19;
         }
         return number_of(call);

@@ -11,6 +11,7 @@ use mailbox_base::numbers::LINKS;
 use mailbox_base::numbers::POSITIONS;
 use mailbox_base::numbers::TASKS;
 use mailbox_event::Event;
+use mailbox_free::table::PLAN;
 use mailbox_layout::CONTROL;
 use mailbox_layout::MARK;
 use mailbox_layout::NEWEST;
@@ -21,6 +22,7 @@ use mailbox_layout::SEEN;
 use mailbox_layout::VALUES;
 use mailbox_layout::cells_in;
 use mailbox_layout::control_at;
+use mailbox_plan::plan_of;
 use mailbox_rules::links::readers_behind;
 use recording::replay;
 use recording::rest;
@@ -125,10 +127,16 @@ pub fn print_replay(s: &[u8], out: &mut [u32])
 }
 
 // Writes the line of a task: it has as many positions as links to readers behind, and two more.
-fn print_task(task: u8, links: usize, control: &[u8; CONTROL], values: &[u32; VALUES]) {
+fn print_task(
+    plan: &[u8; PLAN],
+    task: u8,
+    links: usize,
+    control: &[u8; CONTROL],
+    values: &[u32; VALUES],
+) {
     let t = task as usize;
     let mut line = [0u8; LINE];
-    let behind = readers_behind(control, links, t);
+    let behind = readers_behind(plan, control, links, t);
     let own = part(cells_in(values), t * POSITIONS, behind + 2);
     let phase = control_at(control, PHASE, t);
     let newest = control_at(control, NEWEST, t);
@@ -142,10 +150,11 @@ fn print_task(task: u8, links: usize, control: &[u8; CONTROL], values: &[u32; VA
 
 // Writes a line for each task. Here and below a count, never more than there is room for, is held to the room all the same.
 fn print_tasks(tasks: usize, links: usize, control: &[u8; CONTROL], values: &[u32; VALUES]) {
+    let plan = plan_of(links, control);
     let end = few(tasks, TASKS);
     let mut t: usize = 0;
     while t < end {
-        print_task(t as u8, links, control, values);
+        print_task(&plan, t as u8, links, control, values);
         t += 1;
     }
 }

@@ -13,14 +13,19 @@ ask-requires c κs = search needs
 enum-known-call : tie.Need-enum-known-call
 enum-known-call c = search needs
 
+plan-of-requires : tie.Need-plan-of-requires
+plan-of-requires c κs = search needs
+
 is-sound-requires : tie.Need-is-sound-requires
 is-sound-requires c κs = search needs
 
 returns : tie.Need-returns
 returns c =
-    let a = c .before .before .before .before .before .before .args in
+    let s = c .before in
+    let p = s .before .before .before .before in
+    let a = p .before .before .before .before .args in
     let q = stateOf (a .tasks) (a .links) (a .control .now) (a .values .now) in
-    (answered-unsound q (a .kind) (a .which) (a .value) (c .before .is-sound .ensures) (c .if1 .taken), λ z. (refl, refl))
+    (answered-unsound q (a .kind) (a .which) (a .value) (s .is-sound .ensures (p .plan-of .ensures)) (c .if1 .taken), λ z. (refl, refl))
 
 number-of-requires : tie.Need-number-of-requires
 number-of-requires c κs = search needs
@@ -28,11 +33,12 @@ number-of-requires c κs = search needs
 returns-2 : tie.Need-returns-2
 returns-2 c =
     let s = c .before .before in
-    let m = s .before .before .before in
+    let p = s .before .before .before .before in
+    let m = p .before .before in
     let k = m .before .ask in
     let a = m .before .before .args in
     let q = stateOf (a .tasks) (a .links) (a .control .now) (a .values .now) in (
-      answered-none q (a .kind) (a .which) (a .value) (k .result) (k .ensures) (s .is-sound .ensures) (c .before .if1 .left) (m .match .keys2) (c .number-of .ensures),
+      answered-none q (a .kind) (a .which) (a .value) (k .result) (k .ensures) (s .is-sound .ensures (p .plan-of .ensures)) (c .before .if1 .left) (m .match .keys2) (c .number-of .ensures),
       λ z. (refl, refl),
     )
 
@@ -53,6 +59,7 @@ parnusild-event-32-96-spec =
     (tie.spec
     ask-requires
     enum-known-call
+    plan-of-requires
     is-sound-requires
     returns
     number-of-requires
