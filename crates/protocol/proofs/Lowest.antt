@@ -1,4 +1,4 @@
--- Demand 2, protocol: a free position always exists, the lowest lies in 1 to N + 2, and the answer function that takes it meets demands 1 and 2.
+-- A free position always exists, the lowest lies in 1 to N + 2, and the function that takes it does what the published protocol allows.
 -- Assumes nothing.
 use mathlib.Core.Path.{_≡_, refl, sym, ap, _∙_}
 use mathlib.Core.Logic.{_≢_}
@@ -14,13 +14,10 @@ use Rattle.lists.proofs.Lists.{some-not, some-of-none}
 use Rattle.lists.proofs.Search.{lowest-in-range, lowest-is-free, first-below}
 use Rattle.protocol.specs.Event.{Event, arrival, start, read, finish}
 use Rattle.protocol.specs.Table.{Table, toBehind, behind, N}
-use Rattle.protocol.specs.Schedule.{Policy, Possible, AllPossible, judged}
 use Rattle.protocol.specs.Published.{Boxes, Fresh, Free, Lowest, Step, Run}
 use Rattle.protocol.specs.Published as published
 use Rattle.protocol.specs.Free.{holds, taken}
-use Rattle.protocol.specs.Lowest.{lowest, freshBoxes, nextBoxes, boxesOf, valueThen, lowestAnswers}
-use Rattle.protocol.specs.Answering.{Response, ReadsNothing, boxesAfter, RefusesRightly, FollowsProtocol}
-use Rattle.protocol.proofs.Schedule.{judged-possible, possible-judged}
+use Rattle.protocol.specs.Lowest.{lowest, freshBoxes, nextBoxes, boxesOf}
 
 module _ {Val : Type 0} (T : Table Val) (s : Boxes Val) (t : ℕ) where
   -- p is taken: the test that the search makes
@@ -70,14 +67,14 @@ module _ {Val : Type 0} (T : Table Val) (s : Boxes Val) (t : ℕ) where
 
 module _ {Val : Type 0} (T : Table Val) where
   -- the function does what the published protocol allows, with the lowest free position
-  next-step : (e : Event Val) (s : Boxes Val) → Step T (Lowest T) e s (nextBoxes T e s)
+  pub next-step : (e : Event Val) (s : Boxes Val) → Step T (Lowest T) e s (nextBoxes T e s)
   unfolding Step
   next-step (arrival m) s = record { previous = λ t. refl; chosen = λ t i. rw i (lowest-exists T s t); kept = λ t i. rw i; seen = λ t. refl; pointer = λ l. refl; mark = λ l. refl; cell = λ t p. refl }
   next-step (start t) s = refl
   next-step (read l) s = refl
   next-step (finish t v) s = record { newest = λ u. refl; previous = λ u. refl; seen = λ u. refl; pointer = λ l. refl; mark = λ l. refl; cell = λ u p. refl }
 
-  fresh-fresh : Fresh T (freshBoxes T)
+  pub fresh-fresh : Fresh T (freshBoxes T)
   fresh-fresh = record { newest = λ t. refl; previous = λ t. refl; seen = λ t. refl; pointer = λ l. refl; mark = λ l. refl; cell = λ t p. refl }
 
   -- so every history leads to one of its runs
@@ -85,65 +82,3 @@ module _ {Val : Type 0} (T : Table Val) where
   unfolding boxesOf
   lowest-run [] = published.fresh fresh-fresh
   lowest-run (e ∷ h) = published.next e (lowest-run h) (next-step e (boxesOf T h))
-
--- the two ways of an answer
-module _ {Val : Type 0} (policy : Table Val → Policy Val) (zero : Val) (T : Table Val) (h : List (Event Val)) (e : Event Val) where
-  abbrev answer : Response Val
-  answer = lowestAnswers policy zero .reply T h e
-
-  answer-yes : Possible T (policy T) h e → answer ≡ record { refusal = 0; value = valueThen T zero (boxesOf T h) e; boxes = nextBoxes T e (boxesOf T h) }
-  unfolding lowestAnswers
-  answer-yes p = rw (possible-judged T (policy T) h e p)
-
-  answer-no : judged T (policy T) h e ≢ 0 → answer ≡ record { refusal = judged T (policy T) h e; value = zero; boxes = boxesOf T h }
-  unfolding lowestAnswers
-  answer-no n = let z : eqb (judged T (policy T) h e) 0 ≡ false = ne-eqb _ 0 n in rw z
-
-  answer-refusal : answer .refusal ≡ judged T (policy T) h e
-  unfolding lowestAnswers
-  answer-refusal = go (eqb (judged T (policy T) h e) 0) refl
-    where
-      go : (b : Bool) → eqb (judged T (policy T) h e) 0 ≡ b
-          → cond {A = Response Val} b (record { refusal = 0; value = valueThen T zero (boxesOf T h) e; boxes = nextBoxes T e (boxesOf T h) }) (record { refusal = judged T (policy T) h e; value = zero; boxes = boxesOf T h }) .refusal ≡ judged T (policy T) h e
-      go true i = sym (eqb-true _ 0 i)
-      go false i = refl
-
--- the boxes after a possible history are those of the protocol
-boxes-after : {Val : Type 0} (policy : Table Val → Policy Val) (zero : Val) (T : Table Val) (h : List (Event Val)) → AllPossible T (policy T) h → boxesAfter (lowestAnswers policy zero) T h ≡ boxesOf T h
-unfolding boxesAfter boxesOf AllPossible lowestAnswers
-boxes-after policy zero T [] A = refl
-boxes-after policy zero T (e ∷ h) A = ap (λ (r : Response _). r .boxes) (answer-yes policy zero T h e (A .0))
-
--- the demands are met by one answer function at least
-module _ {Val : Type 0} (policy : Table Val → Policy Val) (zero : Val) where
-  silent-value : (T : Table Val) (s : Boxes Val) (e : Event Val) → ReadsNothing e → valueThen T zero s e ≡ zero
-  unfolding ReadsNothing
-  silent-value T s (arrival m) q = refl
-  silent-value T s (start t) q = refl
-  silent-value T s (read l) q = absurd q
-  silent-value T s (finish t v) q = refl
-
-  pub lowest-refuses-rightly : RefusesRightly (lowestAnswers policy zero) policy zero
-  lowest-refuses-rightly = record {
-    number = λ T L h A e. answer-refusal policy zero T h e;
-    unchanged = λ T L h A e n. same T h A e (answer-no policy zero T h e (λ z. n (answer-refusal policy zero T h e ∙ z)));
-    silent = λ T L h A e q. quiet T h e q (eqb (judged T (policy T) h e) 0) refl;
-  }
-    where
-      same : (T : Table Val) (h : List (Event Val)) → AllPossible T (policy T) h → (e : Event Val) → answer policy zero T h e ≡ record { refusal = judged T (policy T) h e; value = zero; boxes = boxesOf T h }
-          → (answer policy zero T h e .boxes ≡ boxesAfter (lowestAnswers policy zero) T h) × (answer policy zero T h e .value ≡ zero)
-      same T h A e i = rw (i, boxes-after policy zero T h A) (refl, refl)
-
-      quiet : (T : Table Val) (h : List (Event Val)) (e : Event Val) → ReadsNothing e → (b : Bool) → eqb (judged T (policy T) h e) 0 ≡ b → answer policy zero T h e .value ≡ zero
-      quiet T h e q true i = rw (answer-yes policy zero T h e (judged-possible T (policy T) h e (eqb-true _ 0 i))) (silent-value T (boxesOf T h) e q)
-      quiet T h e q false i = rw (answer-no policy zero T h e (eqb-false _ 0 i))
-
-  pub lowest-follows-protocol : FollowsProtocol (lowestAnswers policy zero) policy
-  unfolding lowestAnswers
-  lowest-follows-protocol = record {
-    fresh = λ T L. fresh-fresh T;
-    only = λ T L h A e i. judged-possible T (policy T) h e (sym (answer-refusal policy zero T h e) ∙ i);
-    all = λ T L h A e p. answer-refusal policy zero T h e ∙ possible-judged T (policy T) h e p;
-    step = λ T L h A e p. rw (answer-yes policy zero T h e p, boxes-after policy zero T h A) (next-step T e (boxesOf T h));
-    number = λ T L h A l p. rw (answer-yes policy zero T h (read l) p, boxes-after policy zero T h A);
-  }

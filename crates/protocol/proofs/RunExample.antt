@@ -13,7 +13,7 @@ use Rattle.protocol.specs.Instant.{LogEntry, ask, readLinks, runWhole, w
 
 -- the station of that example: task 1 writes; task 0, more urgent, reads it delayed, with start value 90; tasks 2 and 3 read it directly
 unfoldable pub four : Table ℕ
-four = record { tasks = 4; links = 3; default = λ t. cond (eqb t 1) 100 0; startValue = λ l. cond (eqb l 0) 90 0; writer = λ l. 1; reader = reader; delayed = λ l. eqb l 0; ahead = ltb }
+four = record { tasks = 4; links = 3; default = λ t. cond (eqb t 1) 100 0; deadline = λ t. 0; startValue = λ l. cond (eqb l 0) 90 0; writer = λ l. 1; reader = reader; delayed = λ l. eqb l 0; ahead = ltb }
   where
     reader : ℕ → ℕ
     reader zero = 0

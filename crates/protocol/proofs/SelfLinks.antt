@@ -16,10 +16,9 @@ use Rattle.protocol.specs.History.{arrivals, starts, finishes, upTo, out
 use Rattle.protocol.specs.Schedule.{urgent, AllPossible, judged}
 use Rattle.protocol.specs.ZeroTime.{had, dues}
 use Rattle.protocol.specs.Published.{Boxes, Free, leaves, number}
-use Rattle.protocol.specs.Lowest.{boxesOf, lowestAnswers}
-use Rattle.protocol.specs.Answering.{numbersRead}
+use Rattle.protocol.specs.Lowest.{boxesOf, numbersOf}
 use Rattle.protocol.specs.Instant.{ask, readLinks, runWhole, work, come, carried, upward, sets, zeroRun, find, looked, theres}
-use Rattle.protocol.proofs.Bites.{allJudged, all-judged}
+use Rattle.protocol.proofs.Schedule.{allJudged, all-judged}
 
 -- up to its last arrival a task arrived as often as in all
 arrivals-own : {Val : Type 0} (h : List (Event Val)) (t : ℕ) → arrivals (upTo h t) t ≡ arrivals h t
@@ -64,7 +63,7 @@ module _ {Val : Type 0} (T : Table Val) (l : ℕ) (self : T .writer l ≡ T .rea
 
 -- ---- a filter: one task with default 100 and one delayed link to itself with start value 40
 unfoldable pub filter : Table ℕ
-filter = record { tasks = 1; links = 1; default = λ t. 100; startValue = λ l. 40; writer = λ l. 0; reader = λ l. 0; delayed = λ l. true; ahead = ltb }
+filter = record { tasks = 1; links = 1; default = λ t. 100; deadline = λ t. 0; startValue = λ l. 40; writer = λ l. 0; reader = λ l. 0; delayed = λ l. true; ahead = ltb }
 
 -- it is a lawful table, and the link is not counted in N
 pub filter-lawful : Lawful filter × (N filter 0 ≡ 0)
@@ -78,10 +77,10 @@ adding (suc k) = finish 0 (number filter (boxesOf filter (read 0 ∷ start 0 ∷
 
 -- the first run reads the start value, each later one the output of the run before it
 pub filter-numbers :
-    (numbersRead (lowestAnswers urgent 0) filter (adding 4) ≡ 43 ∷ 42 ∷ 41 ∷ 40 ∷ [])
+    (numbersOf filter (adding 4) ≡ 43 ∷ 42 ∷ 41 ∷ 40 ∷ [])
     × (dues filter (adding 4) ≡ theres (43 ∷ 42 ∷ 41 ∷ 40 ∷ []))
     × (looked filter (zeroRun filter (upward 0 1) (adding 4)) (adding 4) ≡ theres (43 ∷ 42 ∷ 41 ∷ 40 ∷ []))
-unfolding filter adding numbersRead lowestAnswers boxesOf judged some count first arrivals starts finishes upTo output has dues theres ask readLinks runWhole work come carried upward sets find looked
+unfolding filter adding numbersOf boxesOf judged some count first arrivals starts finishes upTo output has dues theres ask readLinks runWhole work come carried upward sets find looked
 filter-numbers = (refl, refl, refl)
 
 -- every event could happen

@@ -11,10 +11,9 @@ use Rattle.protocol.specs.Event.{Event, arrival, start, read, finish, ha
 use Rattle.protocol.specs.Table.{Table}
 use Rattle.protocol.specs.History.{arrivals, starts, finishes}
 use Rattle.protocol.specs.Schedule.{urgent, AllPossible, judged}
-use Rattle.protocol.specs.Lowest.{boxesOf, lowestAnswers}
-use Rattle.protocol.specs.Answering.{numbersRead}
+use Rattle.protocol.specs.Lowest.{boxesOf, numbersOf}
 use Rattle.protocol.proofs.RunExample.{four}
-use Rattle.protocol.proofs.Bites.{allJudged, all-judged}
+use Rattle.protocol.proofs.Schedule.{allJudged, all-judged}
 
 -- ---- the long example: the 35 events, the last one first
 unfoldable pub long : List (Event ℕ)
@@ -29,8 +28,8 @@ abbrev pub eight : List ℕ
 eight = 103 ∷ 102 ∷ 101 ∷ 102 ∷ 102 ∷ 101 ∷ 101 ∷ 90 ∷ []
 
 -- the protocol reads the eight numbers
-pub long-numbers : numbersRead (lowestAnswers urgent 0) four long ≡ eight
-unfolding four long numbersRead lowestAnswers boxesOf judged some count first arrivals starts finishes has
+pub long-numbers : numbersOf four long ≡ eight
+unfolding four long numbersOf boxesOf judged some count first arrivals starts finishes has
 long-numbers = refl
 
 -- and every event could happen
@@ -40,7 +39,7 @@ long-possible = all-judged four long refl
 
 -- ---- marks: task 0 writes; tasks 1 and 2, less urgent, read it, directly and delayed
 unfoldable pub fan : Table ℕ
-fan = record { tasks = 3; links = 2; default = λ t. 100; startValue = λ l. 90; writer = λ l. 0; reader = suc; delayed = delayed; ahead = ltb }
+fan = record { tasks = 3; links = 2; default = λ t. 100; deadline = λ t. 0; startValue = λ l. 90; writer = λ l. 0; reader = suc; delayed = delayed; ahead = ltb }
   where
     delayed : ℕ → Bool
     delayed zero = false

@@ -1,18 +1,13 @@
--- Two answers allowed for one input are equal: answer functions that meet demands 1 and 2 agree on every refusal, position, pointer, mailbox and number.
+-- The published protocol with the lowest free position allows one outcome: two runs over one history end in the same boxes.
 -- Assumes nothing.
 use mathlib.Core.Path.{_≡_, refl, sym, _∙_}
 use mathlib.Core.Bool.{Bool, true, false}
-use mathlib.Core.List.{List, _∷_}
+use mathlib.Core.List.{List}
 use Prim.Native.Nat.{ℕ}
 use native.Mathlib.Nat.{le-antisymm}
-use borrow.Author.Tests.{eqb-true, eqb-false}
-use lib.Dec.{eqb}
 use Rattle.protocol.specs.Event.{Event, arrival, start, read, finish, has}
-use Rattle.protocol.specs.Table.{Table, Lawful}
-use Rattle.protocol.specs.Schedule.{Policy, Possible, AllPossible}
+use Rattle.protocol.specs.Table.{Table}
 use Rattle.protocol.specs.Published.{Boxes, Same, Fresh, Free, Lowest, Arrived, Finished, number, Step, Run, fresh, next}
-use Rattle.protocol.specs.Answering.{SameResponse, Answerer, ReadsNothing, boxesAfter, RefusesRightly, FollowsProtocol}
-use Rattle.protocol.proofs.Answering.{answers-run}
 
 module _ {Val : Type 0} (T : Table Val) where
   fresh-same : {s r : Boxes Val} → Fresh T s → Fresh T r → Same s r
@@ -86,44 +81,3 @@ module _ {Val : Type 0} (T : Table Val) where
   pub runs-same : {s r : Boxes Val} {h : List (Event Val)} → Run T (Lowest T) s h → Run T (Lowest T) r h → Same s r
   runs-same (fresh f) (fresh g) = fresh-same f g
   runs-same (next e a x) (next _ b y) = step-same (runs-same a b) e x y
-
-module _ {Val : Type 0} (policy : Table Val → Policy Val) (A B : Answerer Val) (T : Table Val) (L : Lawful T) where
-  -- the same refusal to every event
-  pub same-refusal : {zero : Val} → RefusesRightly A policy zero → RefusesRightly B policy zero → (h : List (Event Val)) → AllPossible T (policy T) h → (e : Event Val)
-      → A .reply T h e .refusal ≡ B .reply T h e .refusal
-  same-refusal EA EB h P e = EA .number T L h P e ∙ sym (EB .number T L h P e)
-
-  module _ (DA : FollowsProtocol A policy) (DB : FollowsProtocol B policy) where
-    -- the same boxes after every history
-    pub same-boxes : (h : List (Event Val)) → AllPossible T (policy T) h → Same (boxesAfter A T h) (boxesAfter B T h)
-    same-boxes h P = runs-same T (answers-run policy A DA T L h P) (answers-run policy B DB T L h P)
-
-    -- the same number at every read
-    pub same-number : (h : List (Event Val)) → AllPossible T (policy T) h → (l : ℕ) → Possible T (policy T) h (read l) → A .reply T h (read l) .value ≡ B .reply T h (read l) .value
-    same-number h P l p = DA .number T L h P l p ∙ number-same T (same-boxes h P) l ∙ sym (DB .number T L h P l p)
-
-    module _ {zero : Val} (EA : RefusesRightly A policy zero) (EB : RefusesRightly B policy zero) (h : List (Event Val)) (P : AllPossible T (policy T) h) where
-      -- the same value of every accepted event
-      same-value : (e : Event Val) → Possible T (policy T) h e → A .reply T h e .value ≡ B .reply T h e .value
-      unfolding ReadsNothing
-      same-value (arrival m) p = EA .silent T L h P (arrival m) tt ∙ sym (EB .silent T L h P (arrival m) tt)
-      same-value (start t) p = EA .silent T L h P (start t) tt ∙ sym (EB .silent T L h P (start t) tt)
-      same-value (read l) p = same-number h P l p
-      same-value (finish t v) p = EA .silent T L h P (finish t v) tt ∙ sym (EB .silent T L h P (finish t v) tt)
-
-      -- the same reply to every event, accepted or refused
-      pub same-reply : (e : Event Val) → SameResponse (A .reply T h e) (B .reply T h e)
-      unfolding AllPossible boxesAfter
-      same-reply e = go (eqb (A .reply T h e .refusal) 0) refl
-        where
-          same : A .reply T h e .refusal ≡ B .reply T h e .refusal
-          same = same-refusal EA EB h P e
-
-          go : (b : Bool) → eqb (A .reply T h e .refusal) 0 ≡ b → SameResponse (A .reply T h e) (B .reply T h e)
-          go true i =
-              let p = DA .only T L h P e (eqb-true _ 0 i) in
-              record { refusal = same; value = same-value e p; boxes = same-boxes (e ∷ h) (p, P) }
-          go false i =
-              let a = EA .unchanged T L h P e (eqb-false _ 0 i) in
-              let b = EB .unchanged T L h P e (λ z. eqb-false _ 0 i (same ∙ z)) in
-              record { refusal = same; value = a .1 ∙ sym (b .1); boxes = rw (a .0, b .0) (same-boxes h P) }

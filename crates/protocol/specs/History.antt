@@ -102,7 +102,7 @@ module _ {Val : Type 0} where
   abbrev pub counts : Table Val → List (Event Val) → Counts
   counts T h = record { arrivals = sum (arrivals h) (T .tasks); starts = sum (starts h) (T .tasks); reads = reads h; finishes = sum (finishes h) (T .tasks) }
 
-  -- the history after these events, given in the order in which they happened, which came after the history h
-  unfoldable pub past : List (Event Val) → List (Event Val) → List (Event Val)
-  past h [] = h
-  past h (e ∷ es) = past (e ∷ h) es
+-- the history after these events, with ticks or without, given in the order in which they happened, which came after the history h
+unfoldable pub past : {A : Type 0} → List A → List A → List A
+past h [] = h
+past h (e ∷ es) = past (e ∷ h) es

@@ -10,4 +10,3 @@ pub mod Ranges
 pub mod Free
 pub mod Lowest
 pub mod Instant
-pub mod Answering

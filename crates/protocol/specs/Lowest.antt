@@ -1,4 +1,4 @@
--- The protocol with the lowest free position, as a function: one of the answer functions that the demands allow.
+-- The protocol with the lowest free position, as a function.
 -- Assumes nothing.
 use mathlib.Core.Bool.{false, cond, _&&_}
 use mathlib.Core.List.{List, [], _∷_}
@@ -6,10 +6,8 @@ use Prim.Native.Nat.{ℕ, _+_}
 use lib.Dec.{eqb}
 use Rattle.protocol.specs.Event.{Event, arrival, start, read, finish, has}
 use Rattle.protocol.specs.Table.{Table, N, marks}
-use Rattle.protocol.specs.Schedule.{Policy, judged}
 use Rattle.protocol.specs.Published.{Boxes, seenOnce, comes, leaves, number}
 use Rattle.protocol.specs.Free.{lowestOf}
-use Rattle.protocol.specs.Answering.{Answerer}
 
 module _ {Val : Type 0} (T : Table Val) where
   -- the lowest free position of task t
@@ -65,11 +63,10 @@ module _ {Val : Type 0} (T : Table Val) where
   valueThen zero s (read l) = number T s l
   valueThen zero s (finish t v) = zero
 
--- the whole answer function
-unfoldable pub lowestAnswers : {Val : Type 0} → (Table Val → Policy Val) → Val → Answerer Val
-lowestAnswers policy zero = record {
-  fresh = freshBoxes;
-  reply = λ T h e. cond (eqb (judged T (policy T) h e) 0)
-      (record { refusal = 0; value = valueThen T zero (boxesOf T h) e; boxes = nextBoxes T e (boxesOf T h) })
-      (record { refusal = judged T (policy T) h e; value = zero; boxes = boxesOf T h });
-}
+  -- the numbers that its reads give, the last one first
+  unfoldable pub numbersOf : List (Event Val) → List Val
+  numbersOf [] = []
+  numbersOf (arrival m ∷ h) = numbersOf h
+  numbersOf (start t ∷ h) = numbersOf h
+  numbersOf (read l ∷ h) = number T (boxesOf h) l ∷ numbersOf h
+  numbersOf (finish t v ∷ h) = numbersOf h

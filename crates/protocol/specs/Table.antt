@@ -8,11 +8,13 @@ use lib.Dec.{eqb, ltb}
 use Rattle.lists.specs.Lists.{count}
 
 -- `ahead u t`: task u is more urgent than task t. The order is a parameter: under fixed priorities the earlier task is ahead.
+-- `deadline t`: task t's relative deadline; under fixed priorities there is none, and it is 0. No rule of the protocol reads it, but a policy may
 -- `startValue l`: "each unit delay has its own initial value"; nothing reads that of a direct link
 pub record Table (Val : Type 0) : Type 0 where
   pub tasks : ℕ
   pub links : ℕ
   pub default : ℕ → Val
+  pub deadline : ℕ → ℕ
   pub startValue : ℕ → Val
   pub writer : ℕ → ℕ
   pub reader : ℕ → ℕ
