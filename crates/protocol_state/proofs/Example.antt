@@ -10,20 +10,24 @@ use Rattle.protocol.specs.History.{arrivals, starts, finishes, reads, upTo, out
 use Rattle.protocol.specs.ZeroTime.{dues, ideals}
 use Rattle.protocol.specs.Instant.{ask, readLinks, runWhole, work, come, carried, upward, sets, zeroRun, find, looked, theres}
 use Rattle.protocol.proofs.StartExample.{eight}
-use Rattle.protocol_state.specs.Records.{Link, earlier}
+use Rattle.protocol_deadlines.specs.Timed.{untimed}
+use Rattle.protocol_state.specs.Records.{Task, Link, earlier}
 use Rattle.protocol_state.specs.Saved.{Saved, stateRoom, at, table}
 use Rattle.protocol_state.specs.Rules.{fault, judgedTable}
 use Rattle.protocol_state.specs.Decision.{decided}
-use Rattle.protocol_state.specs.Judge.{judgedArrival, judgedTask, judgedRead}
-use Rattle.protocol_state.specs.Next.{newestAfter, previousAfter, seenAfter, pointerAfter, markAfter, phaseAfter}
+use Rattle.protocol_state.specs.Judge.{judgedArrival, judgedTask, judgedRead, soonerIn, judgedOnAt}
+use Rattle.protocol_state.specs.Next.{newestAfter, previousAfter, seenAfter, pointerAfter, markAfter, phaseAfter, sinceAfter}
 use Rattle.protocol_state.specs.Sound.{isSound}
 use Rattle.protocol_state.specs.Fresh.{freshOf}
-use Rattle.protocol_state.specs.Give.{Progress, settled, begin, afterEvent, replay}
+use Rattle.protocol_state.specs.Give.{plainly, Call, Progress, settled, begin, afterCall, replay}
 
 -- four tasks with defaults 0, 100, 0, 0; links 1 to 0 delayed with start value 90, 1 to 2 direct, 1 to 3 direct
 abbrev station : Saved
-station = freshOf stateRoom (0 ∷ 100 ∷ 0 ∷ 0 ∷ []) (link 1 0 1 90 ∷ link 1 2 0 0 ∷ link 1 3 0 0 ∷ [])
+station = freshOf stateRoom 0 (task 0 ∷ task 100 ∷ task 0 ∷ task 0 ∷ []) (link 1 0 1 90 ∷ link 1 2 0 0 ∷ link 1 3 0 0 ∷ [])
   where
+    task : ℕ → Task
+    task d = record { default = d; deadline = 0 }
+
     link : ℕ → ℕ → ℕ → ℕ → Link
     link w r k v = record { writer = w; reader = r; kind = k; startValue = v }
 
@@ -40,17 +44,22 @@ third-part = start 0 ∷ read 0 ∷ finish 0 0 ∷ start 1 ∷ finish 1 102 ∷ 
 abbrev last-part : List (Event ℕ)
 last-part = start 0 ∷ read 0 ∷ finish 0 0 ∷ start 1 ∷ finish 1 103 ∷ read 2 ∷ finish 3 0 ∷ arrival 9 ∷ start 0 ∷ read 0 ∷ finish 0 0 ∷ start 3 ∷ read 2 ∷ finish 3 0 ∷ []
 
+-- each handed over without a tick
+unfoldable pub calls : List (Event ℕ) → List Call
+calls [] = []
+calls (e ∷ es) = plainly e ∷ calls es
+
 abbrev one : Progress
-one = replay earlier stateRoom (begin station) first-part
+one = replay earlier stateRoom (begin station) (calls first-part)
 
 abbrev two : Progress
-two = replay earlier stateRoom one second-part
+two = replay earlier stateRoom one (calls second-part)
 
 abbrev three : Progress
-three = replay earlier stateRoom two third-part
+three = replay earlier stateRoom two (calls third-part)
 
 abbrev all : Progress
-all = replay earlier stateRoom three last-part
+all = replay earlier stateRoom three (calls last-part)
 
 abbrev newest-of-1 : Progress → ℕ
 newest-of-1 o = at (o .state .newest) 1
@@ -59,8 +68,8 @@ newest-of-1 o = at (o .state .newest) 1
 pub long-example :
     (newest-of-1 one ≡ 2) × (newest-of-1 two ≡ 1) × (newest-of-1 three ≡ 3) × (newest-of-1 all ≡ 3)
     × (all .numbers ≡ eight)
-    × (ideals (table earlier station) (all .history) ≡ eight)
-    × (looked (table earlier station) (zeroRun (table earlier station) (upward 0 4) (all .history)) (all .history) ≡ theres eight)
-    × (counts (table earlier station) (all .history) ≡ record { arrivals = 11; starts = 11; reads = 8; finishes = 11 })
-unfolding upto every some count first leading sum has fault judgedTable decided judgedArrival judgedTask judgedRead newestAfter previousAfter seenAfter pointerAfter markAfter phaseAfter isSound freshOf settled afterEvent replay arrivals starts reads finishes upTo output dues values ask readLinks runWhole work come carried upward sets find looked theres
+    × (ideals (table earlier station) (untimed (all .history)) ≡ eight)
+    × (looked (table earlier station) (zeroRun (table earlier station) (upward 0 4) (untimed (all .history))) (untimed (all .history)) ≡ theres eight)
+    × (counts (table earlier station) (untimed (all .history)) ≡ record { arrivals = 11; starts = 11; reads = 8; finishes = 11 })
+unfolding calls untimed sinceAfter soonerIn judgedOnAt upto every some count first leading sum has fault judgedTable decided judgedArrival judgedTask judgedRead newestAfter previousAfter seenAfter pointerAfter markAfter phaseAfter isSound freshOf settled afterCall replay arrivals starts reads finishes upTo output dues values ask readLinks runWhole work come carried upward sets find looked theres
 long-example = (refl, refl, refl, refl, refl, refl, refl, refl)

@@ -6,10 +6,11 @@ use mathlib.Core.List.{List}
 use Prim.Native.Nat.{ℕ, _+_, _^_, _≤_, _<_}
 use native.Mathlib.Omega.{arith}
 use native.Mathlib.Decide.{ℕ-discrete}
-use borrow.Author.Tests.{eq-eqb, ne-eqb, lt-ltb}
+use borrow.Author.Tests.{eq-eqb, ne-eqb, eqb-true, eqb-false, lt-ltb}
 use lib.Dec.{eqb}
 use lib.ListN.{set, length, length-set}
 use lib.Seq.{getD-set-same, getD-set-other}
+use Rattle.lists.specs.Lists.{upto}
 use Rattle.lists.proofs.Bools.{cond-small}
 use Rattle.lists.proofs.Lists.{length-upto}
 use Rattle.protocol.specs.Event.{Event, arrival, start, read, finish, has}
@@ -17,12 +18,13 @@ use Rattle.protocol.specs.Table.{marked, N}
 use Rattle.protocol.specs.Ranges.{Position}
 use Rattle.protocol.specs.Published.{seenOnce, leaves}
 use Rattle.protocol.proofs.Schedule.{has-below}
-use Rattle.protocol_state.specs.Saved.{Size, Saved, Shape, at, delayedKind, linkIn, table}
+use Rattle.protocol_deadlines.specs.Timed.{limit}
+use Rattle.protocol_state.specs.Saved.{Size, Saved, Shape, at, delayedKind, linkIn, aheadIn, table}
 use Rattle.protocol_state.specs.Rules.{Obeys}
 use Rattle.protocol_state.specs.Decision.{decided}
-use Rattle.protocol_state.specs.Judge.{judgedArrival, judgedTask, judgedOn}
-use Rattle.protocol_state.specs.Next.{previousAt, seenAt, pointerAt, markAt, phaseAt, newestAt, freedAt, newestAfter, previousAfter, seenAfter, pointerAfter, markAfter, phaseAfter, arrived, started, freedIn, finished, next}
-use Rattle.protocol_state.specs.Sound.{Sound}
+use Rattle.protocol_state.specs.Judge.{judgedArrival, judgedTask, soonerIn, judgedOn}
+use Rattle.protocol_state.specs.Next.{previousAt, seenAt, pointerAt, markAt, phaseAt, newestAt, freedAt, newestAfter, previousAfter, seenAfter, pointerAfter, markAfter, phaseAfter, arrived, started, freedIn, finished, next, sinceAt, sinceAfter, nextAt}
+use Rattle.protocol_state.specs.Sound.{Sound, Timely}
 use Rattle.protocol_state.proofs.Decision.{arrives-idle, starts-waiting, finishes-running}
 use Rattle.protocol_state.proofs.Places.{changed, arrival-allowed, task-allowed}
 use Rattle.protocol_state.proofs.Rules as rules
@@ -34,12 +36,57 @@ mark-delayed : (d : Bool) (a : ℕ) → cond {A = ℕ} (marked d a) 1 0 ≡ 1 �
 mark-delayed true a e = refl
 mark-delayed false a e = absurd (omega arith)
 
+-- the tick x may come next: it is not below the last one nor above the limit
+abbrev pub FitsTick : Saved → ℕ → Type 0
+FitsTick q x = (q .last ≤ x) × (x ≤ limit)
+
+-- the ticks after it are as they must be where no arrival tick is then after it, and that of an idle task is 0; under fixed priorities they stay 0
+timely-after : {T z p : ℕ} {ph D y : List ℕ} → Timely T ph D y z p → (x : ℕ) → x ≤ limit → (ph′ y′ : List ℕ)
+    → ((t : ℕ) → t < T → (at y′ t ≤ x) × (at ph′ t ≡ 0 → at y′ t ≡ 0)) → Timely T ph′ D (cond (eqb p 0) y y′) (cond (eqb p 0) z x) p
+timely-after {T} {z} {p} {ph} {D} {y} Y x small ph′ y′ f = go (eqb p 0) refl
+  where
+    go : (b : Bool) → eqb p 0 ≡ b → Timely T ph′ D (cond b y y′) (cond b z x) p
+    go true e =
+        let o = Y .unclocked (eqb-true p 0 e) in
+        record {
+          either = Y .either;
+          none-later = Y .none-later;
+          idle = λ t l i. omega (arith, o, Y .none-later t l);
+          small = Y .small;
+          dated = Y .dated;
+          undated = Y .undated;
+          unclocked = Y .unclocked;
+        }
+    go false e = record {
+      either = Y .either;
+      none-later = λ t l. f t l .0;
+      idle = λ t l. f t l .1;
+      small = small;
+      dated = Y .dated;
+      undated = Y .undated;
+      unclocked = λ i. absurd (eqb-false p 0 e i);
+    }
+
 -- no event changes the table
-pub table-same : (ahead : ℕ → ℕ → Bool) (q : Saved) (e : Event ℕ) → table ahead (next ahead q e) ≡ table ahead q
-table-same ahead q (arrival s) = refl
-table-same ahead q (start t) = refl
-table-same ahead q (read l) = refl
-table-same ahead q (finish t v) = refl
+pub table-same : (ahead : ℕ → ℕ → Bool) (q : Saved) (x : ℕ) (e : Event ℕ) → table ahead (nextAt ahead q x e) ≡ table ahead q
+table-same ahead q x (arrival s) = refl
+table-same ahead q x (start t) = refl
+table-same ahead q x (read l) = refl
+table-same ahead q x (finish t v) = refl
+
+-- nor the order of its tasks
+pub order-same : (ahead : ℕ → ℕ → Bool) (q : Saved) (x : ℕ) (e : Event ℕ) → aheadIn (nextAt ahead q x e) ≡ aheadIn q
+order-same ahead q x (arrival s) = refl
+order-same ahead q x (start t) = refl
+order-same ahead q x (read l) = refl
+order-same ahead q x (finish t v) = refl
+
+-- nor the policy
+pub policy-same : (ahead : ℕ → ℕ → Bool) (q : Saved) (x : ℕ) (e : Event ℕ) → nextAt ahead q x e .policy ≡ q .policy
+policy-same ahead q x (arrival s) = refl
+policy-same ahead q x (start t) = refl
+policy-same ahead q x (read l) = refl
+policy-same ahead q x (finish t v) = refl
 
 module _ {ahead : ℕ → ℕ → Bool} {size : Size} (q : Saved) (G : Sound ahead size q) where
   -- each link of a sound state obeys the rules
@@ -56,6 +103,11 @@ module _ {ahead : ℕ → ℕ → Bool} {size : Size} (q : Saved) (G : Sound ahe
       (rules.keeps-judged ahead (q .tasks) (linkIn q) size (q .links) (G .rules))
 
   module _ (S : Shape size q) where
+    -- where no arrival tick changes, and who is then idle was idle
+    kept-ticks : (x : ℕ) → q .last ≤ x → (ph : List ℕ) → ((t : ℕ) → t < q .tasks → at ph t ≡ 0 → at (q .phase) t ≡ 0)
+        → (t : ℕ) → t < q .tasks → (at (q .since) t ≤ x) × (at ph t ≡ 0 → at (q .since) t ≡ 0)
+    kept-ticks x low ph f t l = (omega (arith, G .times .none-later t l), λ z. G .times .idle t l (f t l z))
+
     -- ---- an arrival
     module _ (s : ℕ) (ok : judgedArrival s (q .tasks) (at (q .phase)) ≡ 0) where
       -- the set is one of the table's tasks
@@ -120,8 +172,17 @@ module _ {ahead : ℕ → ℕ → Bool} {size : Size} (q : Saved) (G : Sound ahe
       mark-stays : (l : ℕ) → l < q .links → has s (at (q .reader) l) ≡ false → at (markAfter s q) l ≡ at (q .mark) l
       mark-stays l h e = mark-at q S s (room .1) l ∙ rw (lt-ltb l (q .links) h, e)
 
-      arrived-sound : Sound ahead size (arrived ahead s q)
-      arrived-sound = record {
+      since-in : (x : ℕ) → q .last ≤ x → (t : ℕ) → t < q .tasks
+          → (at (upto (sinceAt s x) (q .tasks) (q .since)) t ≤ x) × (at (phaseAfter s q) t ≡ 0 → at (upto (sinceAt s x) (q .tasks) (q .since)) t ≡ 0)
+      since-in x low t l = rw (changed (has s) (λ i y. x) (q .tasks) (q .since) (omega (arith, S .since, room .0)) t 0, lt-ltb t (q .tasks) l) (go (has s t) refl)
+        where
+          go : (b : Bool) → has s t ≡ b → (cond b x (at (q .since) t) ≤ x) × (at (phaseAfter s q) t ≡ 0 → cond b x (at (q .since) t) ≡ 0)
+          go true e = (omega arith, λ z. absurd (omega (arith, were-idle t e .1)))
+          go false e = (omega (arith, G .times .none-later t l), λ z. G .times .idle t l (sym (phase-kept t e) ∙ z))
+
+      arrived-sound : (x : ℕ) → FitsTick q x → Sound ahead size (nextAt ahead q x (arrival s))
+      unfolding sinceAfter
+      arrived-sound x tick = record {
         rules = G .rules;
         phase = phase-good;
         newest = newest-good;
@@ -134,6 +195,7 @@ module _ {ahead : ℕ → ℕ → Bool} {size : Size} (q : Saved) (G : Sound ahe
         mark = λ l h. mark l h (has s (at (q .reader) l)) refl;
         held = λ l h. held l h (has s (at (q .reader) l)) refl;
         early = λ l h. early l h (has s (at (q .reader) l)) refl;
+        times = timely-after (G .times) x (tick .1) (phaseAfter s q) (upto (sinceAt s x) (q .tasks) (q .since)) (since-in x (tick .0));
       }
         where
           -- by the mark that an arriving reader's link gets
@@ -176,19 +238,20 @@ module _ {ahead : ℕ → ℕ → Bool} {size : Size} (q : Saved) (G : Sound ahe
         go (no e) = rw (getD-set-other (q .phase) t u y 0 e) (G .phase u k)
 
     -- ---- a start
-    module _ (t : ℕ) (ok : judgedTask ahead 1 t (q .tasks) (at (q .phase)) ≡ 0) where
+    module _ (t : ℕ) (ok : judgedTask (soonerIn ahead q) 1 t (q .tasks) (at (q .phase)) ≡ 0) where
       start-known : t < q .tasks
-      start-known = task-allowed ahead 1 t (q .tasks) (at (q .phase)) ok .0
+      start-known = task-allowed (soonerIn ahead q) 1 t (q .tasks) (at (q .phase)) ok .0
 
       decided-start : (at (q .phase) t ≡ 1) × (decided 1 (at (q .phase) t) ≡ 2)
-      decided-start = starts-waiting (at (q .phase) t) (G .phase t start-known) (task-allowed ahead 1 t (q .tasks) (at (q .phase)) ok .1)
+      decided-start = starts-waiting (at (q .phase) t) (G .phase t start-known) (task-allowed (soonerIn ahead q) 1 t (q .tasks) (at (q .phase)) ok .1)
 
       -- who starts waited, and runs now
       pub was-waiting : (at (q .phase) t ≡ 1) × (at (started t q .phase) t ≡ 2)
       was-waiting = (decided-start .0, phase-same t _ start-known ∙ decided-start .1)
 
-      started-sound : Sound ahead size (started t q)
-      started-sound = record {
+      started-sound : (x : ℕ) → FitsTick q x → Sound ahead size (nextAt ahead q x (start t))
+      unfolding sinceAfter
+      started-sound x tick = record {
         rules = G .rules;
         phase = phases-good t (decided 1 (at (q .phase) t)) start-known (omega (arith, decided-start .1));
         newest = G .newest;
@@ -201,8 +264,13 @@ module _ {ahead : ℕ → ℕ → Bool} {size : Size} (q : Saved) (G : Sound ahe
         mark = G .mark;
         held = G .held;
         early = G .early;
+        times = timely-after (G .times) x (tick .1) (started t q .phase) (q .since) (kept-ticks x (tick .0) (started t q .phase) (λ u l z. idle u z (ℕ-discrete u t)));
       }
         where
+          idle : (u : ℕ) → at (started t q .phase) u ≡ 0 → Dec (u ≡ t) → at (q .phase) u ≡ 0
+          idle u z (yes e) = absurd (omega (arith, was-waiting .1, rw e at z))
+          idle u z (no e) = sym (getD-set-other (q .phase) t u _ 0 e) ∙ z
+
           unseen : (u : ℕ) → u < q .tasks → at (q .seen) u ≡ 0 → Dec (u ≡ t) → at (started t q .phase) u ≡ 0
           unseen u l z (yes e) = absurd (omega (arith, was-waiting .0, rw e at (G .unseen u l z)))
           unseen u l z (no e) = getD-set-other (q .phase) t u _ 0 e ∙ G .unseen u l z
@@ -215,6 +283,25 @@ module _ {ahead : ℕ → ℕ → Bool} {size : Size} (q : Saved) (G : Sound ahe
               → at (started t q .phase) (at (q .reader) l) ≡ 0 → at (q .pointer) l ≡ 0
           absent l h (yes e) a z = absurd (omega (arith, was-waiting .1, rw e at z))
           absent l h (no e) a z = G .absent l h a (sym (getD-set-other (q .phase) t (at (q .reader) l) _ 0 e) ∙ z)
+
+    -- ---- a read
+    read-sound : (x : ℕ) → FitsTick q x → (l : ℕ) → Sound ahead size (nextAt ahead q x (read l))
+    unfolding sinceAfter
+    read-sound x tick l = record {
+      rules = G .rules;
+      phase = G .phase;
+      newest = G .newest;
+      previous = G .previous;
+      pointer = G .pointer;
+      present = G .present;
+      absent = G .absent;
+      seen = G .seen;
+      unseen = G .unseen;
+      mark = G .mark;
+      held = G .held;
+      early = G .early;
+      times = timely-after (G .times) x (tick .1) (q .phase) (q .since) (kept-ticks x (tick .0) (q .phase) (λ t h z. z));
+    }
 
     -- ---- a finish
     module _ (t v : ℕ) where
@@ -231,20 +318,21 @@ module _ {ahead : ℕ → ℕ → Bool} {size : Size} (q : Saved) (G : Sound ahe
       others-stay : (l : ℕ) → l < q .links → (at (q .reader) l ≡ t → ⊥) → at (finished ahead t v q .pointer) l ≡ at (q .pointer) l
       others-stay l h n = freed-at l ∙ rw (lt-ltb l (q .links) h, ne-eqb (at (q .reader) l) t n)
 
-      module _ (ok : judgedTask ahead 3 t (q .tasks) (at (q .phase)) ≡ 0) where
+      module _ (ok : judgedTask (soonerIn ahead q) 3 t (q .tasks) (at (q .phase)) ≡ 0) where
         -- the task is one of the table's
         pub finish-known : t < q .tasks
-        finish-known = task-allowed ahead 3 t (q .tasks) (at (q .phase)) ok .0
+        finish-known = task-allowed (soonerIn ahead q) 3 t (q .tasks) (at (q .phase)) ok .0
 
         decided-finish : (at (q .phase) t ≡ 2) × (decided 3 (at (q .phase) t) ≡ 0)
-        decided-finish = finishes-running (at (q .phase) t) (G .phase t finish-known) (task-allowed ahead 3 t (q .tasks) (at (q .phase)) ok .1)
+        decided-finish = finishes-running (at (q .phase) t) (G .phase t finish-known) (task-allowed (soonerIn ahead q) 3 t (q .tasks) (at (q .phase)) ok .1)
 
         -- who finishes ran, and is idle now
         pub was-running : (at (q .phase) t ≡ 2) × (at (finished ahead t v q .phase) t ≡ 0)
         was-running = (decided-finish .0, phase-same t _ finish-known ∙ decided-finish .1)
 
-        finished-sound : Sound ahead size (finished ahead t v q)
-        finished-sound = record {
+        finished-sound : (x : ℕ) → FitsTick q x → Sound ahead size (nextAt ahead q x (finish t v))
+        unfolding sinceAfter
+        finished-sound x tick = record {
           rules = G .rules;
           phase = phases-good t (decided 3 (at (q .phase) t)) finish-known (omega (arith, decided-finish .1));
           newest = G .newest;
@@ -257,8 +345,18 @@ module _ {ahead : ℕ → ℕ → Bool} {size : Size} (q : Saved) (G : Sound ahe
           mark = λ l h. rw (unmarked-at l) (cond-small (leaves (table ahead q) t l) (omega arith) (G .mark l h));
           held = λ l h. rw (unmarked-at l, freed-at l) (held l h (leaves (table ahead q) t l));
           early = λ l h. rw (unmarked-at l, freed-at l) (early l h (leaves (table ahead q) t l));
+          times = timely-after (G .times) x (tick .1) (finished ahead t v q .phase) (set (q .since) t 0) (λ u l. back u l (ℕ-discrete u t));
         }
           where
+            -- the arrival tick of who finishes is set back
+            back : (u : ℕ) → u < q .tasks → Dec (u ≡ t) → (at (set (q .since) t 0) u ≤ x) × (at (finished ahead t v q .phase) u ≡ 0 → at (set (q .since) t 0) u ≡ 0)
+            back u l (yes e) =
+                let z : at (set (q .since) t 0) u ≡ 0 = rw e (getD-set-same (q .since) t 0 0 (omega (arith, S .since, room .0, finish-known))) in
+                (omega arith, λ i. z)
+            back u l (no e) =
+                let k = getD-set-other (q .since) t u 0 0 e in
+                rw k (omega (arith, G .times .none-later u l, tick .0), λ z. G .times .idle u l (sym (getD-set-other (q .phase) t u _ 0 e) ∙ z))
+
             unseen : (u : ℕ) → u < q .tasks → at (q .seen) u ≡ 0 → Dec (u ≡ t) → at (finished ahead t v q .phase) u ≡ 0
             unseen u l z (yes e) = rw e (was-running .1)
             unseen u l z (no e) = getD-set-other (q .phase) t u _ 0 e ∙ G .unseen u l z
@@ -283,16 +381,22 @@ module _ {ahead : ℕ → ℕ → Bool} {size : Size} (q : Saved) (G : Sound ahe
             absent l h (no e) a z = others-stay l h e ∙ G .absent l h a (sym (getD-set-other (q .phase) t (at (q .reader) l) _ 0 e) ∙ z)
 
 -- what is sound stays sound
-pub next-sound : {ahead : ℕ → ℕ → Bool} {size : Size} {q : Saved} → Shape size q → Sound ahead size q → (e : Event ℕ) → judgedOn ahead q e ≡ 0 → Sound ahead size (next ahead q e)
-next-sound {q = q} S G (arrival s) ok = arrived-sound q G S s ok
-next-sound {q = q} S G (start t) ok = started-sound q G S t ok
-next-sound S G (read l) ok = G
-next-sound {q = q} S G (finish t v) ok = finished-sound q G S t v ok
+pub next-sound : {ahead : ℕ → ℕ → Bool} {size : Size} {q : Saved} → Shape size q → Sound ahead size q → (x : ℕ) → FitsTick q x → (e : Event ℕ) → judgedOn ahead q e ≡ 0
+    → Sound ahead size (nextAt ahead q x e)
+next-sound {q = q} S G x tick (arrival s) ok = arrived-sound q G S s ok x tick
+next-sound {q = q} S G x tick (start t) ok = started-sound q G S t ok x tick
+next-sound {q = q} S G x tick (read l) ok = read-sound q G S x tick l
+next-sound {q = q} S G x tick (finish t v) ok = finished-sound q G S t v ok x tick
+
+-- one of two lists of a length has it
+either-length : (b : Bool) (xs ys : List ℕ) {n : ℕ} → length xs ≡ n → length ys ≡ n → length (cond b xs ys) ≡ n
+either-length true xs ys e f = e
+either-length false xs ys e f = f
 
 -- no event changes the lengths of the lists
-pub next-shape : (ahead : ℕ → ℕ → Bool) {size : Size} {q : Saved} → Shape size q → (e : Event ℕ) → Shape size (next ahead q e)
-unfolding newestAfter previousAfter seenAfter pointerAfter markAfter phaseAfter
-next-shape ahead {size} {q} S (arrival s) = record {
+pub next-shape : (ahead : ℕ → ℕ → Bool) {size : Size} {q : Saved} → Shape size q → (x : ℕ) (e : Event ℕ) → Shape size (nextAt ahead q x e)
+unfolding sinceAfter newestAfter previousAfter seenAfter pointerAfter markAfter phaseAfter
+next-shape ahead {size} {q} S x (arrival s) = record {
   defaults = S .defaults;
   phase = length-upto (phaseAt s) (q .tasks) (q .phase) ∙ S .phase;
   newest = length-upto (newestAt ahead s (at (q .writer)) (at (q .reader)) (at (q .pointer)) (q .links)) (q .tasks) (q .newest) ∙ S .newest;
@@ -305,8 +409,10 @@ next-shape ahead {size} {q} S (arrival s) = record {
   startValue = S .startValue;
   pointer = length-upto (pointerAt s (at (q .writer)) (at (q .reader)) (at (q .kind)) (at (newestAfter ahead s q)) (at (previousAfter s q))) (q .links) (q .pointer) ∙ S .pointer;
   mark = length-upto (markAt s (at (q .writer)) (at (q .reader)) (at (q .kind)) (at (seenAfter s q))) (q .links) (q .mark) ∙ S .mark;
+  deadline = S .deadline;
+  since = either-length (eqb (q .policy) 0) (q .since) _ (S .since) (length-upto (sinceAt s x) (q .tasks) (q .since) ∙ S .since);
 }
-next-shape ahead {size} {q} S (start t) = record {
+next-shape ahead {size} {q} S x (start t) = record {
   defaults = S .defaults;
   phase = rw length-set (S .phase);
   newest = S .newest;
@@ -319,9 +425,26 @@ next-shape ahead {size} {q} S (start t) = record {
   startValue = S .startValue;
   pointer = S .pointer;
   mark = S .mark;
+  deadline = S .deadline;
+  since = either-length (eqb (q .policy) 0) (q .since) _ (S .since) (S .since);
 }
-next-shape ahead S (read l) = S
-next-shape ahead {size} {q} S (finish t v) = record {
+next-shape ahead {size} {q} S x (read l) = record {
+  defaults = S .defaults;
+  phase = S .phase;
+  newest = S .newest;
+  previous = S .previous;
+  seen = S .seen;
+  cells = S .cells;
+  writer = S .writer;
+  reader = S .reader;
+  kind = S .kind;
+  startValue = S .startValue;
+  pointer = S .pointer;
+  mark = S .mark;
+  deadline = S .deadline;
+  since = either-length (eqb (q .policy) 0) (q .since) _ (S .since) (S .since);
+}
+next-shape ahead {size} {q} S x (finish t v) = record {
   defaults = S .defaults;
   phase = rw length-set (S .phase);
   newest = S .newest;
@@ -334,4 +457,6 @@ next-shape ahead {size} {q} S (finish t v) = record {
   startValue = S .startValue;
   pointer = length-upto (freedAt ahead t (at (q .writer)) (at (q .reader))) (q .links) (q .pointer) ∙ S .pointer;
   mark = length-upto (freedAt ahead t (at (q .writer)) (at (q .reader))) (q .links) (q .mark) ∙ S .mark;
+  deadline = S .deadline;
+  since = either-length (eqb (q .policy) 0) (q .since) _ (S .since) (rw length-set (S .since));
 }

@@ -10,7 +10,7 @@ use lib.ListN.{length, length-map, getD, replicate, length-replicate, List·getD
 use Rattle.lists.specs.Lists.{upto}
 use Rattle.lists.proofs.Lists.{upto-at, upto-past, length-upto}
 use Rattle.protocol.specs.Instant.{upward}
-use Rattle.protocol_state.specs.Records.{Task, defaultOf, Link, noLink, linkOf, firstTasks, linkFrom, firstLinks}
+use Rattle.protocol_state.specs.Records.{Task, noTask, taskOf, Link, noLink, linkOf, taskFrom, firstTasks, linkFrom, firstLinks}
 use Rattle.protocol_state.specs.Saved.{at}
 use Rattle.protocol_state.specs.Fresh.{copied, column}
 use Rattle.protocol_state.proofs.Places.{zeros}
@@ -34,23 +34,21 @@ module _ {A : Type 0} (f : ℕ → A) where
   numbered-more k zero = ap (λ (i : ℕ). f i ∷ []) (omega arith)
   numbered-more k (suc n) = ap (λ (xs : List A). f k ∷ xs) (numbered-more (suc k) n ∙ ap (λ (i : ℕ). map f (upward (suc k) n) ++ (f i ∷ [])) (omega arith))
 
--- a task is its default
-pub own-defaults : (ts : List Task) → map defaultOf ts ≡ ts
-own-defaults [] = refl
-own-defaults (t ∷ ts) = ap (λ (us : List Task). t ∷ us) (own-defaults ts)
+-- the first tasks of two arrays
+module _ (T : ℕ) (D X : List ℕ) where
+  pub first-tasks-length : length (firstTasks T D X) ≡ T
+  first-tasks-length = length-numbered (taskFrom D X) 0 T
 
--- the first tasks of an array
-pub first-tasks-length : (T : ℕ) (D : List ℕ) → length (firstTasks T D) ≡ T
-first-tasks-length T D = length-numbered (λ t. getD D t 0) 0 T
+  pub first-task : (t : ℕ) → t < T → taskOf (firstTasks T D X) t ≡ taskFrom D X t
+  first-task t h = numbered-at (taskFrom D X) noTask 0 T t h ∙ ap (taskFrom D X) (omega arith)
 
-pub first-task : (T : ℕ) (D : List ℕ) (t : ℕ) → t < T → at (firstTasks T D) t ≡ at D t
-first-task T D t h = numbered-at (λ t. getD D t 0) 0 0 T t h ∙ ap (at D) (omega arith)
-
--- one more
-pub first-tasks-more : (T : ℕ) (D : List ℕ) → firstTasks (T + 1) D ≡ firstTasks T D ++ (at D T ∷ [])
-first-tasks-more T D =
-    let z : 0 + T ≡ T = omega arith in
-    ap (λ (n : ℕ). firstTasks n D) (add-one T) ∙ numbered-more (λ t. getD D t 0) 0 T ∙ ap (λ (t : ℕ). firstTasks T D ++ (at D t ∷ [])) z
+  -- one more
+  pub first-tasks-more : firstTasks (T + 1) D X ≡ firstTasks T D X ++ (taskFrom D X T ∷ [])
+  first-tasks-more =
+      let z : 0 + T ≡ T = omega arith in
+      ap (λ (n : ℕ). firstTasks n D X) (add-one T)
+      ∙ numbered-more (taskFrom D X) 0 T
+      ∙ ap (λ (t : ℕ). firstTasks T D X ++ (taskFrom D X t ∷ [])) z
 
 -- the first links of four arrays
 module _ (L : ℕ) (W R K B : List ℕ) where
@@ -97,10 +95,16 @@ copied-whole size xs l i = go (decLe (length xs) i)
     go (yes h) = upto-past (λ j x. at xs j) (length xs) (replicate size 0) i 0 h ∙ zeros size i ∙ sym (List·getD-eq-default xs 0 h)
     go (no h) = copied-at size (length xs) xs l i (omega arith)
 
--- one field of all links, copied to its room; f noLink computes to 0
+-- one field of all records, copied to its room; of what stands past the last it is 0
+column-of : {A : Type 0} (size : ℕ) (f : A → ℕ) (d : A) → f d ≡ 0 → (xs : List A) → length xs ≤ size → (i : ℕ) → at (column size f xs) i ≡ f (getD xs i d)
+column-of size f d z xs h i =
+    ap (λ (n : ℕ). at (copied size n (map f xs)) i) (sym (length-map xs f))
+    ∙ copied-whole size (map f xs) (omega (arith, length-map xs f)) i
+    ∙ ap (λ (y : ℕ). getD (map f xs) i y) (sym z)
+    ∙ List·getD-map f xs i d
+
 pub column-whole : (size : ℕ) (f : Link → ℕ) → f noLink ≡ 0 → (ls : List Link) → length ls ≤ size → (l : ℕ) → at (column size f ls) l ≡ f (linkOf ls l)
-column-whole size f z ls h l =
-    ap (λ (n : ℕ). at (copied size n (map f ls)) l) (sym (length-map ls f))
-    ∙ copied-whole size (map f ls) (omega (arith, length-map ls f)) l
-    ∙ ap (λ (d : ℕ). getD (map f ls) l d) (sym z)
-    ∙ List·getD-map f ls l noLink
+column-whole size f z ls h l = column-of size f noLink z ls h l
+
+pub column-tasks : (size : ℕ) (f : Task → ℕ) → f noTask ≡ 0 → (ts : List Task) → length ts ≤ size → (t : ℕ) → at (column size f ts) t ≡ f (taskOf ts t)
+column-tasks size f z ts h t = column-of size f noTask z ts h t

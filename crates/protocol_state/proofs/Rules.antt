@@ -12,18 +12,16 @@ use Rattle.lists.specs.Lists.{some, count, leading}
 use Rattle.lists.proofs.Bools.{and-left, and-right, and-not, and-if, or-left, or-right, cond-zero}
 use Rattle.lists.proofs.Lists.{some-not, some-of-none, leading-zero}
 use Rattle.protocol.specs.Table.{Lawful, toBehind}
-use Rattle.protocol_state.specs.Records.{Task, Link, aheadOf}
+use Rattle.protocol_deadlines.specs.Deadline.{Ranks}
+use Rattle.protocol_deadlines.proofs.Orders.{ahead-order}
+use Rattle.protocol_state.specs.Records.{Task, deadlineOf, Link, aheadOf}
 use Rattle.protocol_state.specs.Saved.{Size, Saved, at, linkIn, table}
-use Rattle.protocol_state.specs.Rules.{Ranks, samePair, linksBehind, faultAfter, fault, Obeys, judgedTable, KeepsRules}
+use Rattle.protocol_state.specs.Rules.{samePair, linksBehind, faultAfter, fault, Obeys, judgedTable, KeepsRules}
 use Rattle.protocol_state.proofs.Places.{some-same, count-same, leading-none-other}
 
--- the order of any table's tasks is an order: nobody is ahead of himself, and of two tasks the earlier is ahead
+-- the order of any table's tasks is an order
 pub ranked : (ts : List Task) → Ranks (aheadOf ts)
-ranked ts = record {
-  itself = λ t. le-ltb t t (omega arith);
-  either = λ u t d e. lt-ltb t u (omega (arith, ltb-false u t e));
-  onward = λ u t s d e. lt-ltb u s (omega (arith, ltb-true u t d, ltb-true t s e));
-}
+ranked ts = ahead-order (deadlineOf ts)
 
 -- a link's fault depends only on the links before it
 pub fault-agrees : (ahead : ℕ → ℕ → Bool) (T : ℕ) {link link′ : ℕ → Link} (n : ℕ) (x : Link) → ((j : ℕ) → j < n → link j ≡ link′ j)

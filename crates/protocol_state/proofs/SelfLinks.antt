@@ -11,7 +11,7 @@ use lib.ListN.{set}
 use lib.Seq.{getD-set-same, getD-set-other}
 use Rattle.protocol.specs.Table.{N}
 use Rattle.protocol_state.specs.Saved.{Size, Saved, Shape, at, delayedKind, table}
-use Rattle.protocol_state.specs.Rules.{Ranks}
+use Rattle.protocol_deadlines.specs.Deadline.{Ranks}
 use Rattle.protocol_state.specs.Sound.{Sound}
 use Rattle.protocol_state.specs.Next.{withPointer, withMark}
 
@@ -47,6 +47,7 @@ module _ {ahead : ℕ → ℕ → Bool} {size : Size} (q : Saved) (G : Sound ahe
       mark = λ k i. mark k i (ℕ-discrete k l);
       held = λ k i e. holds k i (ℕ-discrete k l) e;
       early = λ k i d e a. earlier k i (ℕ-discrete k l) d e a;
+      times = G .times;
     }
       where
         pointer : (k : ℕ) → k < q .links → Dec (k ≡ l) → at (set (q .pointer) l p) k ≤ N (table ahead q) (at (q .writer) k) + 2

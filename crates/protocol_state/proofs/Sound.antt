@@ -13,7 +13,8 @@ use Rattle.lists.proofs.Lists.{every-at, every-of}
 use Rattle.protocol.specs.Table.{N}
 use Rattle.protocol_state.specs.Saved.{Size, Saved, at, delayedKind, linkIn, table}
 use Rattle.protocol_state.specs.Rules.{judgedTable}
-use Rattle.protocol_state.specs.Sound.{within, seenIs, markIs, taskOk, pointerOk, taskStands, linkStands, isSound, Sound}
+use Rattle.protocol_deadlines.specs.Timed.{limit}
+use Rattle.protocol_state.specs.Sound.{within, seenIs, markIs, sinceIs, deadlineIs, clockIs, seenOk, timeOk, taskOk, pointerOk, taskStands, linkStands, isSound, Sound}
 use Rattle.protocol_state.proofs.Rules.{judged-keeps, keeps-judged}
 use Rattle.protocol_state.proofs.Places.{between, is-between, or-not}
 use Rattle.protocol_state.proofs.Rules as rules
@@ -72,6 +73,54 @@ mark-is k y a m M = go (delayedKind k && leb 1 y) refl (ltb a 2) refl
         none (yes z) = let h = M .1 z in absurd (true≢false (sym (and-both (h .0) (le-leb 1 y (h .1))) ∙ i))
         none (no z) = omega (arith, M .0)
 
+-- the arrival tick y of a task with this phase, by the last tick z
+since-says : (ph y z : ℕ) → sinceIs ph y z ≡ true → (y ≤ z) × (ph ≡ 0 → y ≡ 0)
+since-says ph y z e = go (eqb ph 0) refl e
+  where
+    go : (b : Bool) → eqb ph 0 ≡ b → leb y (cond b 0 z) ≡ true → (y ≤ z) × (ph ≡ 0 → y ≡ 0)
+    go true i f = let l : y ≤ 0 = leb-true y 0 f in (omega arith, λ k. omega arith)
+    go false i f = (leb-true y z f, λ k. absurd (eqb-false ph 0 i k))
+
+since-is : (ph y z : ℕ) → y ≤ z → (ph ≡ 0 → y ≡ 0) → sinceIs ph y z ≡ true
+since-is ph y z l i = go (eqb ph 0) refl
+  where
+    go : (b : Bool) → eqb ph 0 ≡ b → leb y (cond b 0 z) ≡ true
+    go true e = le-leb y 0 (omega (arith, i (eqb-true ph 0 e)))
+    go false e = le-leb y z l
+
+-- a relative deadline d under the policy p
+deadline-says : (p d : ℕ) → deadlineIs p d ≡ true → (p ≡ 1 → 1 ≤ d) × (p ≡ 0 → d ≡ 0)
+deadline-says p d e = go (eqb p 0) refl e
+  where
+    go : (b : Bool) → eqb p 0 ≡ b → cond b (eqb d 0) (leb 1 d) ≡ true → (p ≡ 1 → 1 ≤ d) × (p ≡ 0 → d ≡ 0)
+    go true i f = let z : p ≡ 0 = eqb-true p 0 i in (λ k. absurd (omega arith), λ k. eqb-true d 0 f)
+    go false i f = (λ k. leb-true 1 d f, λ k. absurd (eqb-false p 0 i k))
+
+deadline-is : (p d : ℕ) → p ≤ 1 → (p ≡ 1 → 1 ≤ d) → (p ≡ 0 → d ≡ 0) → deadlineIs p d ≡ true
+deadline-is p d l one none = go (eqb p 0) refl
+  where
+    go : (b : Bool) → eqb p 0 ≡ b → cond b (eqb d 0) (leb 1 d) ≡ true
+    go true e = eq-eqb d 0 (none (eqb-true p 0 e))
+    go false e = le-leb 1 d (one (omega (arith, eqb-false p 0 e)))
+
+-- the policy p and the last tick z
+clock-says : (p z : ℕ) → clockIs p z ≡ true → (p ≤ 1) × (z ≤ limit) × (p ≡ 0 → z ≡ 0)
+clock-says p z e = go (eqb p 0) refl (and-right (leb p 1) _ e)
+  where
+    few : p ≤ 1
+    few = leb-true p 1 (and-left (leb p 1) _ e)
+
+    go : (b : Bool) → eqb p 0 ≡ b → leb z (cond b 0 limit) ≡ true → (p ≤ 1) × (z ≤ limit) × (p ≡ 0 → z ≡ 0)
+    go true i f = let l : z ≤ 0 = leb-true z 0 f in (few, omega arith, λ k. omega arith)
+    go false i f = (few, leb-true z limit f, λ k. absurd (eqb-false p 0 i k))
+
+clock-is : (p z : ℕ) → p ≤ 1 → z ≤ limit → (p ≡ 0 → z ≡ 0) → clockIs p z ≡ true
+clock-is p z l h none = and-both (le-leb p 1 l) (go (eqb p 0) refl)
+  where
+    go : (b : Bool) → eqb p 0 ≡ b → leb z (cond b 0 limit) ≡ true
+    go true e = le-leb z 0 (omega (arith, none (eqb-true p 0 e)))
+    go false e = le-leb z limit h
+
 module _ (ahead : ℕ → ℕ → Bool) (size : Size) (q : Saved) where
   abbrev aTask : ℕ → Bool
   aTask = taskStands ahead q
@@ -95,11 +144,18 @@ module _ (ahead : ℕ → ℕ → Bool) (size : Size) (q : Saved) where
   pub sound-says : isSound ahead size q ≡ true → Sound ahead size q
   unfolding isSound
   sound-says e =
-      let rest = and-right (eqb judgement 0) _ e in
+      let clocked = and-right (eqb judgement 0) _ e in
+      let clock = clock-says (q .policy) (q .last) (and-left (clockIs (q .policy) (q .last)) _ clocked) in
+      let rest = and-right (clockIs (q .policy) (q .last)) _ clocked in
       let each : (t : ℕ) → t < q .tasks → aTask t ≡ true = λ t l. every-at aTask (q .tasks) t (and-left (every aTask (q .tasks)) _ rest) l in
       let both : (l : ℕ) → l < q .links → aLink l ≡ true = λ l h. every-at aLink (q .links) l (and-right (every aTask (q .tasks)) _ rest) h in
       let tasks : (t : ℕ) → t < q .tasks → taskOk ahead q t ≡ true = λ t l. and-left (taskOk ahead q t) _ (each t l) in
-      let seens : (t : ℕ) → t < q .tasks → (at (q .seen) t < 3) × (at (q .seen) t ≡ 0 → at (q .phase) t ≡ 0) = λ t l. seen-says _ _ (and-right (taskOk ahead q t) _ (each t l)) in
+      let seens : (t : ℕ) → t < q .tasks → (at (q .seen) t < 3) × (at (q .seen) t ≡ 0 → at (q .phase) t ≡ 0) = λ t l. seen-says _ _ (and-left (seenOk q t) _ (and-right (taskOk ahead q t) _ (each t l))) in
+      let timed : (t : ℕ) → t < q .tasks → timeOk q t ≡ true = λ t l. and-right (seenOk q t) _ (and-right (taskOk ahead q t) _ (each t l)) in
+      let sinces : (t : ℕ) → t < q .tasks → (at (q .since) t ≤ q .last) × (at (q .phase) t ≡ 0 → at (q .since) t ≡ 0) =
+      λ t l. since-says (at (q .phase) t) (at (q .since) t) (q .last) (and-left (sinceIs (at (q .phase) t) (at (q .since) t) (q .last)) _ (timed t l)) in
+      let deadlines : (t : ℕ) → t < q .tasks → (q .policy ≡ 1 → 1 ≤ at (q .deadline) t) × (q .policy ≡ 0 → at (q .deadline) t ≡ 0) =
+      λ t l. deadline-says (q .policy) (at (q .deadline) t) (and-right (sinceIs (at (q .phase) t) (at (q .since) t) (q .last)) _ (timed t l)) in
       let pointers : (l : ℕ) → l < q .links → pointerOk ahead q l ≡ true = λ l h. and-left (pointerOk ahead q l) _ (both l h) in
       let marks : (l : ℕ) → l < q .links → MarkedAt l = λ l h. mark-says (at (q .kind) l) (at (q .pointer) l) _ (at (q .mark) l) (and-right (pointerOk ahead q l) _ (both l h)) in
       record {
@@ -117,6 +173,15 @@ module _ (ahead : ℕ → ℕ → Bool) (size : Size) (q : Saved) where
         mark = λ l h. marks l h .0;
         held = λ l h. marks l h .1;
         early = λ l h. marks l h .2;
+        times = record {
+          either = clock .0;
+          none-later = λ t l. sinces t l .0;
+          idle = λ t l. sinces t l .1;
+          small = clock .1;
+          dated = λ p t l. deadlines t l .0 p;
+          undated = λ p t l. deadlines t l .1 p;
+          unclocked = clock .2;
+        };
       }
 
   -- and where it holds, the test passes
@@ -124,12 +189,15 @@ module _ (ahead : ℕ → ℕ → Bool) (size : Size) (q : Saved) where
   unfolding isSound
   says-sound G =
       and-both (eq-eqb judgement 0 (keeps-judged ahead (q .tasks) (linkIn q) size (q .links) (G .rules)))
+      (and-both (clock-is (q .policy) (q .last) (G .times .either) (G .times .small) (G .times .unclocked))
       (and-both
       (every-of aTask (q .tasks) (λ t l. and-both
       (and-both (lt-ltb _ 3 (G .phase t l)) (and-both (is-between _ _ (G .newest t l)) (is-between _ _ (G .previous t l))))
-      (seen-is _ _ (G .seen t l) (G .unseen t l))))
+      (and-both (seen-is _ _ (G .seen t l) (G .unseen t l))
+      (and-both (since-is (at (q .phase) t) (at (q .since) t) (q .last) (G .times .none-later t l) (G .times .idle t l))
+      (deadline-is (q .policy) (at (q .deadline) t) (G .times .either) (λ p. G .times .dated p t l) (λ p. G .times .undated p t l))))))
       (every-of aLink (q .links) (λ l h. and-both
       (and-both (le-leb _ _ (G .pointer l h))
       (pointer-is (eqb (at (q .phase) (at (q .reader) l)) 0) (ahead (at (q .writer) l) (at (q .reader) l)) (at (q .pointer) l)
       (λ n. G .present l h (eqb-false _ 0 n)) (λ z a. G .absent l h a (eqb-true _ 0 z))))
-      (mark-is (at (q .kind) l) (at (q .pointer) l) _ (at (q .mark) l) (G .mark l h, G .held l h, G .early l h)))))
+      (mark-is (at (q .kind) l) (at (q .pointer) l) _ (at (q .mark) l) (G .mark l h, G .held l h, G .early l h))))))

@@ -17,8 +17,8 @@ use Rattle.protocol.specs.Ranges.{Position}
 use Rattle.protocol.specs.Published.{Lowest, Arrived, Finished, Step, comes, leaves, number}
 use Rattle.protocol.proofs.Schedule.{has-below}
 use Rattle.protocol_state.specs.Saved.{Size, Saved, Shape, at, cellOf, positions, oneTo, delayedKind, isMark, table, boxes}
-use Rattle.protocol_state.specs.Judge.{judgedArrival, judgedTask, judgedOn}
-use Rattle.protocol_state.specs.Next.{newestAfter, previousAfter, seenAfter, arrived, finished, next, valueOf}
+use Rattle.protocol_state.specs.Judge.{judgedArrival, judgedTask, soonerIn, judgedOn}
+use Rattle.protocol_state.specs.Next.{newestAfter, previousAfter, seenAfter, arrived, finished, nextAt, valueOf}
 use Rattle.protocol_state.specs.Sound.{Sound}
 use Rattle.protocol_state.proofs.Decision.{reads-running}
 use Rattle.protocol_state.proofs.Places.{between, is-between, task-allowed, read-allowed}
@@ -78,8 +78,8 @@ module _ {ahead : ℕ → ℕ → Bool} {size : Size} (q : Saved) (S : Shape siz
       small : s < 2 ^ (q .tasks)
       small = keeps.small q G S s ok
 
-      after : Shape size (arrived ahead s q)
-      after = keeps.next-shape ahead S (arrival s)
+      after : Shape size (nextAt ahead q 0 (arrival s))
+      after = keeps.next-shape ahead S 0 (arrival s)
 
       previous : (t : ℕ) (b : Bool) → has s t ≡ b → getD (previousAfter s q) t 1 ≡ cond b (getD (q .newest) t 1) (getD (q .previous) t 1)
       previous t true e = previous-at q S s small (keeps.room q G .0) t 1 ∙ rw e (sym (newest-inside t (has-below s (q .tasks) t small e)))
@@ -94,7 +94,7 @@ module _ {ahead : ℕ → ℕ → Bool} {size : Size} (q : Saved) (S : Shape siz
           rw (b .1, b .0)
 
   -- a finish
-  finished-step : (t v : ℕ) → judgedTask ahead 3 t (q .tasks) (at (q .phase)) ≡ 0 → Finished (table ahead q) t v (boxes q) (boxes (finished ahead t v q))
+  finished-step : (t v : ℕ) → judgedTask (soonerIn ahead q) 3 t (q .tasks) (at (q .phase)) ≡ 0 → Finished (table ahead q) t v (boxes q) (boxes (finished ahead t v q))
   finished-step t v ok =
       let l : t < q .tasks = keeps.finish-known q G S t v ok in
       let y = place t (at (q .newest) t) (G .newest t l) in
@@ -108,18 +108,18 @@ module _ {ahead : ℕ → ℕ → Bool} {size : Size} (q : Saved) (S : Shape siz
       }
 
   -- every allowed event is a step of the published protocol
-  pub step : (e : Event ℕ) → judgedOn ahead q e ≡ 0 → Step (table ahead q) (Lowest (table ahead q)) e (boxes q) (boxes (next ahead q e))
+  pub step : (x : ℕ) (e : Event ℕ) → judgedOn ahead q e ≡ 0 → Step (table ahead q) (Lowest (table ahead q)) e (boxes q) (boxes (nextAt ahead q x e))
   unfolding Step
-  step (arrival s) ok = arrived-step s ok
-  step (start t) ok = refl
-  step (read l) ok = refl
-  step (finish t v) ok = finished-step t v ok
+  step x (arrival s) ok = arrived-step s ok
+  step x (start t) ok = refl
+  step x (read l) ok = refl
+  step x (finish t v) ok = finished-step t v ok
 
   -- and an allowed read gives the number of the published protocol
   pub number-read : (l : ℕ) → judgedOn ahead q (read l) ≡ 0 → valueOf q (read l) ≡ number (table ahead q) (boxes q) l
   number-read l ok =
-      let k = read-allowed ahead l (q .tasks) (q .links) (at (q .reader)) (at (q .phase)) ok in
-      let a = task-allowed ahead 2 (at (q .reader) l) (q .tasks) (at (q .phase)) (k .1) in
+      let k = read-allowed (soonerIn ahead q) l (q .tasks) (q .links) (at (q .reader)) (at (q .phase)) ok in
+      let a = task-allowed (soonerIn ahead q) 2 (at (q .reader) l) (q .tasks) (at (q .phase)) (k .1) in
       let w = reads-running (at (q .phase) (at (q .reader) l)) (G .phase (at (q .reader) l) (a .0)) (a .1) in
       let p = place (at (q .writer) l) (at (q .pointer) l) (G .present l (k .0) (λ z. omega (arith, w .0)), G .pointer l (k .0)) in
       rw (is-between 10 (at (q .pointer) l) p)

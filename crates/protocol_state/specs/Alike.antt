@@ -3,7 +3,7 @@
 use mathlib.Core.Path.{_≡_}
 use Prim.Native.Nat.{ℕ}
 use Rattle.protocol.specs.Published.{Same}
-use Rattle.protocol.specs.Answering.{Response}
+use Rattle.protocol_deadlines.specs.Answering.{Response}
 use Rattle.protocol_state.specs.Saved.{boxes}
 use Rattle.protocol_state.specs.Give.{Reply}
 

@@ -14,8 +14,8 @@ use Rattle.protocol_state.specs.Saved.{Saved, at, cellOf, delayedKind, i
 use Rattle.protocol_state.specs.Decision.{decided}
 
 -- the state with these parts, and the others as they are: what the fields below are put anew by, and nothing else
-abbrev withParts : Saved → List ℕ → List ℕ → List ℕ → List ℕ → List ℕ → List ℕ → List ℕ → Saved
-withParts q ph n p a C x m = record {
+abbrev withParts : Saved → List ℕ → List ℕ → List ℕ → List ℕ → List ℕ → List ℕ → List ℕ → List ℕ → ℕ → Saved
+withParts q ph n p a C x m s z = record {
   tasks = q .tasks;
   links = q .links;
   defaults = q .defaults;
@@ -30,29 +30,36 @@ withParts q ph n p a C x m = record {
   startValue = q .startValue;
   pointer = x;
   mark = m;
+  deadline = q .deadline;
+  since = s;
+  last = z;
+  policy = q .policy;
 }
 
 -- the state with one field anew
 abbrev pub withPhase : List ℕ → Saved → Saved
-withPhase x q = withParts q x (q .newest) (q .previous) (q .seen) (q .cells) (q .pointer) (q .mark)
+withPhase x q = withParts q x (q .newest) (q .previous) (q .seen) (q .cells) (q .pointer) (q .mark) (q .since) (q .last)
 
 abbrev pub withNewest : List ℕ → Saved → Saved
-withNewest x q = withParts q (q .phase) x (q .previous) (q .seen) (q .cells) (q .pointer) (q .mark)
+withNewest x q = withParts q (q .phase) x (q .previous) (q .seen) (q .cells) (q .pointer) (q .mark) (q .since) (q .last)
 
 abbrev pub withPrevious : List ℕ → Saved → Saved
-withPrevious x q = withParts q (q .phase) (q .newest) x (q .seen) (q .cells) (q .pointer) (q .mark)
+withPrevious x q = withParts q (q .phase) (q .newest) x (q .seen) (q .cells) (q .pointer) (q .mark) (q .since) (q .last)
 
 abbrev pub withSeen : List ℕ → Saved → Saved
-withSeen x q = withParts q (q .phase) (q .newest) (q .previous) x (q .cells) (q .pointer) (q .mark)
+withSeen x q = withParts q (q .phase) (q .newest) (q .previous) x (q .cells) (q .pointer) (q .mark) (q .since) (q .last)
 
 abbrev pub withCells : List ℕ → Saved → Saved
-withCells x q = withParts q (q .phase) (q .newest) (q .previous) (q .seen) x (q .pointer) (q .mark)
+withCells x q = withParts q (q .phase) (q .newest) (q .previous) (q .seen) x (q .pointer) (q .mark) (q .since) (q .last)
 
 abbrev pub withPointer : List ℕ → Saved → Saved
-withPointer x q = withParts q (q .phase) (q .newest) (q .previous) (q .seen) (q .cells) x (q .mark)
+withPointer x q = withParts q (q .phase) (q .newest) (q .previous) (q .seen) (q .cells) x (q .mark) (q .since) (q .last)
 
 abbrev pub withMark : List ℕ → Saved → Saved
-withMark x q = withParts q (q .phase) (q .newest) (q .previous) (q .seen) (q .cells) (q .pointer) x
+withMark x q = withParts q (q .phase) (q .newest) (q .previous) (q .seen) (q .cells) (q .pointer) x (q .since) (q .last)
+
+abbrev pub withTicks : List ℕ → ℕ → Saved → Saved
+withTicks s z q = withParts q (q .phase) (q .newest) (q .previous) (q .seen) (q .cells) (q .pointer) (q .mark) s z
 
 -- arrival of the set s, the writers' part: task t's previous y becomes its newest
 abbrev pub previousAt : ℕ → (ℕ → ℕ) → ℕ → ℕ → ℕ
@@ -149,6 +156,25 @@ module _ (ahead : ℕ → ℕ → Bool) where
   next q (start t) = started t q
   next q (read l) = q
   next q (finish t v) = finished t v q
+
+-- an arrival of the set s at tick x: who arrives keeps it as the tick of his arrival
+abbrev pub sinceAt : ℕ → ℕ → ℕ → ℕ → ℕ
+sinceAt s x t y = cond (has s t) x y
+
+-- the arrival ticks after an accepted event at tick x: an arrival keeps its own, and "a finish sets it back"
+unfoldable pub sinceAfter : ℕ → Event ℕ → Saved → List ℕ
+sinceAfter x (arrival s) q = upto (sinceAt s x) (q .tasks) (q .since)
+sinceAfter x (start t) q = q .since
+sinceAfter x (read l) q = q .since
+sinceAfter x (finish t v) q = set (q .since) t 0
+
+-- the ticks after it: "each accepted event sets" the last one. Under fixed priorities there are none to keep
+abbrev pub clocked : ℕ → Event ℕ → Saved → Saved
+clocked x e q = withTicks (cond (eqb (q .policy) 0) (q .since) (sinceAfter x e q)) (cond (eqb (q .policy) 0) (q .last) x) q
+
+-- what an accepted event at tick x makes of the state
+abbrev pub nextAt : (ℕ → ℕ → Bool) → Saved → ℕ → Event ℕ → Saved
+nextAt ahead q x e = clocked x e (next ahead q e)
 
 -- the value of an accepted event: the number of a read, else 0
 abbrev pub valueBy : Event ℕ → (ℕ → ℕ) → (ℕ → ℕ) → (ℕ → ℕ) → (ℕ → ℕ) → (ℕ → ℕ) → ℕ

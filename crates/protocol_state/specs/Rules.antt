@@ -10,12 +10,6 @@ use Rattle.protocol.specs.Table.{behinds}
 use Rattle.protocol_state.specs.Records.{Link}
 use Rattle.protocol_state.specs.Saved.{Size}
 
--- what `ahead` is: a strict order. Nobody is ahead of himself, of two tasks one is ahead of the other, and who is ahead of one that is ahead is ahead
-pub record Ranks (ahead : ℕ → ℕ → Bool) : Type 0 where
-  pub itself : (t : ℕ) → ahead t t ≡ false
-  pub either : (u t : ℕ) → u ≢ t → ahead u t ≡ false → ahead t u ≡ true
-  pub onward : (u t s : ℕ) → ahead u t ≡ true → ahead t s ≡ true → ahead u s ≡ true
-
 -- two links with the same writer and the same reader
 abbrev pub samePair : Link → Link → Bool
 samePair x y = eqb (y .writer) (x .writer) && eqb (y .reader) (x .reader)

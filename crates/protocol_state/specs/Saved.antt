@@ -8,7 +8,8 @@ use lib.Dec.{eqb, leb}
 use lib.ListN.{getD, length}
 use Rattle.protocol.specs.Table.{Table}
 use Rattle.protocol.specs.Published.{Boxes}
-use Rattle.protocol_state.specs.Records.{Task, Link, firstTasks, linkFrom, aheadOf}
+use Rattle.protocol_deadlines.specs.Deadline.{aheadBy}
+use Rattle.protocol_state.specs.Records.{Link, linkFrom}
 
 -- how many tasks and links there is room for
 pub record Size : Type 0 where
@@ -32,7 +33,8 @@ abbrev pub cellOf : ℕ → ℕ → ℕ
 cellOf t p = t * positions + (p - 1)
 
 -- a phase is 0 idle, 1 waiting or 2 running; `seen` is 0, 1 or 2 for no, one or more arrivals; a pointer of 0 is absent; a mark is 0 for none or 1;
--- a kind is 0 direct or 1 delayed
+-- a kind is 0 direct or 1 delayed; a policy is 0 for fixed priorities or 1 for earliest deadline first. `since` is the arrival tick of an active job, 0 of an
+-- idle task; `last` is the tick of the last accepted event, 0 when fresh
 pub record Saved : Type 0 where
   pub tasks : ℕ
   pub links : ℕ
@@ -48,6 +50,10 @@ pub record Saved : Type 0 where
   pub startValue : List ℕ
   pub pointer : List ℕ
   pub mark : List ℕ
+  pub deadline : List ℕ
+  pub since : List ℕ
+  pub last : ℕ
+  pub policy : ℕ
 
 -- the lists have room for just so many
 pub record Shape (size : Size) (q : Saved) : Type 0 where
@@ -63,6 +69,8 @@ pub record Shape (size : Size) (q : Saved) : Type 0 where
   pub startValue : length (q .startValue) ≡ size .links
   pub pointer : length (q .pointer) ≡ size .links
   pub mark : length (q .mark) ≡ size .links
+  pub deadline : length (q .deadline) ≡ size .tasks
+  pub since : length (q .since) ≡ size .tasks
 
 -- the kind of a delayed link
 abbrev pub delayedKind : ℕ → Bool
@@ -72,12 +80,9 @@ delayedKind k = eqb k 1
 abbrev pub isMark : ℕ → Bool
 isMark m = eqb m 1
 
--- its tasks, and who is ahead of whom by them
-abbrev pub tasksIn : Saved → List Task
-tasksIn q = firstTasks (q .tasks) (q .defaults)
-
+-- who is ahead of whom, by the relative deadlines of its tasks
 abbrev pub aheadIn : Saved → ℕ → ℕ → Bool
-aheadIn q = aheadOf (tasksIn q)
+aheadIn q = aheadBy (at (q .deadline))
 
 -- its link l
 abbrev pub linkIn : Saved → ℕ → Link
@@ -89,6 +94,7 @@ table ahead q = record {
   tasks = q .tasks;
   links = q .links;
   default = at (q .defaults);
+  deadline = at (q .deadline);
   startValue = at (q .startValue);
   writer = at (q .writer);
   reader = at (q .reader);

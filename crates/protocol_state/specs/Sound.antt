@@ -2,11 +2,13 @@
 -- Assumes nothing.
 use mathlib.Core.Path.{_≡_}
 use mathlib.Core.Bool.{Bool, true, cond, not, _&&_, _||_}
+use mathlib.Core.List.{List}
 use Prim.Native.Nat.{ℕ, _+_, _≤_, _<_}
 use lib.Dec.{eqb, ltb, leb}
 use Rattle.lists.specs.Lists.{every}
 use Rattle.protocol.specs.Table.{N}
 use Rattle.protocol.specs.Ranges.{Position}
+use Rattle.protocol_deadlines.specs.Timed.{limit}
 use Rattle.protocol_state.specs.Saved.{Size, Saved, at, delayedKind, linkIn, aheadIn, table, oneTo}
 use Rattle.protocol_state.specs.Rules.{judgedTable, KeepsRules}
 
@@ -35,6 +37,33 @@ seenOk q t = seenIs (at (q .phase) t) (at (q .seen) t)
 abbrev pub markOk : Saved → ℕ → Bool
 markOk q l = markIs (at (q .kind) l) (at (q .pointer) l) (at (q .seen) (at (q .writer) l)) (at (q .mark) l)
 
+-- the arrival tick y of a task with this phase, where the last tick is z: up to it for an active job, 0 for an idle task
+abbrev pub sinceIs : ℕ → ℕ → ℕ → Bool
+sinceIs ph y z = leb y (cond (eqb ph 0) 0 z)
+
+-- a relative deadline d under the policy p: fixed priorities have none, and else it is not 0 (rule 24)
+abbrev pub deadlineIs : ℕ → ℕ → Bool
+deadlineIs p d = cond (eqb p 0) (eqb d 0) (leb 1 d)
+
+-- the arrival tick and the relative deadline of task t are so
+abbrev pub timeOk : Saved → ℕ → Bool
+timeOk q t = sinceIs (at (q .phase) t) (at (q .since) t) (q .last) && deadlineIs (q .policy) (at (q .deadline) t)
+
+-- policy, deadlines and ticks of T tasks with these phases: one of the two policies; "no arrival tick above the last tick and no tick above the limit", 0 for an
+-- idle task; no relative deadline of 0 (rule 24); under fixed priorities neither deadlines nor ticks
+pub record Timely (T : ℕ) (phase deadline since : List ℕ) (last policy : ℕ) : Type 0 where
+  pub either : policy ≤ 1
+  pub none-later : (t : ℕ) → t < T → at since t ≤ last
+  pub idle : (t : ℕ) → t < T → at phase t ≡ 0 → at since t ≡ 0
+  pub small : last ≤ limit
+  pub dated : policy ≡ 1 → (t : ℕ) → t < T → 1 ≤ at deadline t
+  pub undated : policy ≡ 0 → (t : ℕ) → t < T → at deadline t ≡ 0
+  pub unclocked : policy ≡ 0 → last ≡ 0
+
+-- one of the two policies, and the last tick: none under fixed priorities, and "no tick above the limit"
+abbrev pub clockIs : ℕ → ℕ → Bool
+clockIs p z = leb p 1 && leb z (cond (eqb p 0) 0 limit)
+
 module _ (ahead : ℕ → ℕ → Bool) where
   -- task t is so
   abbrev pub taskOk : Saved → ℕ → Bool
@@ -51,16 +80,16 @@ module _ (ahead : ℕ → ℕ → Bool) where
 
   -- a task and a link are as they must be
   abbrev pub taskStands : Saved → ℕ → Bool
-  taskStands q t = taskOk q t && seenOk q t
+  taskStands q t = taskOk q t && (seenOk q t && timeOk q t)
 
   abbrev pub linkStands : Saved → ℕ → Bool
   linkStands q l = pointerOk q l && markOk q l
 
-  -- the test: the table keeps rules 2 to 9 and 20, and each task and each link is as it must be
+  -- the test: the table keeps rules 2 to 9 and 20, and the clock, each task and each link is as it must be
   unfoldable pub isSound : Size → Saved → Bool
   isSound size q =
       eqb (judgedTable ahead (q .tasks) (linkIn q) size (q .links)) 0
-      && (every (taskStands q) (q .tasks) && every (linkStands q) (q .links))
+      && (clockIs (q .policy) (q .last) && (every (taskStands q) (q .tasks) && every (linkStands q) (q .links)))
 
   -- document 01's sentence: the table keeps rules 2 to 9 "and any table rule added later" (20), newest and previous lie in 1 to N + 2, each present pointer
   -- does so for its writer, no pointer of an active reader is absent, and every pointer from a writer ahead of an idle reader is absent. `phase` says besides
@@ -79,6 +108,7 @@ module _ (ahead : ℕ → ℕ → Bool) where
     pub mark : (l : ℕ) → l < q .links → at (q .mark) l ≤ 1
     pub held : (l : ℕ) → l < q .links → at (q .mark) l ≡ 1 → (delayedKind (at (q .kind) l) ≡ true) × (1 ≤ at (q .pointer) l)
     pub early : (l : ℕ) → l < q .links → delayedKind (at (q .kind) l) ≡ true → 1 ≤ at (q .pointer) l → at (q .seen) (at (q .writer) l) < 2 → at (q .mark) l ≡ 1
+    pub times : Timely (q .tasks) (q .phase) (q .deadline) (q .since) (q .last) (q .policy)
 
 -- the test and the sentence, by the order of the state's own tasks
 abbrev pub testedSound : Size → Saved → Bool
