@@ -2,3 +2,4 @@
 pub mod Makes
 pub mod Filling
 pub mod Packed
+pub mod Dates

@@ -13,6 +13,9 @@ pub const LINKS: usize = 96;
 
 pub const EVENTS: usize = 10000;
 
+// The largest tick.
+pub const LIMIT: u32 = 4000000000;
+
 // A task has at most eight links to readers behind, and two positions more.
 pub const POSITIONS: usize = 10;
 
@@ -21,6 +24,12 @@ pub const CELLS: usize = TASKS * POSITIONS;
 
 // The bits of a set.
 const BITS: usize = 32;
+
+// How many tasks and links a table has.
+pub struct Size {
+    pub tasks: usize,
+    pub links: usize,
+}
 
 // `x` or `y`.
 pub fn pick(b: bool, x: u8, y: u8) -> u8

@@ -1,45 +1,67 @@
--- A task or link number above 255 is in no table: its event earns 12, after 19.
+-- A task or link number above 255 is in no table: its event earns 12, after 19, whatever the tick.
 -- Assumes nothing.
 use mathlib.Core.Path.{_≡_, refl, sym, ap, _∙_}
-use mathlib.Core.Logic.{_≢_}
 use mathlib.Core.Bool.{Bool, true, false}
 use Prim.Native.Nat.{ℕ, _<_}
 use native.Mathlib.Omega.{arith}
 use borrow.Author.Tests.{le-leb}
 use lib.Dec.{leb}
+use Rattle.lists.proofs.Bools.{and-left}
 use Rattle.protocol.specs.Event.{Event, start, read, finish}
 use Rattle.protocol_state.specs.Saved.{Saved, stateRoom, at, aheadIn}
-use Rattle.protocol_state.specs.Judge.{judgedTask, judgedRead, judgedOn}
-use Rattle.protocol_state.specs.Give.{reply, settled, givenTo}
+use Rattle.protocol_state.specs.Judge.{judgedTask, judgedRead, judgedOn, judgedOnAt, soonerIn}
+use Rattle.protocol_state.specs.Give.{reply, settled, Call, callPolicy, callTick, callEvent, soundFor, givenTo}
+use Rattle.protocol_state.specs.Sound.{isSound}
 use Rattle.protocol_state.proofs.Sound.{sound-room}
 use Rattle.protocol_state.proofs.Give.{unsound, refused, give-unsound, give-refused}
-use Rattle.protocol_state.specs.Sound.{testedSound}
+use Rattle.mailbox_event.specs.Plain.{plain, callOf, policyFor}
+use Rattle.mailbox_event.specs.declared.Event.{Event as Given}
+use Rattle.mailbox_event.specs.declared.When.{When}
+use Rattle.mailbox_event.specs.declared.When.the-variants.{Untimed, At}
+use Rattle.mailbox_call.specs.Calls.{handedOver, soundWhen}
 
--- where each sound state answers an event by r, its answer is known
-pub refused-by : (q : Saved) (e : Event ℕ) (r : ℕ) → r ≢ 0 → (testedSound stateRoom q ≡ true → judgedOn (aheadIn q) q e ≡ r) → settled (testedSound stateRoom q) r q q 0 ≡ givenTo stateRoom q e
-refused-by q e r n j = go (testedSound stateRoom q) refl where
-  go : (b : Bool) → testedSound stateRoom q ≡ b → settled (testedSound stateRoom q) r q q 0 ≡ givenTo stateRoom q e
-  go false s = unsound r q q 0 s ∙ sym (give-unsound (aheadIn q) stateRoom q e s)
-  go true s = refused r q q 0 s n ∙ ap (λ (k : ℕ). reply q k 0) (sym (j s)) ∙ sym (give-refused (aheadIn q) stateRoom q e s (λ z. n (sym (j s) ∙ z)))
+-- an event of the code is handed over as the protocol's
+pub given-over : (w : When) (e : Given) → callOf w e ≡ handedOver w (plain e)
+given-over Untimed e = refl
+given-over (At x) e = refl
 
-module _ (q : Saved) (i : ℕ) (far : 255 < i) where
-  task-far : (k : ℕ) → testedSound stateRoom q ≡ true → judgedTask (aheadIn q) k i (q .tasks) (at (q .phase)) ≡ 12
+-- what is 12 without ticks is 12 with them
+twelve-at : (q : Saved) (x : ℕ) (e : Event ℕ) → judgedOn (aheadIn q) q e ≡ 12 → judgedOnAt (aheadIn q) q x e ≡ 12
+unfolding judgedOnAt
+twelve-at q x e j = rw j
+
+-- where each sound state answers a call by 12, its answer is known
+refused-12 : (q : Saved) (c : Call) → (isSound (aheadIn q) stateRoom q ≡ true → judgedOn (aheadIn q) q (callEvent c) ≡ 12) → settled (soundFor (aheadIn q) stateRoom (callPolicy c) q) 12 q q 0 ≡ givenTo stateRoom q c
+refused-12 q c j = go (soundFor (aheadIn q) stateRoom (callPolicy c) q) refl where
+  go : (b : Bool) → soundFor (aheadIn q) stateRoom (callPolicy c) q ≡ b → settled (soundFor (aheadIn q) stateRoom (callPolicy c) q) 12 q q 0 ≡ givenTo stateRoom q c
+  go false s = unsound 12 q q 0 s ∙ sym (give-unsound (aheadIn q) stateRoom (callPolicy c) q (callTick c) (callEvent c) s)
+  go true s =
+      let t : judgedOnAt (aheadIn q) q (callTick c) (callEvent c) ≡ 12 = twelve-at q (callTick c) (callEvent c) (j (and-left (isSound (aheadIn q) stateRoom q) _ s)) in
+      refused 12 q q 0 s (λ z. omega arith) ∙ ap (λ (k : ℕ). reply q k 0) (sym t)
+      ∙ sym (give-refused (aheadIn q) stateRoom (callPolicy c) q (callTick c) (callEvent c) s (λ z. omega (arith, t, z)))
+
+over : (w : When) (q : Saved) (e : Event ℕ) → (isSound (aheadIn q) stateRoom q ≡ true → judgedOn (aheadIn q) q e ≡ 12) → settled (soundWhen w q) 12 q q 0 ≡ givenTo stateRoom q (handedOver w e)
+over Untimed q e j = refused-12 q (handedOver Untimed e) j
+over (At x) q e j = refused-12 q (handedOver (At x) e) j
+
+module _ (w : When) (q : Saved) (i : ℕ) (far : 255 < i) where
+  task-far : (k : ℕ) → isSound (aheadIn q) stateRoom q ≡ true → judgedTask (soonerIn (aheadIn q) q) k i (q .tasks) (at (q .phase)) ≡ 12
   unfolding judgedTask
   task-far k s =
       let c = sound-room (aheadIn q) stateRoom q s in
       let h : leb (q .tasks) i ≡ true = le-leb (q .tasks) i (omega arith) in rw h
 
-  link-far : testedSound stateRoom q ≡ true → judgedRead (aheadIn q) i (q .tasks) (q .links) (at (q .reader)) (at (q .phase)) ≡ 12
+  link-far : isSound (aheadIn q) stateRoom q ≡ true → judgedRead (soonerIn (aheadIn q) q) i (q .tasks) (q .links) (at (q .reader)) (at (q .phase)) ≡ 12
   unfolding judgedRead
   link-far s =
       let c = sound-room (aheadIn q) stateRoom q s in
       let h : leb (q .links) i ≡ true = le-leb (q .links) i (omega arith) in rw h
 
-  pub start-far : settled (testedSound stateRoom q) 12 q q 0 ≡ givenTo stateRoom q (start i)
-  start-far = refused-by q (start i) 12 (λ z. omega arith) (task-far 1)
+  pub start-far : settled (soundWhen w q) 12 q q 0 ≡ givenTo stateRoom q (handedOver w (start i))
+  start-far = over w q (start i) (task-far 1)
 
-  pub read-far : settled (testedSound stateRoom q) 12 q q 0 ≡ givenTo stateRoom q (read i)
-  read-far = refused-by q (read i) 12 (λ z. omega arith) link-far
+  pub read-far : settled (soundWhen w q) 12 q q 0 ≡ givenTo stateRoom q (handedOver w (read i))
+  read-far = over w q (read i) link-far
 
-  pub finish-far : (v : ℕ) → settled (testedSound stateRoom q) 12 q q 0 ≡ givenTo stateRoom q (finish i v)
-  finish-far v = refused-by q (finish i v) 12 (λ z. omega arith) (task-far 3)
+  pub finish-far : (v : ℕ) → settled (soundWhen w q) 12 q q 0 ≡ givenTo stateRoom q (handedOver w (finish i v))
+  finish-far v = over w q (finish i v) (task-far 3)

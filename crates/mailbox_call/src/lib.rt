@@ -1,9 +1,10 @@
-// An event as a host hands it over: a kind, which task or link, and a value.
+// An event as a host hands it over: a kind, which task or link, and a value. A tick does not change what is asked.
 ghost use mathlib.Core.Path.{_≡_};
 ghost use Rattle.protocol.specs.Event.{start, read, finish};
 ghost use Rattle.protocol_state.specs.Saved.{Saved, stateRoom};
 ghost use Rattle.protocol_state.specs.Give.{givenTo};
-ghost use Rattle.mailbox_call.specs.Calls.{called, callReply};
+ghost use Rattle.mailbox_event.specs.declared.When.{When};
+ghost use Rattle.mailbox_call.specs.Calls.{requested, handedOver, requestReply};
 ghost use Rattle.mailbox_call.specs.Replies.{heard, askedNumber};
 use mailbox_event::Event;
 
@@ -19,7 +20,7 @@ const NAMED: u32 = 255;
 
 // The start of a task.
 fn start_of(which: u32) -> Asked
-    ensures { λ r. ⌜ ((q : Saved) → heard q r ≡ givenTo stateRoom q (start which)) ⌝ }
+    ensures { λ r. ⌜ ((w : When) (q : Saved) → heard w q r ≡ givenTo stateRoom q (handedOver w (start which))) ⌝ }
 {
     if NAMED < which {
         return Asked::Outside;
@@ -29,7 +30,7 @@ fn start_of(which: u32) -> Asked
 
 // The read by a link.
 fn read_of(which: u32) -> Asked
-    ensures { λ r. ⌜ ((q : Saved) → heard q r ≡ givenTo stateRoom q (read which)) ⌝ }
+    ensures { λ r. ⌜ ((w : When) (q : Saved) → heard w q r ≡ givenTo stateRoom q (handedOver w (read which))) ⌝ }
 {
     if NAMED < which {
         return Asked::Outside;
@@ -39,7 +40,7 @@ fn read_of(which: u32) -> Asked
 
 // The finish of a task with a value.
 fn finish_of(which: u32, value: u32) -> Asked
-    ensures { λ r. ⌜ ((q : Saved) → heard q r ≡ givenTo stateRoom q (finish which value)) ⌝ }
+    ensures { λ r. ⌜ ((w : When) (q : Saved) → heard w q r ≡ givenTo stateRoom q (handedOver w (finish which value))) ⌝ }
 {
     if NAMED < which {
         return Asked::Outside;
@@ -49,7 +50,7 @@ fn finish_of(which: u32, value: u32) -> Asked
 
 // What is asked: 1 arrival of a set, 2 start of a task, 3 read by a link, 4 finish of a task with a value, any other kind unknown.
 pub fn ask(kind: u8, which: u32, value: u32) -> Asked
-    ensures { λ r. ⌜ ((q : Saved) → heard q r ≡ callReply q (called kind which value)) ⌝ }
+    ensures { λ r. ⌜ ((w : When) (q : Saved) → heard w q r ≡ requestReply w q (requested kind which value)) ⌝ }
 {
     match kind {
         1 => Asked::Known(Event::Arrival(which)),

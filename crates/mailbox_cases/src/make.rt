@@ -5,17 +5,22 @@ use mailbox_base::numbers::CELLS;
 use mailbox_base::numbers::LINKS;
 use mailbox_base::numbers::TASKS;
 use mailbox_layout::CELL;
+use mailbox_layout::DEADLINE;
 use mailbox_layout::KIND;
+use mailbox_layout::LAST;
 use mailbox_layout::MARK;
 use mailbox_layout::NEWEST;
 use mailbox_layout::PHASE;
 use mailbox_layout::POINTER;
+use mailbox_layout::POLICY;
 use mailbox_layout::PREVIOUS;
 use mailbox_layout::READER;
 use mailbox_layout::SEEN;
+use mailbox_layout::SINCE;
 use mailbox_layout::START_VALUE;
 use mailbox_layout::WRITER;
 use mailbox_layout::put_control;
+use mailbox_layout::put_time;
 use mailbox_layout::put_value;
 
 // Task 1 has 100, as in the long example; tasks 4 to 31 have their own number.
@@ -54,10 +59,13 @@ const DEFAULTS: [u32; TASKS] = [
     31,
 ];
 
-// What `State::fresh` takes. Slots that no link has filled hold 77, so that a copy of too much is seen.
+// What `State::fresh` and `State::fresh_dated` take, and which of them does. Slots that no word has filled hold 77, so that a copy of too much
+// is seen.
 pub struct Table {
+    dated: bool,
     tasks: usize,
     links: usize,
+    deadlines: [u16; TASKS],
     writer: [u8; LINKS],
     reader: [u8; LINKS],
     kind: [u8; LINKS],
@@ -68,13 +76,24 @@ impl Table {
     // So many tasks and no links.
     pub(crate) fn of(tasks: usize) -> Table {
         Table {
+            dated: false,
             tasks,
             links: 0,
+            deadlines: [77u16; TASKS],
             writer: [77u8; LINKS],
             reader: [77u8; LINKS],
             kind: [77u8; LINKS],
             start_value: [77u32; LINKS],
         }
+    }
+
+    // The same table with deadlines, and this one for a task, as long as there is a slot.
+    pub(crate) fn deadline(mut self, t: usize, x: u16) -> Table {
+        self.dated = true;
+        if t < TASKS {
+            self.deadlines[t] = x;
+        }
+        self
     }
 
     // One link more, as long as there is a slot.
@@ -102,6 +121,19 @@ impl Table {
         let reader = self.reader;
         let kind = self.kind;
         let start_value = self.start_value;
+        if self.dated {
+            let deadlines = self.deadlines;
+            return State::fresh_dated(
+                self.tasks,
+                self.links,
+                DEFAULTS,
+                deadlines,
+                writer,
+                reader,
+                kind,
+                start_value,
+            );
+        }
         State::fresh(
             self.tasks,
             self.links,
@@ -127,6 +159,14 @@ fn with_value(mut s: State, region: usize, i: usize, x: u32) -> State {
     let mut values = s.values;
     put_value(&mut values, region, i, x);
     s.values = values;
+    s
+}
+
+// The same of its times.
+fn with_time(mut s: State, region: usize, i: usize, x: u32) -> State {
+    let mut times = s.times;
+    put_time(&mut times, region, i, x);
+    s.times = times;
     s
 }
 
@@ -156,6 +196,10 @@ pub(crate) fn with(mut s: State, field: u8, i: usize, x: u32) -> State {
         b'v' => with_value(s, START_VALUE, l, x),
         b'x' => with_control(s, POINTER, l, b),
         b'm' => with_control(s, MARK, l, b),
+        b'u' => with_time(s, DEADLINE, t, x),
+        b'i' => with_time(s, SINCE, t, x),
+        b'e' => with_time(s, LAST, 0, x),
+        b'y' => with_time(s, POLICY, 0, x),
         _ => s,
     }
 }

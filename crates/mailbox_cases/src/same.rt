@@ -20,6 +20,10 @@ pub(crate) fn entry_of(s: State, field: u8, i: usize) -> u32 {
         b'v' => s.start_value(i),
         b'x' => s.pointer(i) as u32,
         b'm' => s.mark(i) as u32,
+        b'u' => s.deadline(i),
+        b'i' => s.since(i),
+        b'e' => s.last(),
+        b'y' => s.policy(),
         _ => 0,
     }
 }
@@ -28,7 +32,8 @@ pub(crate) fn entry_of(s: State, field: u8, i: usize) -> u32 {
 pub(crate) fn size_of(field: u8) -> usize {
     match field {
         b'c' => CELLS,
-        b'd' | b'p' | b'n' | b'o' | b's' => TASKS,
+        b'd' | b'p' | b'n' | b'o' | b's' | b'u' | b'i' => TASKS,
+        b'e' | b'y' => 1,
         _ => LINKS,
     }
 }
@@ -54,6 +59,8 @@ pub(crate) fn same_table(a: State, b: State) -> bool {
         & same_field(a, b, b'r')
         & same_field(a, b, b'k')
         & same_field(a, b, b'v')
+        & same_field(a, b, b'u')
+        & same_field(a, b, b'y')
 }
 
 // The fields that events change.
@@ -65,6 +72,8 @@ fn same_boxes(a: State, b: State) -> bool {
         & same_field(a, b, b's')
         & same_field(a, b, b'x')
         & same_field(a, b, b'm')
+        & same_field(a, b, b'i')
+        & same_field(a, b, b'e')
 }
 
 pub(crate) fn same(a: State, b: State) -> bool {

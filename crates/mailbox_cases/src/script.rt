@@ -8,6 +8,7 @@ use crate::show::text;
 use mailbox::State;
 use mailbox::Step;
 use mailbox_event::Event;
+use mailbox_event::When;
 
 // Numbers have at most 19 digits; the remainder only keeps the sum from wrapping.
 const DIGITS: u64 = 1000000000000000000;
@@ -53,6 +54,10 @@ fn narrow(n: u64) -> u8 {
     (n % 256) as u8
 }
 
+fn short(n: u64) -> u16 {
+    (n % 65536) as u16
+}
+
 fn number(n: u64) -> u32 {
     (n % 4294967296) as u32
 }
@@ -63,6 +68,8 @@ pub struct Desk {
     // the state that each line begins with
     base: State,
     now: State,
+    // when the events of the line are handed over
+    when: When,
     // the first byte of the line, 0 before it
     line: u8,
     naming: bool,
@@ -76,6 +83,7 @@ impl Desk {
             table: Table::of(1),
             base: State::single(),
             now: State::single(),
+            when: When::Untimed,
             line: 0,
             naming: false,
             word: Word::none(),
@@ -102,11 +110,29 @@ impl Desk {
         self.spelled(c)
     }
 
-    // The first byte of a line says what becomes of it; a name follows.
-    fn begun(mut self, c: u8) -> Desk {
-        self.line = c;
-        self.naming = true;
-        self
+    // The first byte of a line says what becomes of it; a name follows. No tick holds from one line to the next.
+    fn begun(self, c: u8) -> Desk {
+        let mut desk = self.timed(When::Untimed);
+        desk.line = c;
+        desk.naming = true;
+        desk
+    }
+
+    // The events that follow are handed over like this.
+    fn timed(self, when: When) -> Desk {
+        let table = self.table;
+        let base = self.base;
+        let now = self.now;
+        let word = self.word;
+        Desk {
+            table,
+            base,
+            now,
+            when,
+            line: self.line,
+            naming: self.naming,
+            word,
+        }
     }
 
     // Whether the line is printed.
@@ -151,18 +177,19 @@ impl Desk {
         let letter = word.letter;
         self.word = Word::none();
         match letter {
-            b'T' | b'L' | b'C' => self.tabled(word),
+            b'T' | b'L' | b'C' | b'D' => self.tabled(word),
             b'M' => self.made(),
             b'A' => self.given(Event::Arrival(number(word.z))),
             b'S' => self.given(Event::Start(narrow(word.z))),
             b'R' => self.given(Event::Read(narrow(word.z))),
             b'F' => self.given(Event::Finish(narrow(word.y), number(word.z))),
+            b'@' => self.timed(When::At(number(word.z))),
             b'J' => self.looked(),
             _ => self.spoiled(word),
         }
     }
 
-    // The table begun anew, with one link more, or with another count.
+    // The table begun anew, with one link more, with a relative deadline, or with another count.
     fn tabled(mut self, word: Word) -> Desk {
         let t = self.table;
         let letter = word.letter;
@@ -176,6 +203,7 @@ impl Desk {
                     number(word.z),
                 )
             }
+            b'D' => self.table = t.deadline(word.y as usize, short(word.z)),
             _ => self.table = t.count(word.z as usize),
         }
         self
@@ -196,9 +224,10 @@ impl Desk {
     // An event given to the state.
     fn given(mut self, e: Event) -> Desk {
         let before = self.now;
-        let step = called(before, e);
+        let when = self.when;
+        let step = called(before, when, e);
         if self.shown() {
-            answered(before, e, step);
+            answered(before, when, e, step);
         }
         let s = step.state;
         self.now = s;
@@ -222,8 +251,24 @@ impl Desk {
     }
 }
 
-// The event given to the state by the method of its kind.
-fn called(s: State, e: Event) -> Step {
+// The event given to the state by the method of its kind, without a tick or at one.
+fn called(s: State, when: When, e: Event) -> Step {
+    match when {
+        When::Untimed => called_untimed(s, e),
+        When::At(tick) => called_at(s, tick, e),
+    }
+}
+
+fn called_at(s: State, tick: u32, e: Event) -> Step {
+    match e {
+        Event::Arrival(set) => s.arrival_at(tick, set),
+        Event::Start(t) => s.start_at(tick, t),
+        Event::Read(l) => s.read_at(tick, l),
+        Event::Finish(t, value) => s.finish_at(tick, t, value),
+    }
+}
+
+fn called_untimed(s: State, e: Event) -> Step {
     match e {
         Event::Arrival(set) => s.arrival(set),
         Event::Start(t) => s.start(t),

@@ -10,6 +10,8 @@ use mailbox::State;
 use mailbox::Step;
 use mailbox_base::numbers::POSITIONS;
 use mailbox_event::Event;
+use mailbox_event::When;
+use mailbox_event::policy_for;
 
 pub(crate) fn text(s: &[u8]) {
     io::write_all(STDOUT_FILENO, s);
@@ -85,7 +87,8 @@ fn entries(before: State, after: State, field: u8) {
     }
 }
 
-// Phases, newest, previous and seen of its tasks, pointers and marks of its links.
+// Phases, newest, previous and seen of its tasks, pointers and marks of its links; with deadlines, the arrival ticks of its tasks and the last
+// tick too.
 fn boxes(s: State) {
     list(b" phase", s, b'p', s.tasks);
     list(b" newest", s, b'n', s.tasks);
@@ -93,17 +96,25 @@ fn boxes(s: State) {
     list(b" seen", s, b's', s.tasks);
     list(b" pointer", s, b'x', s.links);
     list(b" mark", s, b'm', s.links);
+    if s.policy() != 0 {
+        list(b" since", s, b'i', s.tasks);
+        list(b" last", s, b'e', 1);
+    }
 }
 
-// Writers, readers, kinds and start values of its links.
+// Writers, readers, kinds and start values of its links, and the relative deadlines of its tasks where it has them.
 fn ends(s: State) {
     list(b" writer", s, b'w', s.links);
     list(b" reader", s, b'r', s.links);
     list(b" kind", s, b'k', s.links);
     list(b" start-value", s, b'v', s.links);
+    if s.policy() != 0 {
+        list(b" deadline", s, b'u', s.tasks);
+    }
 }
 
-// The largest number past the counts in phase, newest, previous, seen, writer, reader, kind, start value, pointer and mark.
+// The largest number past the counts in phase, newest, previous, seen, writer, reader, kind, start value, pointer and mark; with deadlines, in
+// deadline and arrival tick too.
 pub(crate) fn past(s: State) {
     text(b" past");
     number(largest(s, b'p', s.tasks) as u64);
@@ -116,6 +127,10 @@ pub(crate) fn past(s: State) {
     number(largest(s, b'v', s.links) as u64);
     number(largest(s, b'x', s.links) as u64);
     number(largest(s, b'm', s.links) as u64);
+    if s.policy() != 0 {
+        number(largest(s, b'u', s.tasks) as u64);
+        number(largest(s, b'i', s.tasks) as u64);
+    }
 }
 
 // What a table made.
@@ -149,13 +164,23 @@ fn changed(before: State, after: State) {
     }
 }
 
-// The answer to an event, and `apart` where the ways to ask differ: `event`, the event's own method, `sound`.
-pub(crate) fn answered(s: State, e: Event, step: Step) {
+// An event given to the state as a value.
+fn given(s: State, when: When, e: Event) -> Step {
+    match when {
+        When::Untimed => s.event(e),
+        When::At(tick) => s.event_at(tick, e),
+    }
+}
+
+// The answer to an event, and `apart` where the ways to ask differ: the event as a value, its own method, and `sound`, as 19 is answered where
+// the state is not sound or of the other policy.
+pub(crate) fn answered(s: State, when: When, e: Event, step: Step) {
     let answer = step.answer;
     byte(answer.refusal);
     number(answer.value as u64);
     changed(s, step.state);
-    if !same_step(step, s.event(e)) | (s.sound() == (answer.refusal == 19)) {
+    let takes = s.sound() & (s.policy() == policy_for(when));
+    if !same_step(step, given(s, when, e)) | (takes == (answer.refusal == 19)) {
         text(b" apart");
     }
 }

@@ -1,6 +1,7 @@
 // What a start, a read and a finish do.
 ghost use mathlib.Core.Path.{_≡_};
 ghost use mathlib.Core.Bool.{Bool, cond, _&&_};
+ghost use mathlib.Core.List.{List};
 ghost use Prim.Native.Nat.{ℕ, _<_, min};
 ghost use lib.Dec.{eqb};
 ghost use Rattle.protocol_state.specs.Saved.{at, stateRoom};
@@ -102,7 +103,7 @@ pub fn finish(
     control: &mut [u8; CONTROL],
     values: &mut [u32; VALUES],
 )
-    ensures { λ _. ⌜ ((ahead : ℕ → ℕ → Bool) → Planned ahead (at (writerIn (now (control .entry)))) (at (readerIn (now (control .entry)))) (min links (stateRoom .links)) (now (plan .entry)) → (T : ℕ) → stateOf T (min links (stateRoom .links)) (now (control .exit)) (now (values .exit)) ≡ finished ahead t v (stateOf T (min links (stateRoom .links)) (now (control .entry)) (now (values .entry)))) ⌝ }
+    ensures { λ _. ⌜ ((ahead : ℕ → ℕ → Bool) → Planned ahead (at (writerIn (now (control .entry)))) (at (readerIn (now (control .entry)))) (min links (stateRoom .links)) (now (plan .entry)) → (T : ℕ) (x : List ℕ) → stateOf T (min links (stateRoom .links)) (now (control .exit)) (now (values .exit)) x ≡ finished ahead t v (stateOf T (min links (stateRoom .links)) (now (control .entry)) (now (values .entry)) x)) ⌝ }
 {
     put_cell(values, t, control_at(control, NEWEST, t as usize), v);
     release(plan, t, links, control);

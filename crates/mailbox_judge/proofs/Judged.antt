@@ -1,20 +1,21 @@
 -- What an event is judged, from what the parts ensure.
 -- Assumes nothing.
-use mathlib.Core.Path.{_≡_, refl, ap, _∙_}
+use mathlib.Core.Path.{_≡_, refl, sym, ap, _∙_}
+use mathlib.Core.Logic.{_≢_}
 use mathlib.Core.Bool.{Bool, true, false, cond, not, _&&_, _||_}
 use mathlib.Core.List.{List}
 use Prim.Native.Nat.{ℕ, zero, suc, _/_, _^_, _≤_, _<_, min}
 use native.Mathlib.Nat.{zero-min, min-eq-left}
 use native.Mathlib.Omega.{arith}
-use borrow.Author.Tests.{le-leb, lt-leb, lt-ltb, le-ltb, leb-true, leb-false}
+use borrow.Author.Tests.{le-leb, lt-leb, lt-ltb, le-ltb, leb-true, leb-false, ne-eqb}
 use lib.Dec.{eqb, ltb, leb}
 use lib.ListN.{length, List·getD-eq-default}
 use Rattle.lists.specs.Lists.{some, every}
-use Rattle.protocol_state.specs.Saved.{at, activePhase}
+use Rattle.protocol_deadlines.specs.Deadline.{smaller}
+use Rattle.protocol_state.specs.Saved.{Saved, at, activePhase, busy}
 use Rattle.protocol_state.specs.Decision.{decided}
-use Rattle.protocol_state.specs.Judge.{mayArrive, judgedArrival, judgedTask, judgedRead}
+use Rattle.protocol_state.specs.Judge.{mayArrive, judgedArrival, preempted, judgedTask, judgedRead, dueIn, soonerIn}
 use Rattle.protocol_state.proofs.Places.{some-same}
-use Rattle.protocol_state.specs.Records.{earlier}
 use Rattle.mailbox_judge.proofs.Sets.{shifted}
 
 -- under fixed priorities the tasks ahead of t are those before it
@@ -59,23 +60,36 @@ pub arrival-judged :
 unfolding judgedArrival
 arrival-judged s T ph eb eu er = rw (er, eu, eb, shifted s T)
 
-module _ (k t T : ℕ) (ph : ℕ → ℕ) where
-  pub judged-outside : T ≤ t → 12 ≡ judgedTask earlier k t T ph
+-- who has to wait: b says what a search for an active job finds
+module _ (ahead : ℕ → ℕ → Bool) (q : Saved) (t n : ℕ) {b : Bool} where
+  -- under fixed priorities the search is among the tasks before t
+  pub waits-fixed : q .policy ≡ 0 → t < n → b ≡ some (busy q) t → b ≡ preempted (soonerIn ahead q) t n (at (q .phase))
+  unfolding soonerIn
+  waits-fixed e l h = rw e (h ∙ sym (some-ahead (busy q) t n (omega arith)))
+
+  -- else among all, by when their jobs are due
+  pub waits-due : q .policy ≢ 0 → b ≡ some (λ u. smaller (dueIn q u) (dueIn q t) (ahead u t) && busy q u) n → b ≡ preempted (soonerIn ahead q) t n (at (q .phase))
+  unfolding soonerIn
+  waits-due e h = rw (ne-eqb (q .policy) 0 e) h
+
+-- whichever jobs go before others
+module _ (before : ℕ → ℕ → Bool) (k t T : ℕ) (ph : ℕ → ℕ) where
+  pub judged-outside : T ≤ t → 12 ≡ judgedTask before k t T ph
   unfolding judgedTask
   judged-outside l = rw (le-leb T t l)
 
-  -- d is the decision, b whether a task before t is activePhase, u what that means for its turn
+  -- d is the decision, b whether a job that goes before that of t is active, u what that means for its turn
   pub judged-inside :
-      {d u r : ℕ} {b : Bool} → t < T → d ≡ decided k (ph t) → b ≡ some (λ u. activePhase (ph u)) t → u ≡ cond b 16 0 → r ≡ cond (ltb d 12) u d →
-      r ≡ judgedTask earlier k t T ph
+      {d u r : ℕ} {b : Bool} → t < T → d ≡ decided k (ph t) → b ≡ preempted before t T ph → u ≡ cond b 16 0 → r ≡ cond (ltb d 12) u d →
+      r ≡ judgedTask before k t T ph
   unfolding judgedTask
-  judged-inside l ed eb eu er = rw (lt-leb T t l, er, eu, eb, ed, some-ahead (λ u. activePhase (ph u)) t T (omega arith))
+  judged-inside l ed eb eu er = rw (lt-leb T t l, er, eu, eb, ed)
 
-module _ (l T L : ℕ) (R ph : ℕ → ℕ) where
-  pub read-outside : L ≤ l → 12 ≡ judgedRead earlier l T L R ph
+module _ (before : ℕ → ℕ → Bool) (l T L : ℕ) (R ph : ℕ → ℕ) where
+  pub read-outside : L ≤ l → 12 ≡ judgedRead before l T L R ph
   unfolding judgedRead
   read-outside h = rw (le-leb L l h)
 
-  pub read-inside : {r : ℕ} → l < L → r ≡ judgedTask earlier 2 (R l) T ph → r ≡ judgedRead earlier l T L R ph
+  pub read-inside : {r : ℕ} → l < L → r ≡ judgedTask before 2 (R l) T ph → r ≡ judgedRead before l T L R ph
   unfolding judgedRead
   read-inside h e = rw (lt-leb L l h) e

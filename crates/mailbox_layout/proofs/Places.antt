@@ -2,7 +2,7 @@
 -- Assumes nothing.
 use mathlib.Core.Path.{_≡_, refl, sym, ap, _∙_}
 use mathlib.Core.Logic.{_≢_}
-use mathlib.Core.List.{List, [], _++_}
+use mathlib.Core.List.{List, [], _∷_, _++_}
 use Prim.Native.Nat.{ℕ, _+_, _-_, _*_, _≤_, _<_}
 use native.Mathlib.Omega.{arith}
 use lib.ListN.{take, drop, replicate, List·getD-eq-default}
@@ -10,7 +10,7 @@ use lib.Seq.{drop-drop}
 use Rattle.protocol_state.specs.Saved.{stateRoom, positions}
 use Rattle.regions.specs.Regions.{regions, start, width, extent, place}
 use Rattle.regions.proofs.Regions.{start-even, start-after, width-even, width-after, place-is, place-none}
-use Rattle.mailbox_layout.specs.Layout.{byTask, byLink, defaultRegion, startValueRegion, cellRegion, controlWidths, valueWidths, controlSize, valueSize, cellsIn}
+use Rattle.mailbox_layout.specs.Layout.{byTask, byLink, defaultRegion, startValueRegion, cellRegion, controlWidths, valueWidths, timeWidths, controlSize, valueSize, timeSize, cellsIn}
 
 byLinks : List ℕ
 byLinks = replicate byLink (stateRoom .links) ++ []
@@ -22,6 +22,53 @@ control-extent = refl
 pub value-extent : extent valueWidths ≡ valueSize
 unfolding start
 value-extent = refl
+
+pub time-extent : extent timeWidths ≡ timeSize
+unfolding start
+time-extent = refl
+
+-- the regions of the times: by task, then a number each, and none past them
+module _ (k i : ℕ) where
+  time-start : k < 2 → start timeWidths k ≡ k * stateRoom .tasks
+  time-start h = start-even (stateRoom .tasks) (1 ∷ 1 ∷ []) 2 k h
+
+  time-width : k < 2 → width timeWidths k ≡ stateRoom .tasks
+  time-width h = width-even (stateRoom .tasks) (1 ∷ 1 ∷ []) 2 k h
+
+  pub time-place : k < 2 → i < stateRoom .tasks → k * stateRoom .tasks + i ≡ place timeWidths k i
+  time-place h l =
+      let w : i < width timeWidths k = omega (arith, time-width h) in
+      sym (place-is timeWidths k i w ∙ ap (λ (s : ℕ). s + i) (time-start h))
+
+  pub time-none : k < 2 → stateRoom .tasks ≤ i → timeSize ≡ place timeWidths k i
+  time-none h l = sym time-extent ∙ sym (place-none timeWidths k i (omega (arith, time-width h)))
+
+module _ (k i : ℕ) (l : 2 ≤ k) (h : k < 4) where
+  one-start : start timeWidths k ≡ 2 * stateRoom .tasks + (k - 2)
+  one-start =
+      let e : 2 + (k - 2) ≡ k = omega arith in
+      let z : (k - 2) * 1 ≡ k - 2 = omega arith in
+      ap (start timeWidths) (sym e) ∙ start-after (stateRoom .tasks) (1 ∷ 1 ∷ []) 2 (k - 2)
+      ∙ ap (λ (n : ℕ). 2 * stateRoom .tasks + n) (start-even 1 [] 2 (k - 2) (omega arith) ∙ z)
+
+  one-width : width timeWidths k ≡ 1
+  one-width =
+      let e : 2 + (k - 2) ≡ k = omega arith in
+      ap (width timeWidths) (sym e) ∙ width-after (stateRoom .tasks) (1 ∷ 1 ∷ []) 2 (k - 2) ∙ width-even 1 [] 2 (k - 2) (omega arith)
+
+  pub one-place : i < 1 → 2 * stateRoom .tasks + (k - 2) ≡ place timeWidths k i
+  one-place m =
+      let w : i < width timeWidths k = omega (arith, one-width) in
+      let z : i ≡ 0 = omega arith in
+      sym (place-is timeWidths k i w ∙ rw (one-start, z) (omega arith))
+
+  pub one-none : 1 ≤ i → timeSize ≡ place timeWidths k i
+  one-none m = sym time-extent ∙ sym (place-none timeWidths k i (omega (arith, one-width)))
+
+pub no-time : (k i : ℕ) → 4 ≤ k → timeSize ≡ place timeWidths k i
+no-time k i h =
+    let w : width timeWidths k ≡ 0 = List·getD-eq-default timeWidths 0 {n = k} h in
+    sym time-extent ∙ sym (place-none timeWidths k i (omega arith))
 
 module _ (k i : ℕ) where
   -- the regions by task

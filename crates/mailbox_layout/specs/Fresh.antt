@@ -4,7 +4,7 @@ use mathlib.Core.List.{List, [], _∷_}
 use Prim.Native.Nat.{ℕ, _*_, _/_}
 use lib.ListN.{set, replicate}
 use Rattle.lists.specs.Lists.{upto}
-use Rattle.protocol_state.specs.Records.{Task, defaultOf, Link}
+use Rattle.protocol_state.specs.Records.{Task, Link}
 use Rattle.protocol_state.specs.Saved.{stateRoom, at, positions}
 use Rattle.protocol_state.specs.Fresh.{column, filled}
 use Rattle.regions.specs.Regions.{region}
@@ -27,15 +27,19 @@ freshControl ls =
 
 -- the values of the tasks ts before a position is filled, and before any link
 abbrev pub emptyValues : List Task → List (List ℕ)
-emptyValues ts = column (stateRoom .tasks) defaultOf ts ∷ replicate (stateRoom .links) 0 ∷ replicate (stateRoom .tasks * positions) 0 ∷ []
+emptyValues ts = column (stateRoom .tasks) (λ (k : Task). k .default) ts ∷ replicate (stateRoom .links) 0 ∷ replicate (stateRoom .tasks * positions) 0 ∷ []
 
 -- and those of a fresh state with the links ls: each position of a task holds its default
 abbrev pub freshValues : List Task → List Link → List (List ℕ)
 freshValues ts ls =
-    column (stateRoom .tasks) defaultOf ts
+    column (stateRoom .tasks) (λ (k : Task). k .default) ts
     ∷ column (stateRoom .links) (λ (k : Link). k .startValue) ls
-    ∷ filled (stateRoom .tasks) (column (stateRoom .tasks) defaultOf ts)
+    ∷ filled (stateRoom .tasks) (column (stateRoom .tasks) (λ (k : Task). k .default) ts)
     ∷ []
+
+-- the times of a fresh state of the tasks ts under the policy p: their deadlines, and no tick yet
+abbrev pub freshTimes : ℕ → List Task → List (List ℕ)
+freshTimes p ts = column (stateRoom .tasks) (λ (k : Task). k .deadline) ts ∷ replicate (stateRoom .tasks) 0 ∷ (0 ∷ []) ∷ (p ∷ []) ∷ []
 
 -- with the number x at place l of region k
 abbrev pub withNumber : ℕ → ℕ → ℕ → List (List ℕ) → List (List ℕ)

@@ -2,20 +2,23 @@
 ghost use mathlib.Core.Path.{_≡_};
 ghost use mathlib.Core.List.{[]};
 ghost use lib.ListN.{set};
-ghost use Rattle.mailbox_layout.specs.Layout.{cellRegion, cut, cutValues, cellsIn, defaultsIn};
-ghost use Rattle.mailbox_layout.specs.Fresh.{freshControl, asRecord, linkPut, startPut, eachDefault};
+ghost use Rattle.mailbox_layout.specs.Layout.{cellRegion, cut, cutValues, cutTimes, cellsIn, defaultsIn};
+ghost use Rattle.mailbox_layout.specs.Fresh.{freshControl, freshTimes, asRecord, linkPut, startPut, eachDefault};
 use crate::CELL;
 use crate::CONTROL;
 use crate::DEFAULT;
 use crate::KIND;
 use crate::Link;
 use crate::NEWEST;
+use crate::POLICY;
 use crate::PREVIOUS;
 use crate::READER;
 use crate::START_VALUE;
+use crate::TIMES;
 use crate::VALUES;
 use crate::WRITER;
 use crate::put_control;
+use crate::put_time;
 use crate::put_value;
 use crate::value_at;
 use mailbox_base::numbers::CELLS;
@@ -34,6 +37,15 @@ pub fn fresh_control() -> [u8; CONTROL]
         t += 1;
     }
     control
+}
+
+// The times of a fresh state without tasks, under a policy: no tick yet.
+pub fn fresh_times(policy: u32) -> [u32; TIMES]
+    ensures { λ r. ⌜ cutTimes r ≡ freshTimes policy [] ⌝ }
+{
+    let mut times = [0u32; TIMES];
+    put_time(&mut times, POLICY, 0, policy);
+    times
 }
 
 // Puts link `l`: its writer, its reader and its kind into the control, its start value into the values.

@@ -1,12 +1,12 @@
-// The state of the mailboxes in two lent arrays, each cut into regions: bytes (control: phases, positions, arrivals, pointers, marks,
-// links) and numbers of 32 bits (values: defaults, start values, mailboxes). Every access to them goes through these functions; what is
-// above speaks of the fields of a state.
+// The state of the mailboxes in three lent arrays, each cut into regions: bytes (control: phases, positions, arrivals, pointers, marks,
+// links) and numbers of 32 bits (values: defaults, start values, mailboxes; times: deadlines, ticks, the policy). Every access to them goes
+// through these functions; what is above speaks of the fields of a state.
 // A field more is one region here and in specs/Layout, one field of the view there, and one accessor of the state.
 ghost use mathlib.Core.Path.{_≡_};
 ghost use lib.ListN.{set};
 ghost use Rattle.protocol_state.specs.Saved.{at, cellOf};
 ghost use Rattle.regions.specs.Regions.{region, place};
-ghost use Rattle.mailbox_layout.specs.Layout.{controlWidths, valueWidths, cellRegion, cut, cutValues, phaseIn, cellsIn};
+ghost use Rattle.mailbox_layout.specs.Layout.{controlWidths, valueWidths, timeWidths, cellRegion, cut, cutValues, cutTimes, phaseIn, cellsIn};
 use mailbox_base::numbers::CELLS;
 use mailbox_base::numbers::LINKS;
 use mailbox_base::numbers::TASKS;
@@ -62,6 +62,18 @@ pub struct Link {
     pub kind: u8,
     pub start_value: u32,
 }
+
+// The regions of the times: by task, then the last tick and the policy, a number each.
+pub const DEADLINE: usize = 0;
+
+pub const SINCE: usize = 1;
+
+pub const LAST: usize = 2;
+
+pub const POLICY: usize = 3;
+
+// The numbers of a state's times.
+pub const TIMES: usize = 2 * TASKS + 2;
 
 // Where place `i` of region `k` of the control stands, by task or by link: at the end, if there is no such place.
 fn control_place(k: usize, i: usize) -> usize
@@ -132,6 +144,40 @@ pub fn put_value(values: &mut [u32; VALUES], k: usize, i: usize, x: u32)
     let p = value_place(k, i);
     if p < VALUES {
         values[p] = x;
+    }
+}
+
+// Where place `i` of region `k` of the times stands, likewise.
+fn time_place(k: usize, i: usize) -> usize
+    ensures { λ r. ⌜ r ≡ place timeWidths k i ⌝ }
+{
+    if k < LAST {
+        if i < TASKS {
+            return k * TASKS + i;
+        }
+    } else if k < POLICY + 1 {
+        if i < 1 {
+            return 2 * TASKS + (k - LAST);
+        }
+    }
+    TIMES
+}
+
+// What stands at place `i` of region `k` of the times; 0 where there is no such place.
+pub fn time_at(times: &[u32; TIMES], k: usize, i: usize) -> u32
+    ensures { λ r. ⌜ r ≡ at (region (cutTimes (now (times .entry))) k) i ⌝ }
+{
+    let p = time_place(k, i);
+    if p < TIMES { times[p] } else { 0 }
+}
+
+// Puts a number there, where there is such a place.
+pub fn put_time(times: &mut [u32; TIMES], k: usize, i: usize, x: u32)
+    ensures { λ _. ⌜ cutTimes (now (times .exit)) ≡ set (cutTimes (now (times .entry))) k (set (region (cutTimes (now (times .entry))) k) i x) ⌝ }
+{
+    let p = time_place(k, i);
+    if p < TIMES {
+        times[p] = x;
     }
 }
 

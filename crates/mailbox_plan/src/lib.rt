@@ -5,10 +5,9 @@ ghost use mathlib.Core.Bool.{cond};
 ghost use Prim.Native.Nat.{_+_, min};
 ghost use lib.Dec.{eqb};
 ghost use lib.ListN.{set};
-ghost use Rattle.protocol_state.specs.Records.{earlier};
 ghost use Rattle.protocol_state.specs.Saved.{at, stateRoom};
 ghost use Rattle.mailbox_free.specs.Pattern.{patterns};
-ghost use Rattle.mailbox_layout.specs.Layout.{writerIn, readerIn};
+ghost use Rattle.mailbox_layout.specs.Layout.{writerIn, readerIn, aheadAmong};
 ghost use Rattle.mailbox_plan.specs.Plan.{flagAt, Planned};
 use lists::few;
 use mailbox_base::numbers::LINKS;
@@ -17,15 +16,21 @@ use mailbox_free::table::PATTERNS;
 use mailbox_free::table::PLAN;
 use mailbox_free::table::plan_without_links;
 use mailbox_layout::CONTROL;
+use mailbox_layout::DEADLINE;
 use mailbox_layout::READER;
+use mailbox_layout::TIMES;
 use mailbox_layout::WRITER;
 use mailbox_layout::control_at;
+use mailbox_layout::time_at;
 
-// Whether task `u` is ahead of task `t`. Every order of two tasks is asked for here.
-pub fn is_ahead(u: u8, t: u8) -> bool
-    ensures { λ r. ⌜ r ≡ earlier u t ⌝ }
+// Whether task `u` is ahead of task `t`: its relative deadline is smaller, or the same and it is earlier in the table, as under fixed
+// priorities, where no task has one. Every order of two tasks is asked for here.
+pub fn is_ahead(times: &[u32; TIMES], u: usize, t: usize) -> bool
+    ensures { λ r. ⌜ r ≡ aheadAmong (now (times .entry)) u t ⌝ }
 {
-    u < t
+    let x = time_at(times, DEADLINE, u);
+    let y = time_at(times, DEADLINE, t);
+    (x < y) | ((x == y) & (u < t))
 }
 
 // Whether link `l` goes to a reader behind, by its flag.
@@ -51,8 +56,8 @@ pub fn put_flag(plan: &mut [u8; PLAN], l: usize, behind: bool)
 }
 
 // The plan of the first links of a state; a count above the room is taken as the room.
-pub fn plan_of(links: usize, control: &[u8; CONTROL]) -> [u8; PLAN]
-    ensures { λ r. ⌜ Planned earlier (at (writerIn (now (control .entry)))) (at (readerIn (now (control .entry)))) (min links (stateRoom .links)) r ⌝ }
+pub fn plan_of(links: usize, control: &[u8; CONTROL], times: &[u32; TIMES]) -> [u8; PLAN]
+    ensures { λ r. ⌜ Planned (aheadAmong (now (times .entry))) (at (writerIn (now (control .entry)))) (at (readerIn (now (control .entry)))) (min links (stateRoom .links)) r ⌝ }
 {
     let n = few(links, LINKS);
     let mut plan = plan_without_links();
@@ -60,7 +65,7 @@ pub fn plan_of(links: usize, control: &[u8; CONTROL]) -> [u8; PLAN]
     while l < n {
         let w = control_at(control, WRITER, l);
         let r = control_at(control, READER, l);
-        put_flag(&mut plan, l, is_ahead(w, r));
+        put_flag(&mut plan, l, is_ahead(times, w as usize, r as usize));
         l += 1;
     }
     plan

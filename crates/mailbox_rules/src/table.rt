@@ -6,11 +6,10 @@ ghost use Prim.Native.Nat.{ℕ, _≤_, _<_, min};
 ghost use lib.Dec.{eqb};
 ghost use Rattle.lists.specs.Lists.{leading};
 ghost use Rattle.protocol_state.specs.Saved.{at, stateRoom};
-ghost use Rattle.mailbox_layout.specs.Layout.{writerIn, readerIn, linkHeld};
+ghost use Rattle.mailbox_layout.specs.Layout.{writerIn, readerIn, linkHeld, aheadAmong};
 ghost use Rattle.mailbox_layout.specs.Fresh.{asRecord};
 ghost use Rattle.mailbox_plan.specs.Plan.{Planned};
 ghost use Rattle.protocol_state.specs.Rules.{faultOf, faultAfter, fault, judgedTable};
-ghost use Rattle.protocol_state.specs.Records.{earlier};
 use crate::links::has_pair;
 use crate::links::readers_behind;
 use mailbox_base::numbers::LINKS;
@@ -22,6 +21,7 @@ use mailbox_layout::KIND;
 use mailbox_layout::Link;
 use mailbox_layout::READER;
 use mailbox_layout::START_VALUE;
+use mailbox_layout::TIMES;
 use mailbox_layout::VALUES;
 use mailbox_layout::WRITER;
 use mailbox_layout::control_at;
@@ -51,16 +51,19 @@ pub fn fault_after(
     plan: &[u8; PLAN],
     tasks: usize,
     control: &[u8; CONTROL],
+    times: &[u32; TIMES],
     n: usize,
     link: Link,
 ) -> u8
-    ensures { λ res. ⌜ (Planned earlier (at (writerIn (now (control .entry)))) (at (readerIn (now (control .entry)))) (min n (stateRoom .links)) (now (plan .entry)) → (b : List ℕ) → res ≡ faultAfter earlier tasks (linkHeld (now (control .entry)) b) (min n (stateRoom .links)) (asRecord link)) ⌝ }
+    ensures { λ res. ⌜ (Planned (aheadAmong (now (times .entry))) (at (writerIn (now (control .entry)))) (at (readerIn (now (control .entry)))) (min n (stateRoom .links)) (now (plan .entry)) → (b : List ℕ) → res ≡ faultAfter (aheadAmong (now (times .entry))) tasks (linkHeld (now (control .entry)) b) (min n (stateRoom .links)) (asRecord link)) ⌝ }
 {
     let w = link.writer;
     let r = link.reader;
     let twice = has_pair(control, n, w, r);
     let count = readers_behind(plan, control, n, w as usize);
-    fault_of(tasks, link, is_ahead(w, r), is_ahead(r, w), twice, count)
+    let behind = is_ahead(times, w as usize, r as usize);
+    let front = is_ahead(times, r as usize, w as usize);
+    fault_of(tasks, link, behind, front, twice, count)
 }
 
 // The refusal that link `l` earns, 0 for none.
@@ -69,10 +72,11 @@ fn fault_at(
     tasks: usize,
     control: &[u8; CONTROL],
     values: &[u32; VALUES],
+    times: &[u32; TIMES],
     l: usize,
 ) -> u8
     requires { ⌜ l < stateRoom .links ⌝ }
-    ensures { λ r. ⌜ (Planned earlier (at (writerIn (now (control .entry)))) (at (readerIn (now (control .entry)))) l (now (plan .entry)) → r ≡ fault earlier tasks (linkHeld (now (control .entry)) (now (values .entry))) l) ⌝ }
+    ensures { λ r. ⌜ (Planned (aheadAmong (now (times .entry))) (at (writerIn (now (control .entry)))) (at (readerIn (now (control .entry)))) l (now (plan .entry)) → r ≡ fault (aheadAmong (now (times .entry))) tasks (linkHeld (now (control .entry)) (now (values .entry))) l) ⌝ }
 {
     let link = Link {
         writer: control_at(control, WRITER, l),
@@ -80,7 +84,7 @@ fn fault_at(
         kind: control_at(control, KIND, l),
         start_value: value_at(values, START_VALUE, l),
     };
-    fault_after(plan, tasks, control, l, link)
+    fault_after(plan, tasks, control, times, l, link)
 }
 
 // The first fault: `before` where there is one, else that of link `l`.
@@ -90,14 +94,15 @@ fn fault_or(
     tasks: usize,
     control: &[u8; CONTROL],
     values: &[u32; VALUES],
+    times: &[u32; TIMES],
     l: usize,
 ) -> u8
     requires { ⌜ l < stateRoom .links ⌝ }
-    ensures { λ r. ⌜ (Planned earlier (at (writerIn (now (control .entry)))) (at (readerIn (now (control .entry)))) l (now (plan .entry)) → r ≡ cond (eqb before 0) (fault earlier tasks (linkHeld (now (control .entry)) (now (values .entry))) l) before) ⌝ }
+    ensures { λ r. ⌜ (Planned (aheadAmong (now (times .entry))) (at (writerIn (now (control .entry)))) (at (readerIn (now (control .entry)))) l (now (plan .entry)) → r ≡ cond (eqb before 0) (fault (aheadAmong (now (times .entry))) tasks (linkHeld (now (control .entry)) (now (values .entry))) l) before) ⌝ }
 {
     pick(
         before == 0,
-        fault_at(plan, tasks, control, values, l),
+        fault_at(plan, tasks, control, values, times, l),
         before,
     )
 }
@@ -109,14 +114,15 @@ fn first_fault(
     links: usize,
     control: &[u8; CONTROL],
     values: &[u32; VALUES],
+    times: &[u32; TIMES],
 ) -> u8
     requires { ⌜ links ≤ stateRoom .links ⌝ }
-    ensures { λ r. ⌜ (Planned earlier (at (writerIn (now (control .entry)))) (at (readerIn (now (control .entry)))) links (now (plan .entry)) → r ≡ leading (fault earlier tasks (linkHeld (now (control .entry)) (now (values .entry)))) links) ⌝ }
+    ensures { λ r. ⌜ (Planned (aheadAmong (now (times .entry))) (at (writerIn (now (control .entry)))) (at (readerIn (now (control .entry)))) links (now (plan .entry)) → r ≡ leading (fault (aheadAmong (now (times .entry))) tasks (linkHeld (now (control .entry)) (now (values .entry)))) links) ⌝ }
 {
     let mut found: u8 = 0;
     let mut l = 0;
     while l < links {
-        found = fault_or(found, plan, tasks, control, values, l);
+        found = fault_or(found, plan, tasks, control, values, times, l);
         l += 1;
     }
     found
@@ -129,8 +135,9 @@ pub fn judge_table(
     links: usize,
     control: &[u8; CONTROL],
     values: &[u32; VALUES],
+    times: &[u32; TIMES],
 ) -> u8
-    ensures refusal { λ r. ⌜ (Planned earlier (at (writerIn (now (control .entry)))) (at (readerIn (now (control .entry)))) (min links (stateRoom .links)) (now (plan .entry)) → r ≡ judgedTable earlier tasks (linkHeld (now (control .entry)) (now (values .entry))) stateRoom links) ⌝ }
+    ensures refusal { λ r. ⌜ (Planned (aheadAmong (now (times .entry))) (at (writerIn (now (control .entry)))) (at (readerIn (now (control .entry)))) (min links (stateRoom .links)) (now (plan .entry)) → r ≡ judgedTable (aheadAmong (now (times .entry))) tasks (linkHeld (now (control .entry)) (now (values .entry))) stateRoom links) ⌝ }
     ensures room { λ r. ⌜ (r ≡ 0 → links ≤ stateRoom .links) ⌝ }
 {
     if (tasks == 0) | (TASKS < tasks) {
@@ -139,5 +146,5 @@ pub fn judge_table(
     if LINKS < links {
         return 3;
     }
-    first_fault(plan, tasks, links, control, values)
+    first_fault(plan, tasks, links, control, values, times)
 }

@@ -5,17 +5,16 @@ use mathlib.Core.Bool.{Bool, false, _&&_}
 use Prim.Native.Nat.{ℕ}
 use borrow.Author.Tests.{eq-eqb, ne-eqb}
 use Rattle.lists.specs.Lists.{every}
-use Rattle.protocol_state.specs.Records.{earlier}
 use Rattle.protocol_state.specs.Saved.{Saved, stateRoom, linkIn}
 use Rattle.protocol_state.specs.Rules.{judgedTable}
-use Rattle.protocol_state.specs.Sound.{taskStands, linkStands, isSound}
+use Rattle.protocol_state.specs.Sound.{clockIs, taskStands, linkStands, isSound}
 
--- k is what its table is judged
-module _ (q : Saved) {k : ℕ} (e : k ≡ judgedTable earlier (q .tasks) (linkIn q) stateRoom (q .links)) where
-  pub unsound : (k ≡ 0 → ⊥) → false ≡ isSound earlier stateRoom q
+-- k is what its table is judged, under the order `ahead`
+module _ (ahead : ℕ → ℕ → Bool) (q : Saved) {k : ℕ} (e : k ≡ judgedTable ahead (q .tasks) (linkIn q) stateRoom (q .links)) where
+  pub unsound : (k ≡ 0 → ⊥) → false ≡ isSound ahead stateRoom q
   unfolding isSound
   unsound ne = rw (ne-eqb _ 0 (λ z. ne (e ∙ z)))
 
-  pub sound : {a b : Bool} → k ≡ 0 → a ≡ every (taskStands earlier q) (q .tasks) → b ≡ every (linkStands earlier q) (q .links) → (a && b) ≡ isSound earlier stateRoom q
+  pub sound : {o a b : Bool} → k ≡ 0 → o ≡ clockIs (q .policy) (q .last) → a ≡ every (taskStands ahead q) (q .tasks) → b ≡ every (linkStands ahead q) (q .links) → (o && (a && b)) ≡ isSound ahead stateRoom q
   unfolding isSound
-  sound z ea eb = rw (eq-eqb _ 0 (sym e ∙ z), ea, eb)
+  sound z eo ea eb = rw (eq-eqb _ 0 (sym e ∙ z), eo, ea, eb)

@@ -5,23 +5,29 @@ ghost use mathlib.Core.List.{List};
 ghost use Prim.Native.Nat.{ℕ, _≤_, _<_, min};
 ghost use Rattle.lists.specs.Lists.{every};
 ghost use Rattle.protocol_state.specs.Saved.{at, stateRoom};
-ghost use Rattle.protocol_state.specs.Sound.{within, taskIs, seenIs, markIs, taskOk, pointerIs, pointerOk, markOk, taskStands, linkStands, isSound};
-ghost use Rattle.protocol_state.specs.Records.{earlier};
-ghost use Rattle.mailbox_layout.specs.Layout.{writerIn, readerIn, stateOf};
+ghost use Rattle.protocol_state.specs.Sound.{within, taskIs, seenIs, sinceIs, deadlineIs, clockIs, markIs, taskOk, timeOk, pointerIs, pointerOk, markOk, taskStands, linkStands, isSound};
+ghost use Rattle.mailbox_layout.specs.Layout.{writerIn, readerIn, aheadAmong, stateOf};
 ghost use Rattle.mailbox_plan.specs.Plan.{Planned};
+use mailbox_base::numbers::LIMIT;
 use mailbox_free::table::PLAN;
 use mailbox_layout::CONTROL;
+use mailbox_layout::DEADLINE;
 use mailbox_layout::KIND;
+use mailbox_layout::LAST;
 use mailbox_layout::MARK;
 use mailbox_layout::NEWEST;
 use mailbox_layout::PHASE;
 use mailbox_layout::POINTER;
+use mailbox_layout::POLICY;
 use mailbox_layout::PREVIOUS;
 use mailbox_layout::READER;
 use mailbox_layout::SEEN;
+use mailbox_layout::SINCE;
+use mailbox_layout::TIMES;
 use mailbox_layout::VALUES;
 use mailbox_layout::WRITER;
 use mailbox_layout::control_at;
+use mailbox_layout::time_at;
 use mailbox_plan::goes_behind;
 use mailbox_rules::links::readers_behind;
 use mailbox_rules::table::judge_table;
@@ -52,7 +58,7 @@ fn seen_is(phase: u8, seen: u8) -> bool
 // Whether task `t` has a phase and positions that it may have: its links to readers behind are counted.
 fn task_ok(plan: &[u8; PLAN], links: usize, control: &[u8; CONTROL], t: usize) -> bool
     requires { ⌜ links ≤ stateRoom .links ⌝ }
-    ensures { λ r. ⌜ ((ahead : ℕ → ℕ → Bool) → Planned ahead (at (writerIn (now (control .entry)))) (at (readerIn (now (control .entry)))) links (now (plan .entry)) → (T : ℕ) (v : List ℕ) → r ≡ taskOk ahead (stateOf T links (now (control .entry)) v) t) ⌝ }
+    ensures { λ r. ⌜ ((ahead : ℕ → ℕ → Bool) → Planned ahead (at (writerIn (now (control .entry)))) (at (readerIn (now (control .entry)))) links (now (plan .entry)) → (T : ℕ) (v x : List ℕ) → r ≡ taskOk ahead (stateOf T links (now (control .entry)) v x) t) ⌝ }
 {
     let n = readers_behind(plan, control, links, t);
     task_is(
@@ -63,24 +69,72 @@ fn task_ok(plan: &[u8; PLAN], links: usize, control: &[u8; CONTROL], t: usize) -
     )
 }
 
+// Whether a task with this phase may have the arrival tick `y`, where the last tick is `z`: up to it for an active job, 0 for an idle task.
+fn since_is(phase: u8, y: u32, z: u32) -> bool
+    ensures { λ r. ⌜ r ≡ sinceIs phase y z ⌝ }
+{
+    if phase == 0 { y <= 0 } else { y <= z }
+}
+
+// Whether a task may have this relative deadline: none under fixed priorities, else not 0.
+fn deadline_is(policy: u32, d: u32) -> bool
+    ensures { λ r. ⌜ r ≡ deadlineIs policy d ⌝ }
+{
+    if policy == 0 { d == 0 } else { 1 <= d }
+}
+
+// Whether task `t` has an arrival tick and a relative deadline that it may have.
+fn time_ok(control: &[u8; CONTROL], times: &[u32; TIMES], t: usize) -> bool
+    ensures { λ r. ⌜ ((T L : ℕ) (v : List ℕ) → r ≡ timeOk (stateOf T L (now (control .entry)) v (now (times .entry))) t) ⌝ }
+{
+    let phase = control_at(control, PHASE, t);
+    let since_stands = since_is(phase, time_at(times, SINCE, t), time_at(times, LAST, 0));
+    let deadline_stands = deadline_is(time_at(times, POLICY, 0), time_at(times, DEADLINE, t));
+    since_stands & deadline_stands
+}
+
+// Whether there is such a policy, and the last tick may be: none under fixed priorities, and none above the limit.
+fn clock_is(policy: u32, last: u32) -> bool
+    ensures { λ r. ⌜ r ≡ clockIs policy last ⌝ }
+{
+    if policy == 0 {
+        last <= 0
+    } else {
+        (policy <= 1) & (last <= LIMIT)
+    }
+}
+
 // Whether task `t` is as it may be.
-fn task_stands(plan: &[u8; PLAN], links: usize, control: &[u8; CONTROL], t: usize) -> bool
+fn task_stands(
+    plan: &[u8; PLAN],
+    links: usize,
+    control: &[u8; CONTROL],
+    times: &[u32; TIMES],
+    t: usize,
+) -> bool
     requires { ⌜ links ≤ stateRoom .links ⌝ }
-    ensures { λ r. ⌜ ((ahead : ℕ → ℕ → Bool) → Planned ahead (at (writerIn (now (control .entry)))) (at (readerIn (now (control .entry)))) links (now (plan .entry)) → (T : ℕ) (v : List ℕ) → r ≡ taskStands ahead (stateOf T links (now (control .entry)) v) t) ⌝ }
+    ensures { λ r. ⌜ ((ahead : ℕ → ℕ → Bool) → Planned ahead (at (writerIn (now (control .entry)))) (at (readerIn (now (control .entry)))) links (now (plan .entry)) → (T : ℕ) (v : List ℕ) → r ≡ taskStands ahead (stateOf T links (now (control .entry)) v (now (times .entry))) t) ⌝ }
 {
     let seen_stands = seen_is(control_at(control, PHASE, t), control_at(control, SEEN, t));
-    task_ok(plan, links, control, t) & seen_stands
+    let time_stands = time_ok(control, times, t);
+    task_ok(plan, links, control, t) & (seen_stands & time_stands)
 }
 
 // Whether each task is as it may be.
-fn tasks_stand(plan: &[u8; PLAN], tasks: usize, links: usize, control: &[u8; CONTROL]) -> bool
+fn tasks_stand(
+    plan: &[u8; PLAN],
+    tasks: usize,
+    links: usize,
+    control: &[u8; CONTROL],
+    times: &[u32; TIMES],
+) -> bool
     requires { ⌜ links ≤ stateRoom .links ⌝ }
-    ensures { λ r. ⌜ ((ahead : ℕ → ℕ → Bool) → Planned ahead (at (writerIn (now (control .entry)))) (at (readerIn (now (control .entry)))) links (now (plan .entry)) → (T : ℕ) (v : List ℕ) → r ≡ every (taskStands ahead (stateOf T links (now (control .entry)) v)) tasks) ⌝ }
+    ensures { λ r. ⌜ ((ahead : ℕ → ℕ → Bool) → Planned ahead (at (writerIn (now (control .entry)))) (at (readerIn (now (control .entry)))) links (now (plan .entry)) → (T : ℕ) (v : List ℕ) → r ≡ every (taskStands ahead (stateOf T links (now (control .entry)) v (now (times .entry)))) tasks) ⌝ }
 {
     let mut ok = true;
     let mut t = 0;
     while t < tasks {
-        ok = task_stands(plan, links, control, t) & ok;
+        ok = task_stands(plan, links, control, times, t) & ok;
         t += 1;
     }
     ok
@@ -105,7 +159,7 @@ fn pointer_is(behind: bool, y: u8, phase: u8, n: usize) -> bool
 // Whether link `l` has a pointer that it may have: its reader's phase is looked up, its writer's links are counted.
 fn pointer_ok(plan: &[u8; PLAN], links: usize, control: &[u8; CONTROL], l: usize) -> bool
     requires { ⌜ (l < links) × (links ≤ stateRoom .links) ⌝ }
-    ensures { λ r. ⌜ ((ahead : ℕ → ℕ → Bool) → Planned ahead (at (writerIn (now (control .entry)))) (at (readerIn (now (control .entry)))) links (now (plan .entry)) → (T : ℕ) (v : List ℕ) → r ≡ pointerOk ahead (stateOf T links (now (control .entry)) v) l) ⌝ }
+    ensures { λ r. ⌜ ((ahead : ℕ → ℕ → Bool) → Planned ahead (at (writerIn (now (control .entry)))) (at (readerIn (now (control .entry)))) links (now (plan .entry)) → (T : ℕ) (v x : List ℕ) → r ≡ pointerOk ahead (stateOf T links (now (control .entry)) v x) l) ⌝ }
 {
     let w = control_at(control, WRITER, l);
     let r = control_at(control, READER, l);
@@ -129,7 +183,7 @@ fn mark_is(k: u8, y: u8, seen: u8, m: u8) -> bool
 
 // Whether link `l` has a mark that it may have: its writer's arrivals are looked up.
 fn mark_ok(control: &[u8; CONTROL], l: usize) -> bool
-    ensures { λ r. ⌜ ((T L : ℕ) (v : List ℕ) → r ≡ markOk (stateOf T L (now (control .entry)) v) l) ⌝ }
+    ensures { λ r. ⌜ ((T L : ℕ) (v x : List ℕ) → r ≡ markOk (stateOf T L (now (control .entry)) v x) l) ⌝ }
 {
     let w = control_at(control, WRITER, l);
     let seen = control_at(control, SEEN, w as usize);
@@ -144,7 +198,7 @@ fn mark_ok(control: &[u8; CONTROL], l: usize) -> bool
 // Whether link `l` is as it may be.
 fn link_stands(plan: &[u8; PLAN], links: usize, control: &[u8; CONTROL], l: usize) -> bool
     requires { ⌜ (l < links) × (links ≤ stateRoom .links) ⌝ }
-    ensures { λ r. ⌜ ((ahead : ℕ → ℕ → Bool) → Planned ahead (at (writerIn (now (control .entry)))) (at (readerIn (now (control .entry)))) links (now (plan .entry)) → (T : ℕ) (v : List ℕ) → r ≡ linkStands ahead (stateOf T links (now (control .entry)) v) l) ⌝ }
+    ensures { λ r. ⌜ ((ahead : ℕ → ℕ → Bool) → Planned ahead (at (writerIn (now (control .entry)))) (at (readerIn (now (control .entry)))) links (now (plan .entry)) → (T : ℕ) (v x : List ℕ) → r ≡ linkStands ahead (stateOf T links (now (control .entry)) v x) l) ⌝ }
 {
     let mark_stands = mark_ok(control, l);
     pointer_ok(plan, links, control, l) & mark_stands
@@ -153,7 +207,7 @@ fn link_stands(plan: &[u8; PLAN], links: usize, control: &[u8; CONTROL], l: usiz
 // Whether each link is as it may be.
 fn links_stand(plan: &[u8; PLAN], links: usize, control: &[u8; CONTROL]) -> bool
     requires { ⌜ links ≤ stateRoom .links ⌝ }
-    ensures { λ r. ⌜ ((ahead : ℕ → ℕ → Bool) → Planned ahead (at (writerIn (now (control .entry)))) (at (readerIn (now (control .entry)))) links (now (plan .entry)) → (T : ℕ) (v : List ℕ) → r ≡ every (linkStands ahead (stateOf T links (now (control .entry)) v)) links) ⌝ }
+    ensures { λ r. ⌜ ((ahead : ℕ → ℕ → Bool) → Planned ahead (at (writerIn (now (control .entry)))) (at (readerIn (now (control .entry)))) links (now (plan .entry)) → (T : ℕ) (v x : List ℕ) → r ≡ every (linkStands ahead (stateOf T links (now (control .entry)) v x)) links) ⌝ }
 {
     let mut ok = true;
     let mut l = 0;
@@ -164,21 +218,23 @@ fn links_stand(plan: &[u8; PLAN], links: usize, control: &[u8; CONTROL]) -> bool
     ok
 }
 
-// Whether a state is sound: its table keeps the rules, and each task and each link is as it may be. The plan of its links is lent.
+// Whether a state is sound: its table keeps the rules, and its clock, each task and each link is as it may be. The plan of its links is lent.
 pub fn is_sound(
     plan: &[u8; PLAN],
     tasks: usize,
     links: usize,
     control: &[u8; CONTROL],
     values: &[u32; VALUES],
+    times: &[u32; TIMES],
 ) -> bool
-    ensures { λ r. ⌜ (Planned earlier (at (writerIn (now (control .entry)))) (at (readerIn (now (control .entry)))) (min links (stateRoom .links)) (now (plan .entry)) → r ≡ isSound earlier stateRoom (stateOf tasks links (now (control .entry)) (now (values .entry)))) ⌝ }
+    ensures { λ r. ⌜ (Planned (aheadAmong (now (times .entry))) (at (writerIn (now (control .entry)))) (at (readerIn (now (control .entry)))) (min links (stateRoom .links)) (now (plan .entry)) → r ≡ isSound (aheadAmong (now (times .entry))) stateRoom (stateOf tasks links (now (control .entry)) (now (values .entry)) (now (times .entry)))) ⌝ }
 {
-    let refusal = judge_table(plan, tasks, links, control, values);
+    let refusal = judge_table(plan, tasks, links, control, values, times);
     if refusal != 0 {
         return false;
     }
-    let a = tasks_stand(plan, tasks, links, control);
+    let clock_stands = clock_is(time_at(times, POLICY, 0), time_at(times, LAST, 0));
+    let a = tasks_stand(plan, tasks, links, control, times);
     let b = links_stand(plan, links, control);
-    a & b
+    clock_stands & (a & b)
 }

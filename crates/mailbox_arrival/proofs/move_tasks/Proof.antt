@@ -23,7 +23,7 @@ abbrev μ-loop : tie.MeasureT-loop
 μ-loop plan set tasks links control₀ t₀ control t = tasks - t
 
 loop-holds : tie.Need-loop-holds Inv-loop μ-loop
-loop-holds c = (omega arith, λ ahead right T n. moved-none ahead _ _)
+loop-holds c = (omega arith, λ ahead right T v x. moved-none ahead _ _)
 
 move-task-requires : tie.Need-move-task-requires Inv-loop μ-loop
 move-task-requires c κs = search needs
@@ -37,13 +37,13 @@ loop-less c = omega arith
 loop-again : tie.Need-loop-again Inv-loop μ-loop
 loop-again c = (
   omega arith,
-  λ ahead right T n.
-      let e = c .before .before .before .loop .inv .1 ahead right T n in
-      moved-more ahead _ _ _ e (c .move-task .ensures ahead (plan-kept (ap (λ (q : Saved). q .writer) e) (ap (λ (q : Saved). q .reader) e) right) T n),
+  λ ahead right T v x.
+      let e = c .before .before .before .loop .inv .1 ahead right T v x in
+      moved-more ahead _ _ _ e (c .move-task .ensures ahead (plan-kept (ap (λ (q : Saved). q .writer) e) (ap (λ (q : Saved). q .reader) e) right) T v x),
 )
 
 returns : tie.Need-returns Inv-loop μ-loop
-returns c ahead right T n = moved-end ahead _ _ _ _ (c .before .loop .inv .1 ahead right T n) (c .before .loop .inv .0) (c .loop-test .left)
+returns c ahead right T v x = moved-end ahead _ _ _ _ (c .before .loop .inv .1 ahead right T v x) (c .before .loop .inv .0) (c .loop-test .left)
 
 pub move-tasks-spec : {M : Type 1} → statement M
 move-tasks-spec =

@@ -16,7 +16,7 @@ abbrev μ-loop : tie.MeasureT-loop
 μ-loop set links control₀ l₀ control l = links - l
 
 loop-holds : tie.Need-loop-holds Inv-loop μ-loop
-loop-holds c = (omega arith, λ T L n. pointed-none _ _)
+loop-holds c = (omega arith, λ T L v x. pointed-none _ _)
 
 point-link-requires : tie.Need-point-link-requires Inv-loop μ-loop
 point-link-requires c κs = search needs
@@ -28,10 +28,10 @@ loop-less : tie.Need-loop-less Inv-loop μ-loop
 loop-less c = omega arith
 
 loop-again : tie.Need-loop-again Inv-loop μ-loop
-loop-again c = (omega arith, λ T L n. pointed-more _ _ _ (c .before .before .before .loop .inv .1 T L n) (c .point-link .ensures T L n))
+loop-again c = (omega arith, λ T L v x. pointed-more _ _ _ (c .before .before .before .loop .inv .1 T L v x) (c .point-link .ensures T L v x))
 
 returns : tie.Need-returns Inv-loop μ-loop
-returns c T L n = pointed-end _ _ _ _ (c .before .loop .inv .1 T L n) (c .before .loop .inv .0) (c .loop-test .left)
+returns c T L v x = pointed-end _ _ _ _ (c .before .loop .inv .1 T L v x) (c .before .loop .inv .0) (c .loop-test .left)
 
 pub point-links-spec : {M : Type 1} → statement M
 point-links-spec =

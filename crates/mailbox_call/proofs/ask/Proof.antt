@@ -1,8 +1,12 @@
 -- `mailbox_call::ask` meets its contract: each kind by its case.
 -- Assumes nothing.
+use mathlib.Core.Path.{ap}
+use Rattle.protocol_state.specs.Saved.{stateRoom}
+use Rattle.protocol_state.specs.Give.{givenTo}
+use Rattle.mailbox_call.proofs.Far.{given-over}
 use borrow.Author.Needs.{needs}
 use borrow.Author.Tests.{ne-eqb}
-use Rattle.mailbox_call.specs.Calls.{called}
+use Rattle.mailbox_call.specs.Calls.{requested}
 use Rattle.mailbox_call.proofs.ask.Statement.{statement}
 use Rattle.mailbox_call.proofs.ask.Tie as tie
 
@@ -16,24 +20,24 @@ finish-of-requires : tie.Need-finish-of-requires
 finish-of-requires c κs = search needs
 
 returns : tie.Need-returns
-unfolding called
-returns c = λ q. rw (c .match .keys1)
+unfolding requested
+returns c w q = rw (c .match .keys1) (ap (givenTo stateRoom q) (given-over w _))
 
 returns-2 : tie.Need-returns-2
-unfolding called
-returns-2 c = λ q. rw (c .before .match .keys2) (c .start-of .ensures q)
+unfolding requested
+returns-2 c w q = rw (c .before .match .keys2) (c .start-of .ensures w q)
 
 returns-3 : tie.Need-returns-3
-unfolding called
-returns-3 c = λ q. rw (c .before .match .keys3) (c .read-of .ensures q)
+unfolding requested
+returns-3 c w q = rw (c .before .match .keys3) (c .read-of .ensures w q)
 
 returns-4 : tie.Need-returns-4
-unfolding called
-returns-4 c = λ q. rw (c .before .match .keys4) (c .finish-of .ensures q)
+unfolding requested
+returns-4 c w q = rw (c .before .match .keys4) (c .finish-of .ensures w q)
 
 returns-5 : tie.Need-returns-5
-unfolding called
-returns-5 c = λ q.
+unfolding requested
+returns-5 c w q =
     rw (
       ne-eqb _ _ (c .match .rest .0 .0 .0 .1),
       ne-eqb _ _ (c .match .rest .0 .0 .1),

@@ -15,8 +15,8 @@ put-control-requires : tie.Need-put-control-requires
 put-control-requires c κs = search needs
 
 returns : tie.Need-returns
-returns c T L v =
-    phase-put T L _ _ v (rw (c .before .before .decide .ensures, c .before .before .before .control-at .ensures) at (c .put-control .ensures))
+returns c T L v x =
+    phase-put T L _ _ v x (rw (c .before .before .decide .ensures, c .before .before .before .control-at .ensures) at (c .put-control .ensures))
 
 pub advance-spec : {M : Type 1} → statement M
 advance-spec = tie.close (tie.spec control-at-requires decide-requires put-control-requires returns)

@@ -17,11 +17,11 @@ release-requires : tie.Need-release-requires
 release-requires c κs = search needs
 
 returns : tie.Need-returns
-returns c ahead right T =
+returns c ahead right T x =
     let p = c .before .before in
     let a = p .before .before .before .before .args in
-    finish-both ahead (a .t) (stateOf T _ (a .control .now) (a .values .now)) (a .v)
-    (cells-put T _ _ _ _ (rw (p .before .control-at .ensures) at (p .put-cell .ensures))) (c .release .ensures ahead right T _)
+    finish-both ahead (a .t) (stateOf T _ (a .control .now) (a .values .now) x) (a .v)
+    (cells-put T _ _ _ _ x (rw (p .before .control-at .ensures) at (p .put-cell .ensures))) (c .release .ensures ahead right T _ x)
 
 pub finish-spec : {M : Type 1} → statement M
 finish-spec =

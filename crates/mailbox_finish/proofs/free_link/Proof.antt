@@ -33,17 +33,17 @@ put-control-requires-2 : tie.Need-put-control-requires-2
 put-control-requires-2 c κs = search needs
 
 returns : tie.Need-returns
-returns c ahead n right l T L v =
+returns c ahead n right l T L v x =
     let f = c .before .before .before .before in
-    let x = f .before .before .before in
-    let b = x .before .before .before in
+    let p = f .before .before .before in
+    let b = p .before .before .before in
     let r = b .before in
     let a = r .before .before .args in
     let gone = flag-to (a .l) (a .t) right l in
-    freed-link ahead (a .t) (a .l) (stateOf T L (a .control .now) v)
-    (rw (r .control-at .ensures, b .goes-behind .ensures, x .before .control-at2 .ensures, gone) at (x .freed-at .ensures))
+    freed-link ahead (a .t) (a .l) (stateOf T L (a .control .now) v x)
+    (rw (r .control-at .ensures, b .goes-behind .ensures, p .before .control-at2 .ensures, gone) at (p .freed-at .ensures))
     (rw (r .control-at .ensures, b .goes-behind .ensures, f .before .control-at3 .ensures, gone) at (f .freed-at2 .ensures))
-    (pointer-put T L _ _ v (c .before .before .put-control .ensures)) (mark-put T L _ _ v (c .put-control2 .ensures))
+    (pointer-put T L _ _ v x (c .before .before .put-control .ensures)) (mark-put T L _ _ v x (c .put-control2 .ensures))
 
 pub free-link-spec : {M : Type 1} → statement M
 free-link-spec = tie.close (tie.spec control-at-requires goes-behind-requires control-at-requires-2 freed-at-requires control-at-requires-3 freed-at-requires-2 put-control-requires put-control-requires-2 returns)

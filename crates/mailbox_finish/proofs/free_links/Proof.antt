@@ -23,7 +23,7 @@ abbrev μ-loop : tie.MeasureT-loop
 μ-loop plan t links control₀ l₀ control l = links - l
 
 loop-holds : tie.Need-loop-holds Inv-loop μ-loop
-loop-holds c = (omega arith, λ ahead right T L n. freed-none ahead _ _)
+loop-holds c = (omega arith, λ ahead right T L v x. freed-none ahead _ _)
 
 free-link-requires : tie.Need-free-link-requires Inv-loop μ-loop
 free-link-requires c κs = search needs
@@ -37,13 +37,13 @@ loop-less c = omega arith
 loop-again : tie.Need-loop-again Inv-loop μ-loop
 loop-again c = (
   omega arith,
-  λ ahead right T L n.
-      let e = c .before .before .before .loop .inv .1 ahead right T L n in
-      freed-more ahead _ _ _ e (c .free-link .ensures ahead _ (plan-kept (ap (λ (q : Saved). q .writer) e) (ap (λ (q : Saved). q .reader) e) right) (omega arith) T L n),
+  λ ahead right T L v x.
+      let e = c .before .before .before .loop .inv .1 ahead right T L v x in
+      freed-more ahead _ _ _ e (c .free-link .ensures ahead _ (plan-kept (ap (λ (q : Saved). q .writer) e) (ap (λ (q : Saved). q .reader) e) right) (omega arith) T L v x),
 )
 
 returns : tie.Need-returns Inv-loop μ-loop
-returns c ahead right T L n = freed-end ahead _ _ _ _ (c .before .loop .inv .1 ahead right T L n) (c .before .loop .inv .0) (c .loop-test .left)
+returns c ahead right T L v x = freed-end ahead _ _ _ _ (c .before .loop .inv .1 ahead right T L v x) (c .before .loop .inv .0) (c .loop-test .left)
 
 pub free-links-spec : {M : Type 1} → statement M
 free-links-spec =

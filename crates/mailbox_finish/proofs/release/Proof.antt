@@ -16,11 +16,11 @@ advance-requires : tie.Need-advance-requires
 advance-requires c κs = search needs
 
 returns : tie.Need-returns
-returns c ahead right T v =
+returns c ahead right T v x =
     let f = c .before .before .before .before in
     let a = f .before .args in
     rw (← f .few .ensures)
-    (release-both ahead (a .t) (stateOf T (f .few .result) (a .control .now) v) (c .before .before .free-links .ensures ahead (rw (f .few .ensures) right) T _ v) (c .advance .ensures T _ v))
+    (release-both ahead (a .t) (stateOf T (f .few .result) (a .control .now) v x) (c .before .before .free-links .ensures ahead (rw (f .few .ensures) right) T _ v x) (c .advance .ensures T _ v x))
 
 pub release-spec : {M : Type 1} → statement M
 release-spec = tie.close (tie.spec few-requires free-links-requires advance-requires returns)

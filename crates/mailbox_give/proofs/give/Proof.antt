@@ -1,8 +1,7 @@
--- `mailbox_give::give` meets its contract: unsound, refused, or done.
+-- `mailbox_give::give` meets its contract: unsound or of the other policy, refused, or done.
 -- Assumes nothing.
 use mathlib.Core.Path.{refl}
-use Rattle.protocol_state.specs.Records.{earlier}
-use Rattle.mailbox_event.specs.Plain.{plain}
+use Rattle.mailbox_layout.specs.Layout.{aheadAmong}
 use Rattle.mailbox_give.proofs.Ways.{given-unsound, given-refused, given-done}
 use borrow.Author.Needs.{needs}
 use Rattle.mailbox_give.proofs.give.Statement.{statement}
@@ -14,27 +13,37 @@ plan-of-requires c κs = search needs
 is-sound-requires : tie.Need-is-sound-requires
 is-sound-requires c κs = search needs
 
+is-for-requires : tie.Need-is-for-requires
+is-for-requires c κs = search needs
+
 returns : tie.Need-returns
 returns c =
-    let s = c .before in
-    let p = s .before .before .before .before in
-    let a = p .before .before .args in (
-      given-unsound (a .tasks) (a .links) (a .control .now) (a .values .now) (plain (a .e)) (s .is-sound .ensures (p .plan-of .ensures)) (c .if1 .taken),
-      λ z. (refl, refl),
+    let f = c .before in
+    let s = f .before .before in
+    let p = s .before .before .before .before .before in
+    let a = p .before .before .before .args in (
+      given-unsound (a .tasks) (a .links) (a .control .now) (a .values .now) (a .times .now) (a .when) (a .e) (s .is-sound .ensures (p .plan-of .ensures)) (f .is-for .ensures) (c .if1 .taken),
+      λ z. (refl, (refl, refl)),
     )
+
+tick-for-requires : tie.Need-tick-for-requires
+tick-for-requires c κs = search needs
 
 judge-requires : tie.Need-judge-requires
 judge-requires c κs = search needs
 
 returns-2 : tie.Need-returns-2
 returns-2 c =
-    let t = c .before .before .before in
-    let s = t .before in
-    let p = s .before .before .before .before in
-    let a = p .before .before .args in (
-      given-refused (a .tasks) (a .links) (a .control .now) (a .values .now) (plain (a .e)) (s .is-sound .ensures (p .plan-of .ensures)) (t .if1 .left)
-          (c .before .judge .ensures (a .values .now)) (c .if2 .taken),
-      λ z. (refl, refl),
+    let j = c .before in
+    let k = j .before .before .before in
+    let t = k .before in
+    let f = t .before in
+    let s = f .before .before in
+    let p = s .before .before .before .before .before in
+    let a = p .before .before .before .args in (
+      given-refused (a .tasks) (a .links) (a .control .now) (a .values .now) (a .times .now) (a .when) (a .e) (s .is-sound .ensures (p .plan-of .ensures)) (f .is-for .ensures)
+          (t .if1 .left) (k .tick-for .ensures) (j .judge .ensures (a .values .now)) (c .if2 .taken),
+      λ z. (refl, (refl, refl)),
     )
 
 value-of-requires : tie.Need-value-of-requires
@@ -45,14 +54,18 @@ do-event-requires c κs = search needs
 
 returns-3 : tie.Need-returns-3
 returns-3 c =
-    let x = c .before .before .before .before in
-    let j = x .before .before .before in
-    let t = j .before .before .before in
-    let s = t .before in
-    let p = s .before .before .before .before in
-    let a = p .before .before .args in (
-      given-done (a .tasks) (a .links) (a .control .now) (a .values .now) (plain (a .e)) (s .is-sound .ensures (p .plan-of .ensures)) (t .if1 .left)
-          (j .before .judge .ensures (a .values .now)) _ _ (j .if2 .left) (x .value-of .ensures (a .tasks) (a .links)) (c .do-event .ensures earlier (p .plan-of .ensures)),
+    let n = c .before .before .before .before .before in
+    let i = n .before .before .before in
+    let j = i .before in
+    let k = j .before .before .before in
+    let t = k .before in
+    let f = t .before in
+    let s = f .before .before in
+    let p = s .before .before .before .before .before in
+    let a = p .before .before .before .args in (
+      given-done (a .tasks) (a .links) (a .control .now) (a .values .now) (a .times .now) (a .when) (a .e) (s .is-sound .ensures (p .plan-of .ensures)) (f .is-for .ensures)
+          (t .if1 .left) (k .tick-for .ensures) (j .judge .ensures (a .values .now)) _ _ _ (i .if2 .left) (n .value-of .ensures (a .tasks) (a .links) (a .times .now))
+          (c .do-event .ensures (aheadAmong (a .times .now)) (p .plan-of .ensures)),
       λ z. absurd (z refl),
     )
 
@@ -62,7 +75,9 @@ give-spec =
     (tie.spec
     plan-of-requires
     is-sound-requires
+    is-for-requires
     returns
+    tick-for-requires
     judge-requires
     returns-2
     value-of-requires

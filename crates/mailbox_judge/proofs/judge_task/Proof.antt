@@ -1,4 +1,4 @@
--- `mailbox_judge::judge_task` meets its contract: outside the table, and inside it, where the tasks before `t` are those ahead of it.
+-- `mailbox_judge::judge_task` meets its contract: outside the table, and inside it, by its phase and by whether it has to wait.
 -- Assumes nothing.
 use Rattle.mailbox_judge.proofs.Judged.{judged-outside, judged-inside}
 use borrow.Author.Needs.{needs}
@@ -9,7 +9,7 @@ few-requires : tie.Need-few-requires
 few-requires c κs = search needs
 
 returns : tie.Need-returns
-returns c = rw (← c .before .few .ensures) (judged-outside _ _ _ _ (c .if1 .taken))
+returns c T L v = rw (← c .before .few .ensures) (judged-outside _ _ _ _ _ (c .if1 .taken))
 
 control-at-requires : tie.Need-control-at-requires
 control-at-requires c κs = search needs
@@ -17,11 +17,8 @@ control-at-requires c κs = search needs
 decide-requires : tie.Need-decide-requires
 decide-requires c κs = search needs
 
-phases-in-requires : tie.Need-phases-in-requires
-phases-in-requires c κs = search needs
-
-some-before-requires : tie.Need-some-before-requires
-some-before-requires c κs = search needs
+must-wait-requires : tie.Need-must-wait-requires
+must-wait-requires c κs = search needs
 
 pick-requires : tie.Need-pick-requires
 pick-requires c κs = search needs
@@ -30,14 +27,13 @@ pick-requires-2 : tie.Need-pick-requires-2
 pick-requires-2 c κs = search needs
 
 returns-2 : tie.Need-returns-2
-returns-2 c =
-    let ahead = c .before .before in
-    let phases = ahead .before in
-    let decision = phases .before in
+returns-2 c T L v =
+    let wait = c .before .before in
+    let decision = wait .before in
     let phase = decision .before in
     rw (← phase .before .before .few .ensures)
-    (judged-inside _ _ _ _ (phase .before .if1 .left) (rw (phase .control-at .ensures) at (decision .decide .ensures))
-    (rw (phases .phases-in .ensures) at (ahead .some-before .ensures)) (c .before .pick .ensures) (c .pick2 .ensures))
+    (judged-inside _ _ _ _ _ (phase .before .if1 .left) (rw (phase .control-at .ensures) at (decision .decide .ensures)) (wait .must-wait .ensures T L v)
+    (c .before .pick .ensures) (c .pick2 .ensures))
 
 pub judge-task-spec : {M : Type 1} → statement M
 judge-task-spec =
@@ -47,8 +43,7 @@ judge-task-spec =
     returns
     control-at-requires
     decide-requires
-    phases-in-requires
-    some-before-requires
+    must-wait-requires
     pick-requires
     pick-requires-2
     returns-2)

@@ -1,54 +1,24 @@
--- `mailbox_parts::do_event` meets its contract: what the doing of its kind ensures.
+-- `mailbox_parts::do_event` meets its contract: the event, then its tick.
 -- Assumes nothing.
+use mathlib.Core.Path.{_∙_, ap}
+use Rattle.protocol_state.specs.Saved.{Saved}
+use Rattle.protocol_state.specs.Next.{clocked}
+use Rattle.mailbox_event.specs.Plain.{plain}
 use borrow.Author.Needs.{needs}
 use Rattle.mailbox_parts.proofs.do_event.Statement.{statement}
 use Rattle.mailbox_parts.proofs.do_event.Tie as tie
 
-enum-known-e : tie.Need-enum-known-e
-enum-known-e c = search needs
+do-plainly-requires : tie.Need-do-plainly-requires
+do-plainly-requires c κs = search needs
 
-arrive-requires : tie.Need-arrive-requires
-arrive-requires c κs = search needs
-
-enum-known-e-2 : tie.Need-enum-known-e-2
-enum-known-e-2 c = search needs
-
-advance-requires : tie.Need-advance-requires
-advance-requires c κs = search needs
-
-enum-told : tie.Need-enum-told
-enum-told c = search needs
-
-enum-known-e-3 : tie.Need-enum-known-e-3
-enum-known-e-3 c = search needs
-
-finish-requires : tie.Need-finish-requires
-finish-requires c κs = search needs
+clock-requires : tie.Need-clock-requires
+clock-requires c κs = search needs
 
 returns : tie.Need-returns
-returns c ahead right = rw (c .before .before .before .e .given .1) (c .arrive .ensures ahead right _)
-
-returns-2 : tie.Need-returns-2
-returns-2 c ahead right = rw (c .before .before .before .e2 .given .1) (c .advance .ensures _ _ _)
-
-returns-3 : tie.Need-returns-3
-returns-3 c ahead right = rw (c .enum-told .given .1)
-
-returns-4 : tie.Need-returns-4
-returns-4 c ahead right = rw (c .before .before .before .before .e3 .given .1) (c .finish .ensures ahead right _)
+returns c ahead right =
+    let d = c .before .before in
+    let a = d .before .before .before .args in
+    c .clock .ensures _ _ _ ∙ ap (clocked (a .tick) (plain (a .e))) (d .do-plainly .ensures ahead right (a .times .now))
 
 pub do-event-spec : {M : Type 1} → statement M
-do-event-spec =
-    tie.close
-    (tie.spec
-    enum-known-e
-    arrive-requires
-    enum-known-e-2
-    advance-requires
-    enum-told
-    enum-known-e-3
-    finish-requires
-    returns
-    returns-2
-    returns-3
-    returns-4)
+do-event-spec = tie.close (tie.spec do-plainly-requires clock-requires returns)

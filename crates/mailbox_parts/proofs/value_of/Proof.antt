@@ -20,16 +20,16 @@ enum-told-3 : tie.Need-enum-told-3
 enum-told-3 c = search needs
 
 returns : tie.Need-returns
-returns c T L = search needs
+returns c T L x = search needs
 
 returns-2 : tie.Need-returns-2
-returns-2 c T L = search needs
+returns-2 c T L x = search needs
 
 returns-3 : tie.Need-returns-3
-returns-3 c T L = rw (c .before .before .e .given .1) (c .number-of .ensures)
+returns-3 c T L x = rw (c .before .before .e .given .1) (c .number-of .ensures)
 
 returns-4 : tie.Need-returns-4
-returns-4 c T L = search needs
+returns-4 c T L x = search needs
 
 pub value-of-spec : {M : Type 1} → statement M
 value-of-spec =

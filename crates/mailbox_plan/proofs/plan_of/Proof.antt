@@ -5,20 +5,19 @@ use Prim.Native.Nat.{_≤_, _-_}
 use native.Mathlib.Omega.{arith}
 use lib.ListN.{length, length-set}
 use borrow.Author.Needs.{needs}
-use Rattle.protocol_state.specs.Records.{earlier}
 use Rattle.protocol_state.specs.Saved.{at}
-use Rattle.mailbox_layout.specs.Layout.{writerIn, readerIn}
+use Rattle.mailbox_layout.specs.Layout.{writerIn, readerIn, aheadAmong}
 use Rattle.mailbox_plan.specs.Plan.{planSize, Planned}
 use Rattle.mailbox_plan.proofs.Plans.{plan-none, plan-first, plan-more}
 use Rattle.mailbox_plan.proofs.plan_of.Statement.{statement}
 use Rattle.mailbox_plan.proofs.plan_of.Tie as tie
 
 abbrev Inv-loop : tie.InvT-loop
-Inv-loop links control n plan₀ l₀ plan l =
-    (l ≤ n) × (length plan ≡ planSize) × Planned earlier (at (writerIn control)) (at (readerIn control)) l plan
+Inv-loop links control times n plan₀ l₀ plan l =
+    (l ≤ n) × (length plan ≡ planSize) × Planned (aheadAmong times) (at (writerIn control)) (at (readerIn control)) l plan
 
 abbrev μ-loop : tie.MeasureT-loop
-μ-loop links control n plan₀ l₀ plan l = n - l
+μ-loop links control times n plan₀ l₀ plan l = n - l
 
 few-requires : tie.Need-few-requires Inv-loop μ-loop
 few-requires c κs = search needs
@@ -34,6 +33,12 @@ control-at-requires c κs = search needs
 
 control-at-requires-2 : tie.Need-control-at-requires-2 Inv-loop μ-loop
 control-at-requires-2 c κs = search needs
+
+cast-is-ahead : tie.Need-cast-is-ahead Inv-loop μ-loop
+cast-is-ahead c = search needs
+
+cast-is-ahead-2 : tie.Need-cast-is-ahead-2 Inv-loop μ-loop
+cast-is-ahead-2 c = search needs
 
 is-ahead-requires : tie.Need-is-ahead-requires Inv-loop μ-loop
 is-ahead-requires c κs = search needs
@@ -70,6 +75,8 @@ plan-of-spec =
     loop-holds
     control-at-requires
     control-at-requires-2
+    cast-is-ahead
+    cast-is-ahead-2
     is-ahead-requires
     put-flag-requires
     add-l

@@ -17,13 +17,13 @@ use Rattle.mailbox_sound.proofs.links_stand.Tie as tie
 
 abbrev Inv-loop : tie.InvT-loop
 Inv-loop plan links control ok₀ l₀ ok l =
-    (l ≤ links) × ((ahead : ℕ → ℕ → Bool) → Planned ahead (at (writerIn control)) (at (readerIn control)) links plan → (T : ℕ) (v : List ℕ) → ok ≡ every (linkStands ahead (stateOf T links control v)) l)
+    (l ≤ links) × ((ahead : ℕ → ℕ → Bool) → Planned ahead (at (writerIn control)) (at (readerIn control)) links plan → (T : ℕ) (v x : List ℕ) → ok ≡ every (linkStands ahead (stateOf T links control v x)) l)
 
 abbrev μ-loop : tie.MeasureT-loop
 μ-loop plan links control ok₀ l₀ ok l = links - l
 
 loop-holds : tie.Need-loop-holds Inv-loop μ-loop
-loop-holds c = (omega arith, λ ahead p T v. every-none _)
+loop-holds c = (omega arith, λ ahead p T v x. every-none _)
 
 link-stands-requires : tie.Need-link-stands-requires Inv-loop μ-loop
 link-stands-requires c κs = search needs
@@ -38,11 +38,11 @@ loop-again : tie.Need-loop-again Inv-loop μ-loop
 loop-again c =
     let a = c .before .before .before .args in (
       omega arith,
-      λ ahead p T v. every-more (linkStands ahead (stateOf T (a .links) (a .control .now) v)) _ (c .link-stands .ensures ahead p T v) (c .before .before .loop .inv .1 ahead p T v),
+      λ ahead p T v x. every-more (linkStands ahead (stateOf T (a .links) (a .control .now) v x)) _ (c .link-stands .ensures ahead p T v x) (c .before .before .loop .inv .1 ahead p T v x),
     )
 
 returns : tie.Need-returns Inv-loop μ-loop
-returns c ahead p T v = every-end _ _ _ (c .before .loop .inv .1 ahead p T v) (c .before .loop .inv .0) (c .loop-test .left)
+returns c ahead p T v x = every-end _ _ _ (c .before .loop .inv .1 ahead p T v x) (c .before .loop .inv .0) (c .loop-test .left)
 
 pub links-stand-spec : {M : Type 1} → statement M
 links-stand-spec =

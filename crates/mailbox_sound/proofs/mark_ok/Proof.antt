@@ -26,7 +26,7 @@ mark-is-requires : tie.Need-mark-is-requires
 mark-is-requires c κs = search needs
 
 returns : tie.Need-returns
-returns c T L v =
+returns c T L v x =
     rw (
       c .mark-is .ensures,
       c .before .control-at5 .ensures,

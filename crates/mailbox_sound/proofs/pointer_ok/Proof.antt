@@ -35,7 +35,7 @@ pointer-is-requires : tie.Need-pointer-is-requires
 pointer-is-requires c κs = search needs
 
 returns : tie.Need-returns
-returns c ahead plan T v =
+returns c ahead plan T v x =
     let n = c .before .before .before in
     let pre = n .before .before .before .before .pre in
     rw (

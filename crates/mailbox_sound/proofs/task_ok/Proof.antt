@@ -21,7 +21,7 @@ task-is-requires : tie.Need-task-is-requires
 task-is-requires c κs = search needs
 
 returns : tie.Need-returns
-returns c ahead plan T v =
+returns c ahead plan T v x =
     let n = c .before .before .before .before in
     rw (
       c .task-is .ensures,

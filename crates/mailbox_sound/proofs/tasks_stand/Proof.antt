@@ -16,11 +16,11 @@ use Rattle.mailbox_sound.proofs.tasks_stand.Statement.{statement}
 use Rattle.mailbox_sound.proofs.tasks_stand.Tie as tie
 
 abbrev Inv-loop : tie.InvT-loop
-Inv-loop plan tasks links control ok₀ t₀ ok t =
-    (t ≤ tasks) × ((ahead : ℕ → ℕ → Bool) → Planned ahead (at (writerIn control)) (at (readerIn control)) links plan → (T : ℕ) (v : List ℕ) → ok ≡ every (taskStands ahead (stateOf T links control v)) t)
+Inv-loop plan tasks links control times ok₀ t₀ ok t =
+    (t ≤ tasks) × ((ahead : ℕ → ℕ → Bool) → Planned ahead (at (writerIn control)) (at (readerIn control)) links plan → (T : ℕ) (v : List ℕ) → ok ≡ every (taskStands ahead (stateOf T links control v times)) t)
 
 abbrev μ-loop : tie.MeasureT-loop
-μ-loop plan tasks links control ok₀ t₀ ok t = tasks - t
+μ-loop plan tasks links control times ok₀ t₀ ok t = tasks - t
 
 loop-holds : tie.Need-loop-holds Inv-loop μ-loop
 loop-holds c = (omega arith, λ ahead p T v. every-none _)
@@ -38,7 +38,7 @@ loop-again : tie.Need-loop-again Inv-loop μ-loop
 loop-again c =
     let a = c .before .before .before .args in (
       omega arith,
-      λ ahead p T v. every-more (taskStands ahead (stateOf T (a .links) (a .control .now) v)) _ (c .task-stands .ensures ahead p T v) (c .before .before .loop .inv .1 ahead p T v),
+      λ ahead p T v. every-more (taskStands ahead (stateOf T (a .links) (a .control .now) v (a .times .now))) _ (c .task-stands .ensures ahead p T v) (c .before .before .loop .inv .1 ahead p T v),
     )
 
 returns : tie.Need-returns Inv-loop μ-loop

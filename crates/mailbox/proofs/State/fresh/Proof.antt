@@ -1,10 +1,14 @@
--- `mailbox::State::fresh` meets its contract: each way out is one law on tables.
+-- `mailbox::State::fresh` meets its contract: the arrays hold the table, and what they make is what the table makes.
 -- Assumes nothing.
-use Rattle.mailbox.proofs.Makes.{made-refused, made-fresh, makes-sound}
+use mathlib.Core.Path.{_∙_}
+use mathlib.Core.List.{[]}
 use Prim.Native.Nat.{min}
+use borrow.Author.Needs.{needs}
 use Rattle.protocol_state.specs.Records.{firstTasks}
 use Rattle.protocol_state.specs.Saved.{stateRoom}
-use borrow.Author.Needs.{needs}
+use Rattle.protocol_state.proofs.Freshes.{plain-policed}
+use Rattle.mailbox.proofs.Filling.{no-dates}
+use Rattle.mailbox.proofs.Makes.{made-from, makes-sound}
 use Rattle.mailbox.proofs.State.fresh.Statement.{statement}
 use Rattle.mailbox.proofs.State.fresh.Tie as tie
 
@@ -17,41 +21,22 @@ values-of-requires c κs = search needs
 put-links-requires : tie.Need-put-links-requires
 put-links-requires c κs = search needs
 
-plan-of-requires : tie.Need-plan-of-requires
-plan-of-requires c κs = search needs
+fresh-times-requires : tie.Need-fresh-times-requires
+fresh-times-requires c κs = search needs
 
-judge-table-requires : tie.Need-judge-table-requires
-judge-table-requires c κs = search needs
-
-single-requires : tie.Need-single-requires
-single-requires c κs = search needs
+judged-requires : tie.Need-judged-requires
+judged-requires c κs = search needs
 
 returns : tie.Need-returns
 returns c =
-    let j = c .before .before in
-    let m = j .before .before .before .before in
-    let p = m .before .before in
+    let x = c .before in
+    let p = x .before in
     let o = p .before .before .before .before .before .before .before in
     let a = o .before .before .before .args in
     let h = p .put-links .ensures .0 (o .before .before .fresh-control .ensures) in
-    let v = p .put-links .ensures .1 (firstTasks (min (a .tasks) (stateRoom .tasks)) (a .t3)) (o .values-of .ensures) in
-    let e = made-refused (a .tasks) (a .links) (a .t3) (a .t4) (a .t5) (a .t6) (a .t7) _ _ h v (j .judge-table .ensures .0 (m .plan-of .ensures)) (c .single .result) (c .before .if1 .taken) (c .single .ensures .0) in
-    (record { answer = e; whole = c .single .ensures .1 }, makes-sound (a .tasks) (a .links) (a .t3) (a .t4) (a .t5) (a .t6) (a .t7) _ e)
-
-itself-requires : tie.Need-itself-requires
-itself-requires c κs = search needs
-
-returns-2 : tie.Need-returns-2
-returns-2 c =
-    let j = c .before .before in
-    let m = j .before .before .before .before in
-    let p = m .before .before in
-    let o = p .before .before .before .before .before .before .before in
-    let a = o .before .before .before .args in
-    let h = p .put-links .ensures .0 (o .before .before .fresh-control .ensures) in
-    let v = p .put-links .ensures .1 (firstTasks (min (a .tasks) (stateRoom .tasks)) (a .t3)) (o .values-of .ensures) in
-    let e = made-fresh (a .tasks) (a .links) (a .t3) (a .t4) (a .t5) (a .t6) (a .t7) _ _ h v (j .judge-table .ensures .0 (m .plan-of .ensures)) (c .itself .result) (c .itself .ensures .0) (c .before .if1 .left) in
-    (record { answer = e; whole = c .itself .ensures .1 }, makes-sound (a .tasks) (a .links) (a .t3) (a .t4) (a .t5) (a .t6) (a .t7) _ e)
+    let v = p .put-links .ensures .1 (firstTasks (min (a .tasks) (stateRoom .tasks)) (a .t3) []) (o .values-of .ensures []) in
+    let e = c .judged .ensures .0 ∙ made-from 0 (a .tasks) (a .links) (a .t3) [] (a .t4) (a .t5) (a .t6) (a .t7) _ _ _ h v (x .fresh-times .ensures ∙ no-dates 0 (a .t3) (min (a .tasks) (stateRoom .tasks))) in
+    (record { answer = e; whole = c .judged .ensures .1 }, makes-sound 0 (a .tasks) (a .links) (a .t3) [] (a .t4) (a .t5) (a .t6) (a .t7) (plain-policed (a .tasks) (a .t3)) _ e)
 
 pub fresh-spec : {M : Type 1} → statement M
-fresh-spec = tie.close (tie.spec fresh-control-requires values-of-requires put-links-requires plan-of-requires judge-table-requires single-requires returns itself-requires returns-2)
+fresh-spec = tie.close (tie.spec fresh-control-requires values-of-requires put-links-requires fresh-times-requires judged-requires returns)

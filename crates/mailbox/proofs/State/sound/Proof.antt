@@ -11,7 +11,7 @@ is-sound-requires : tie.Need-is-sound-requires
 is-sound-requires c κs = search needs
 
 returns : tie.Need-returns
-returns c = c .is-sound .ensures (c .before .before .before .before .plan-of .ensures)
+returns c = c .is-sound .ensures (c .before .before .before .before .before .plan-of .ensures)
 
 pub sound-spec : {M : Type 1} → statement M
 sound-spec = tie.close (tie.spec plan-of-requires is-sound-requires returns)

@@ -1,7 +1,7 @@
 -- `mailbox_rules::table::fault_after` meets its contract: what the calls ensure, put together.
 -- Assumes nothing.
 use borrow.Author.Needs.{needs}
-use Rattle.protocol_state.specs.Records.{earlier}
+use Rattle.mailbox_layout.specs.Layout.{aheadAmong}
 use Rattle.mailbox_rules.proofs.table.fault_after.Statement.{statement}
 use Rattle.mailbox_rules.proofs.table.fault_after.Tie as tie
 
@@ -14,8 +14,20 @@ cast-readers-behind c = search needs
 readers-behind-requires : tie.Need-readers-behind-requires
 readers-behind-requires c κs = search needs
 
+cast-is-ahead : tie.Need-cast-is-ahead
+cast-is-ahead c = search needs
+
+cast-is-ahead-2 : tie.Need-cast-is-ahead-2
+cast-is-ahead-2 c = search needs
+
 is-ahead-requires : tie.Need-is-ahead-requires
 is-ahead-requires c κs = search needs
+
+cast-is-ahead-3 : tie.Need-cast-is-ahead-3
+cast-is-ahead-3 c = search needs
+
+cast-is-ahead-4 : tie.Need-cast-is-ahead-4
+cast-is-ahead-4 c = search needs
 
 is-ahead-requires-2 : tie.Need-is-ahead-requires-2
 is-ahead-requires-2 c κs = search needs
@@ -26,12 +38,13 @@ fault-of-requires c κs = search needs
 returns : tie.Need-returns
 returns c plan b =
     let n = c .before .before .before in
+    let ahead = aheadAmong (n .before .before .args .times .now) in
     rw (
-      c .fault-of .ensures earlier (c .before .before .is-ahead .ensures) (c .before .is-ahead2 .ensures),
-      n .readers-behind .ensures .0 earlier plan,
+      c .fault-of .ensures ahead (c .before .before .is-ahead .ensures) (c .before .is-ahead2 .ensures),
+      n .readers-behind .ensures .0 ahead plan,
       n .before .has-pair .ensures,
     )
 
 pub fault-after-spec : {M : Type 1} → statement M
 fault-after-spec =
-    tie.close (tie.spec has-pair-requires cast-readers-behind readers-behind-requires is-ahead-requires is-ahead-requires-2 fault-of-requires returns)
+    tie.close (tie.spec has-pair-requires cast-readers-behind readers-behind-requires cast-is-ahead cast-is-ahead-2 is-ahead-requires cast-is-ahead-3 cast-is-ahead-4 is-ahead-requires-2 fault-of-requires returns)

@@ -3,12 +3,11 @@
 use mathlib.Core.Path.{_≡_, refl}
 use Prim.Native.Nat.{_≤_, _-_}
 use native.Mathlib.Omega.{arith}
-use Rattle.mailbox_layout.specs.Layout.{writerIn, readerIn, linkHeld}
+use Rattle.mailbox_layout.specs.Layout.{writerIn, readerIn, linkHeld, aheadAmong}
 use borrow.Author.Needs.{needs}
 use Rattle.lists.specs.Lists.{leading}
 use Rattle.lists.proofs.Lists.{leading-none, leading-more, leading-end}
 use Rattle.protocol_state.specs.Rules.{fault}
-use Rattle.protocol_state.specs.Records.{earlier}
 use Rattle.protocol_state.specs.Saved.{at}
 use Rattle.mailbox_plan.specs.Plan.{Planned}
 use Rattle.mailbox_plan.proofs.Plans.{plan-first}
@@ -16,12 +15,12 @@ use Rattle.mailbox_rules.proofs.table.first_fault.Statement.{statement}
 use Rattle.mailbox_rules.proofs.table.first_fault.Tie as tie
 
 abbrev Inv-loop : tie.InvT-loop
-Inv-loop plan tasks links control values found₀ l₀ found l =
+Inv-loop plan tasks links control values times found₀ l₀ found l =
     (l ≤ links)
-    × (Planned earlier (at (writerIn control)) (at (readerIn control)) links plan → found ≡ leading (fault earlier tasks (linkHeld control values)) l)
+    × (Planned (aheadAmong times) (at (writerIn control)) (at (readerIn control)) links plan → found ≡ leading (fault (aheadAmong times) tasks (linkHeld control values)) l)
 
 abbrev μ-loop : tie.MeasureT-loop
-μ-loop plan tasks links control values found₀ l₀ found l = links - l
+μ-loop plan tasks links control values times found₀ l₀ found l = links - l
 
 loop-holds : tie.Need-loop-holds Inv-loop μ-loop
 loop-holds c = (omega arith, λ p. leading-none _)
@@ -39,7 +38,7 @@ loop-again : tie.Need-loop-again Inv-loop μ-loop
 loop-again c =
     let a = c .before .before .before .args in (
       omega arith,
-      λ p. leading-more (fault earlier (a .tasks) (linkHeld (a .control .now) (a .values .now))) _ refl
+      λ p. leading-more (fault (aheadAmong (a .times .now)) (a .tasks) (linkHeld (a .control .now) (a .values .now))) _ refl
           (c .before .before .loop .inv .1 p) (c .fault-or .ensures (plan-first (omega arith) p)),
     )
 

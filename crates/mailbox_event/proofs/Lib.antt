@@ -1,0 +1,2 @@
+-- Laws that the proofs above cite.
+pub mod Handed
