@@ -9,7 +9,7 @@ use denote.Ref.{now}
 use denote.Triple.Clauses.{AtExit}
 use borrow.Fn.Kinds.{Dens, resT, endedOf}
 use Rattle.protocol_state.specs.Saved.{stateRoom}
-use Rattle.recording_format.specs.RecordingKind.{kindIn, wideIn}
+use Rattle.recording_format.specs.RecordingKind.{kindIn, whichIn}
 use Rattle.recording_format.proofs.Outcomes.{place-within}
 use Rattle.recording_core.specs.Playing.{coreOf}
 use Rattle.recording.proofs.rest.Kinds.{ps, r}
@@ -23,9 +23,9 @@ use Rattle.recording_demands.proofs.Demands.{answered, accepted-only, a
 pub unread : {s out list rest : List ℕ} {a : Answer} → Replays s out a list → rest ≡ drop (a .place) s → Unread s (a .refusal) (a .place) rest
 unread {s} {out} {list} {rest} {a} said e = record {
   part = e;
-  within = place-within (kindIn s) (coreOf stateRoom out) s (answered said);
+  within = place-within (kindIn s) (coreOf stateRoom (kindIn s .policy) out) s (answered said);
   whole = rw e (sym (take-append-drop (a .place) s));
-  none = λ z. let g = accepted-only said z in e ∙ accepted-rest said (wideIn s) (g .1 .1 .1);
+  none = λ z. let g = accepted-only said z in e ∙ accepted-rest said (whichIn s) (g .1 .1 .1);
 }
 
 -- so is what a caller of `recording::rest` gets: `given` are the bytes that are lent and the place, `part` is what comes back

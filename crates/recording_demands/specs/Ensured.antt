@@ -14,6 +14,6 @@ use Rattle.recording.specs.declared.Answer.{Answer}
 
 -- the three clauses of `recording::replay`, for the bytes s, whose first one says the kind, and the lent list out: it answers a and leaves list
 pub record Replays (s out : List ℕ) (a : Answer) (list : List ℕ) : Type 0 where
-  pub answer : replied a list ≡ recording (kindIn s) (coreOf stateRoom out) s
+  pub answer : replied a list ≡ recording (kindIn s) (coreOf stateRoom (kindIn s .policy) out) s
   pub whole : IsWhole (a .state)
   pub bytes : Bytes s
