@@ -8,7 +8,7 @@ use lib.ListN.{length, take, drop}
 use lib.Seq.{take-append-seam}
 use Rattle.recording_write.specs.Answers.{replyTo, bufferTo}
 use Rattle.recording_text.specs.declared.Read.{Read}
-use Rattle.recording_text.specs.Text.{readOf, over, kindSaid, defaultsOf, linksOf, eventsOf}
+use Rattle.recording_text.specs.Text.{readOf, over, kindSaid, tasksOf, linksOf, eventsOf}
 use Rattle.recording_make.specs.declared.Made.{Made}
 use Rattle.recording_make.specs.Made.{unread, makeReply, madeOf, bufferOf}
 
@@ -20,9 +20,9 @@ over-taken ns old e f = rw (e, f) (take-append-seam ns (drop (length ns) old))
 module _ (text : List ℕ) (r : Read) (e : r ≡ readOf text) where
   -- so are those that are stored of a text, as the answer counts them
   module _ (old : List ℕ) {out : List ℕ} where
-    pub tasks-taken : out ≡ over (defaultsOf text) old → take (r .tasks) out ≡ defaultsOf text
+    pub tasks-taken : out ≡ over (tasksOf text) old → take (r .tasks) out ≡ tasksOf text
     unfolding readOf
-    tasks-taken = over-taken (defaultsOf text) old (ap (λ (x : Read). x .tasks) e)
+    tasks-taken = over-taken (tasksOf text) old (ap (λ (x : Read). x .tasks) e)
 
     pub links-taken : out ≡ over (linksOf text) old → take (r .links) out ≡ linksOf text
     unfolding readOf
@@ -48,7 +48,7 @@ module _ (text : List ℕ) (r : Read) (e : r ≡ readOf text) where
   kind-is = ap (λ (x : Read). x .kind) e
 
   -- a text that can be read, whose kind is told and whose numbers are lent to the writer
-  module _ (z : r .fault ≡ 0) {ds ls es : List ℕ} (d : ds ≡ defaultsOf text) (l : ls ≡ linksOf text) (v : es ≡ eventsOf text) where
+  module _ (z : r .fault ≡ 0) {ds ls es : List ℕ} (d : ds ≡ tasksOf text) (l : ls ≡ linksOf text) (v : es ≡ eventsOf text) where
     pub made-written : (room : ℕ) {x : Made} → x ≡ makeReply (r .kind) text (replyTo (r .kind) ds ls es room) → x ≡ madeOf text room
     unfolding madeOf
     made-written room h = h ∙ rw (← e, eq-eqb (r .fault) 0 z, kind-is, d, l, v)

@@ -3,21 +3,21 @@
 use mathlib.Core.Path.{_≡_, refl, sym, ap, _∙_}
 use mathlib.Core.Bool.{Bool, true, false, cond, true≢false, or-true, or-false}
 use mathlib.Core.List.{List, [], _∷_, _++_, append-nil}
-use Prim.Native.Nat.{ℕ, zero, suc, _<_}
+use Prim.Native.Nat.{ℕ, _<_}
 use native.Mathlib.Omega.{arith}
 use borrow.Author.Tests.{ltb-true, eqb-true, eqb-false, ne-eqb}
 use lib.Dec.{eqb}
 use lib.ListN.{length, take, getD}
-use lib.Seq.{getD-take}
 use Rattle.lists.proofs.Bools.{else-zero}
 use Rattle.recording_text_line.specs.declared.Said.{Said}
 use Rattle.recording_text.specs.declared.KnownKind.{KnownKind}
-use Rattle.recording_text_line.specs.Line.{Says, says, saidOf, sort, Padded}
+use Rattle.recording_text_line.specs.Line.{Says, saidOf, sort, isDated, datedAfter, Padded}
 use Rattle.recording_text.specs.Text.{inPlace, faultIn, knownAfter, readable, textFault, recordsOf, joined, stored, noKind, kindAfter}
+use Rattle.recording_text_line.proofs.Letters.{first-number}
 use Rattle.recording_text.proofs.Stores.{records-more}
 
 -- a line without a fault stands where it may
-stands : (known : Bool) (s : Says) → faultIn known s ≡ 0 → inPlace known (sort (s .letter)) ≡ true
+pub stands : (known : Bool) (s : Says) → faultIn known s ≡ 0 → inPlace known (sort (s .letter)) ≡ true
 unfolding faultIn
 stands known s z = go (eqb (s .fault) 0) refl z
   where
@@ -30,13 +30,8 @@ first-only : (known : Bool) (s : Says) → faultIn known s ≡ 0 → sort (s .le
 first-only false s z k = refl
 first-only true s z k = let p : inPlace true 4 ≡ true = rw k at (stands true s z) in absurd (true≢false (sym p))
 
--- the first of the numbers, whether there is one or not
-first-number : {letter : ℕ} (size : ℕ) (ns : List ℕ) → Padded letter size ns → getD (take size ns) 0 0 ≡ getD ns 0 0
-first-number zero ns p = sym (ap (λ (l : List ℕ). getD l 0 0) (p .rest))
-first-number (suc n) ns p = getD-take (suc n) ns 0 0 (omega arith)
-
 -- what is known of the kind after these lines is what they say of it
-pub record Told (done : List (List ℕ)) (kind : KnownKind) : Type 0 where
+pub record Told (done : List Says) (kind : KnownKind) : Type 0 where
   pub none : kind .known ≡ false → recordsOf 4 done ≡ []
   pub number : kind .number ≡ getD (stored 4 1 done) 0 0
 
@@ -45,92 +40,96 @@ unfolding recordsOf joined stored
 told-none e = rw e (record { none = λ q. refl; number = refl })
 
 -- a line more
-module _ {done : List (List ℕ)} {kind : KnownKind} (told : Told done kind) (l : List ℕ) (said : Said) (q : saidOf said ≡ says l) (padded : Padded (said .letter) (said .size) (said .numbers)) (z : faultIn (kind .known) (says l) ≡ 0) {next : KnownKind} (e : next ≡ kindAfter kind said) where
-  here : eqb (sort (said .letter)) 4 ≡ eqb (sort (says l .letter)) 4
-  here = ap (λ (s : Says). eqb (sort (s .letter)) 4) q
-
-  pub known-more : next .known ≡ knownAfter (kind .known) (says l)
+module _ {done : List Says} {kind : KnownKind} (told : Told done kind) (said : Said) (padded : Padded (said .letter) (said .size) (said .numbers)) (z : faultIn (kind .known) (saidOf said) ≡ 0) {next : KnownKind} (e : next ≡ kindAfter kind said) where
+  pub known-more : next .known ≡ knownAfter (kind .known) (saidOf said)
   known-more = go (eqb (sort (said .letter)) 4) refl
     where
-      go : (b : Bool) → eqb (sort (said .letter)) 4 ≡ b → next .known ≡ knownAfter (kind .known) (says l)
-      go true t = rw (e, ← here, t, or-true (kind .known))
-      go false t = rw (e, ← here, t, or-false (kind .known))
+      go : (b : Bool) → eqb (sort (said .letter)) 4 ≡ b → next .known ≡ knownAfter (kind .known) (saidOf said)
+      go true t = rw (e, t, or-true (kind .known))
+      go false t = rw (e, t, or-false (kind .known))
 
-  pub told-more : Told (done ++ (l ∷ [])) next
+  pub dated-more : isDated (next .number) ≡ datedAfter (isDated (kind .number)) (saidOf said)
+  dated-more = go (eqb (sort (said .letter)) 4) refl
+    where
+      go : (b : Bool) → eqb (sort (said .letter)) 4 ≡ b → isDated (next .number) ≡ datedAfter (isDated (kind .number)) (saidOf said)
+      go true t = rw (e, t, first-number (said .size) (said .numbers) padded)
+      go false t = rw (e, t)
+
+  pub told-more : Told (done ++ (saidOf said ∷ [])) next
   unfolding joined stored
   told-more = go (eqb (sort (said .letter)) 4) refl
     where
-      go : (b : Bool) → eqb (sort (said .letter)) 4 ≡ b → Told (done ++ (l ∷ [])) next
+      go : (b : Bool) → eqb (sort (said .letter)) 4 ≡ b → Told (done ++ (saidOf said ∷ [])) next
       go true t =
-          let k : sort (says l .letter) ≡ 4 = eqb-true (sort (says l .letter)) 4 (sym here ∙ t) in
-          let r : recordsOf 4 (done ++ (l ∷ [])) ≡ says l .numbers ∷ [] = records-more 4 done l ∙ rw (← here, t, told .none (first-only (kind .known) (says l) z k)) in
-          let n : says l .numbers ≡ take (said .size) (said .numbers) = sym (ap (λ (s : Says). s .numbers) q) in
-          rw (e, t) (record { none = λ f. absurd (true≢false f); number = rw (r, append-nil (says l .numbers), n) (sym (first-number (said .size) (said .numbers) padded)) })
+          let k : sort (said .letter) ≡ 4 = eqb-true (sort (said .letter)) 4 t in
+          let ns = take (said .size) (said .numbers) in
+          let r : recordsOf 4 (done ++ (saidOf said ∷ [])) ≡ ns ∷ [] = records-more 4 done (saidOf said) ∙ rw (t, told .none (first-only (kind .known) (saidOf said) z k)) in
+          rw (e, t) (record { none = λ f. absurd (true≢false f); number = rw (r, append-nil ns) (sym (first-number (said .size) (said .numbers) padded)) })
       go false t =
-          let r : recordsOf 4 (done ++ (l ∷ [])) ≡ recordsOf 4 done = records-more 4 done l ∙ rw (← here, t, append-nil (recordsOf 4 done)) in
+          let r : recordsOf 4 (done ++ (saidOf said ∷ [])) ≡ recordsOf 4 done = records-more 4 done (saidOf said) ∙ rw (t, append-nil (recordsOf 4 done)) in
           rw (e, t) (record { none = λ f. r ∙ told .none f; number = rw r (told .number) })
 
 -- after the kind is known no line that can be read says it
-none-after : (ls : List (List ℕ)) → recordsOf 4 (readable true ls) ≡ []
+none-after : (ss : List Says) → recordsOf 4 (readable true ss) ≡ []
 unfolding readable recordsOf
 none-after [] = refl
-none-after (l ∷ ls) = go (eqb (faultIn true (says l)) 0) refl (none-after ls)
+none-after (s ∷ ss) = go (eqb (faultIn true s) 0) refl (none-after ss)
   where
-    go : (b : Bool) → eqb (faultIn true (says l)) 0 ≡ b → recordsOf 4 (readable true ls) ≡ [] → recordsOf 4 (cond b (l ∷ readable true ls) []) ≡ []
+    go : (b : Bool) → eqb (faultIn true s) 0 ≡ b → recordsOf 4 (readable true ss) ≡ [] → recordsOf 4 (cond b (s ∷ readable true ss) []) ≡ []
     go true e r =
-        let k : sort (says l .letter) < 4 = ltb-true (sort (says l .letter)) 4 (stands true (says l) (eqb-true (faultIn true (says l)) 0 e)) in
-        rw (ne-eqb (sort (says l .letter)) 4 (λ q. omega arith)) r
+        let k : sort (s .letter) < 4 = ltb-true (sort (s .letter)) 4 (stands true s (eqb-true (faultIn true s) 0 e)) in
+        rw (ne-eqb (sort (s .letter)) 4 (λ q. omega arith)) r
     go false e r = refl
 
 -- so a text that can be read says it in just one line
-pub kind-once : (ls : List (List ℕ)) → textFault false ls ≡ 0 → length (recordsOf 4 (readable false ls)) ≡ 1
+pub kind-once : (ss : List Says) → textFault false ss ≡ 0 → length (recordsOf 4 (readable false ss)) ≡ 1
 unfolding readable textFault recordsOf
 kind-once [] z = absurd (omega arith)
-kind-once (l ∷ ls) z = go (eqb (faultIn false (says l)) 0) refl z (kind-once ls)
+kind-once (s ∷ ss) z = go (eqb (faultIn false s) 0) refl z (kind-once ss)
   where
-    said : (t : Bool) → eqb (sort (says l .letter)) 4 ≡ t → textFault t ls ≡ 0 → (textFault false ls ≡ 0 → length (recordsOf 4 (readable false ls)) ≡ 1) → length (recordsOf 4 (l ∷ readable t ls)) ≡ 1
-    said true h f r = rw (h, none-after ls)
+    said : (t : Bool) → eqb (sort (s .letter)) 4 ≡ t → textFault t ss ≡ 0 → (textFault false ss ≡ 0 → length (recordsOf 4 (readable false ss)) ≡ 1) → length (recordsOf 4 (s ∷ readable t ss)) ≡ 1
+    said true h f r = rw (h, none-after ss)
     said false h f r = rw h (r f)
 
     go :
-        (b : Bool) → eqb (faultIn false (says l)) 0 ≡ b → cond b (textFault (knownAfter false (says l)) ls) (faultIn false (says l)) ≡ 0 →
-        (textFault false ls ≡ 0 → length (recordsOf 4 (readable false ls)) ≡ 1) → length (recordsOf 4 (cond b (l ∷ readable (knownAfter false (says l)) ls) [])) ≡ 1
-    go true e f r = said (eqb (sort (says l .letter)) 4) refl f r
-    go false e f r = absurd (eqb-false (faultIn false (says l)) 0 e f)
+        (b : Bool) → eqb (faultIn false s) 0 ≡ b → cond b (textFault (knownAfter false s) ss) (faultIn false s) ≡ 0 →
+        (textFault false ss ≡ 0 → length (recordsOf 4 (readable false ss)) ≡ 1) → length (recordsOf 4 (cond b (s ∷ readable (knownAfter false s) ss) [])) ≡ 1
+    go true e f r = said (eqb (sort (s .letter)) 4) refl f r
+    go false e f r = absurd (eqb-false (faultIn false s) 0 e f)
 
 -- it is read to its end
-pub all-read : (known : Bool) (ls : List (List ℕ)) → textFault known ls ≡ 0 → readable known ls ≡ ls
+pub all-read : (known : Bool) (ss : List Says) → textFault known ss ≡ 0 → readable known ss ≡ ss
 unfolding readable textFault
 all-read known [] z = refl
-all-read known (l ∷ ls) z = go (eqb (faultIn known (says l)) 0) refl z (all-read (knownAfter known (says l)) ls)
+all-read known (s ∷ ss) z = go (eqb (faultIn known s) 0) refl z (all-read (knownAfter known s) ss)
   where
     go :
-        (b : Bool) → eqb (faultIn known (says l)) 0 ≡ b → cond b (textFault (knownAfter known (says l)) ls) (faultIn known (says l)) ≡ 0 →
-        (textFault (knownAfter known (says l)) ls ≡ 0 → readable (knownAfter known (says l)) ls ≡ ls) → cond b (l ∷ readable (knownAfter known (says l)) ls) [] ≡ l ∷ ls
-    go true e f r = ap (λ (rest : List (List ℕ)). l ∷ rest) (r f)
-    go false e f r = absurd (eqb-false (faultIn known (says l)) 0 e f)
+        (b : Bool) → eqb (faultIn known s) 0 ≡ b → cond b (textFault (knownAfter known s) ss) (faultIn known s) ≡ 0 →
+        (textFault (knownAfter known s) ss ≡ 0 → readable (knownAfter known s) ss ≡ ss) → cond b (s ∷ readable (knownAfter known s) ss) [] ≡ s ∷ ss
+    go true e f r = ap (λ (rest : List Says). s ∷ rest) (r f)
+    go false e f r = absurd (eqb-false (faultIn known s) 0 e f)
 
 -- the sort of the first line that has a record; 0 where none has
-pub firstSort : List (List ℕ) → ℕ
+pub firstSort : List Says → ℕ
 firstSort [] = 0
-firstSort (l ∷ ls) = cond (eqb (sort (says l .letter)) 0) (firstSort ls) (sort (says l .letter))
+firstSort (s ∷ ss) = cond (eqb (sort (s .letter)) 0) (firstSort ss) (sort (s .letter))
 
 -- and in a text that can be read that line says the kind
-pub kind-first : (ls : List (List ℕ)) → textFault false ls ≡ 0 → firstSort ls ≡ 4
+pub kind-first : (ss : List Says) → textFault false ss ≡ 0 → firstSort ss ≡ 4
 unfolding firstSort textFault
 kind-first [] z = absurd (omega arith)
-kind-first (l ∷ ls) z = go (eqb (faultIn false (says l)) 0) refl z (kind-first ls)
+kind-first (s ∷ ss) z = go (eqb (faultIn false s) 0) refl z (kind-first ss)
   where
     said :
-        (k : ℕ) → inPlace false k ≡ true → (a b : Bool) → eqb k 0 ≡ a → eqb k 4 ≡ b → textFault b ls ≡ 0 → (textFault false ls ≡ 0 → firstSort ls ≡ 4) →
-        cond a (firstSort ls) k ≡ 4
+        (k : ℕ) → inPlace false k ≡ true → (a b : Bool) → eqb k 0 ≡ a → eqb k 4 ≡ b → textFault b ss ≡ 0 → (textFault false ss ≡ 0 → firstSort ss ≡ 4) →
+        cond a (firstSort ss) k ≡ 4
     said k p true true e f t r = absurd (omega (arith, eqb-true k 0 e, eqb-true k 4 f))
     said k p true false e f t r = r t
     said k p false true e f t r = eqb-true k 4 f
     said k p false false e f t r = let q : false ≡ true = rw (e, f) at p in absurd (true≢false (sym q))
 
     go :
-        (b : Bool) → eqb (faultIn false (says l)) 0 ≡ b → cond b (textFault (knownAfter false (says l)) ls) (faultIn false (says l)) ≡ 0 →
-        (textFault false ls ≡ 0 → firstSort ls ≡ 4) → cond (eqb (sort (says l .letter)) 0) (firstSort ls) (sort (says l .letter)) ≡ 4
-    go true e f r = said (sort (says l .letter)) (stands false (says l) (eqb-true (faultIn false (says l)) 0 e)) _ _ refl refl f r
-    go false e f r = absurd (eqb-false (faultIn false (says l)) 0 e f)
+        (b : Bool) → eqb (faultIn false s) 0 ≡ b → cond b (textFault (knownAfter false s) ss) (faultIn false s) ≡ 0 →
+        (textFault false ss ≡ 0 → firstSort ss ≡ 4) → cond (eqb (sort (s .letter)) 0) (firstSort ss) (sort (s .letter)) ≡ 4
+    go true e f r = said (sort (s .letter)) (stands false s (eqb-true (faultIn false s) 0 e)) _ _ refl refl f r
+    go false e f r = absurd (eqb-false (faultIn false s) 0 e f)

@@ -2,4 +2,5 @@
 pub mod Stores
 pub mod Known
 pub mod Texts
+pub mod WholeText
 pub mod Examples

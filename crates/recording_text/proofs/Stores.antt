@@ -14,7 +14,7 @@ use lib.Seq.{paste, paste-suc, take-nil, take-all, take-append-le, take-append-s
 use Rattle.lists.proofs.Bools.{and-left, and-right}
 use Rattle.recording_text_line.specs.declared.Said.{Said}
 use Rattle.recording_text.specs.declared.Kept.{Kept}
-use Rattle.recording_text_line.specs.Line.{Says, says, saidOf, sort, widest}
+use Rattle.recording_text_line.specs.Line.{Says, saidOf, sort, widest}
 use Rattle.recording_text.specs.Text.{recordsOf, joined, stored, over, noneKept, takes, RoomFor, andRecord}
 use Rattle.recording_text_line.proofs.Letters.{widest-small}
 
@@ -31,20 +31,19 @@ paste-behind old x ns n =
     rw (a, b)
 
 -- the records of one line more
-pub records-more :
-    (k : ℕ) (ls : List (List ℕ)) (l : List ℕ) → recordsOf k (ls ++ (l ∷ [])) ≡ recordsOf k ls ++ cond (eqb (sort (says l .letter)) k) (says l .numbers ∷ []) []
+pub records-more : (k : ℕ) (ss : List Says) (s : Says) → recordsOf k (ss ++ (s ∷ [])) ≡ recordsOf k ss ++ cond (eqb (sort (s .letter)) k) (s .numbers ∷ []) []
 unfolding recordsOf
-records-more k [] l = go (eqb (sort (says l .letter)) k)
+records-more k [] s = go (eqb (sort (s .letter)) k)
   where
-    go : (t : Bool) → cond t (says l .numbers ∷ []) [] ≡ cond t (says l .numbers ∷ []) []
+    go : (t : Bool) → cond t (s .numbers ∷ []) [] ≡ cond t (s .numbers ∷ []) []
     go t = refl
-records-more k (m ∷ ls) l = go (eqb (sort (says m .letter)) k) (records-more k ls l)
+records-more k (r ∷ ss) s = go (eqb (sort (r .letter)) k) (records-more k ss s)
   where
     go :
-        (t : Bool) → recordsOf k (ls ++ (l ∷ [])) ≡ recordsOf k ls ++ cond (eqb (sort (says l .letter)) k) (says l .numbers ∷ []) [] →
-        cond t (says m .numbers ∷ recordsOf k (ls ++ (l ∷ []))) (recordsOf k (ls ++ (l ∷ [])))
-        ≡ cond t (says m .numbers ∷ recordsOf k ls) (recordsOf k ls) ++ cond (eqb (sort (says l .letter)) k) (says l .numbers ∷ []) []
-    go true e = ap (λ (rs : List (List ℕ)). says m .numbers ∷ rs) e
+        (t : Bool) → recordsOf k (ss ++ (s ∷ [])) ≡ recordsOf k ss ++ cond (eqb (sort (s .letter)) k) (s .numbers ∷ []) [] →
+        cond t (r .numbers ∷ recordsOf k (ss ++ (s ∷ []))) (recordsOf k (ss ++ (s ∷ [])))
+        ≡ cond t (r .numbers ∷ recordsOf k ss) (recordsOf k ss) ++ cond (eqb (sort (s .letter)) k) (s .numbers ∷ []) []
+    go true e = ap (λ (rs : List (List ℕ)). r .numbers ∷ rs) e
     go false e = e
 
 joined-more : (rs : List (List ℕ)) (r : List ℕ) → joined (rs ++ (r ∷ [])) ≡ joined rs ++ r
@@ -52,11 +51,19 @@ unfolding joined
 joined-more [] r = append-nil r
 joined-more (q ∷ rs) r = ap (λ (x : List ℕ). q ++ x) (joined-more rs r) ∙ sym (append-assoc q (joined rs) r)
 
+-- a line more
+abbrev pub andLine : List Says → Said → List Says
+andLine ss said = ss ++ (saidOf said ∷ [])
+
+-- its numbers
+abbrev given : Said → List ℕ
+given said = take (said .size) (said .numbers)
+
 -- so many records of one sort are stored, and the list holds them
-pub record Held (k most : ℕ) (ls : List (List ℕ)) (old out : List ℕ) (kept : Kept) : Type 0 where
-  pub records : kept .records ≡ min (length (recordsOf k ls)) most
-  pub numbers : kept .numbers ≡ length (stored k most ls)
-  pub list : out ≡ over (stored k most ls) old
+pub record Held (k most : ℕ) (ss : List Says) (old out : List ℕ) (kept : Kept) : Type 0 where
+  pub records : kept .records ≡ min (length (recordsOf k ss)) most
+  pub numbers : kept .numbers ≡ length (stored k most ss)
+  pub list : out ≡ over (stored k most ss) old
   pub few : kept .numbers ≤ widest k * kept .records
 
 pub held-none : (k most : ℕ) (old : List ℕ) {kept : Kept} → kept ≡ noneKept → Held k most [] old old kept
@@ -65,66 +72,56 @@ held-none k most old e =
     let n : stored k most [] ≡ [] = ap joined (take-nil most) in
     rw e (record { records = omega arith; numbers = rw n; list = rw n; few = omega arith })
 
-module _ (k most : ℕ) (ls : List (List ℕ)) (old : List ℕ) {out : List ℕ} {kept : Kept} (held : Held k most ls old out kept) (l : List ℕ) (said : Said) (q : saidOf said ≡ says l) (small : said .size ≤ widest (sort (said .letter))) (four : length (said .numbers) ≡ 4) where
-  letter : said .letter ≡ says l .letter
-  letter = ap (λ (x : Says). x .letter) q
-
-  given : take (said .size) (said .numbers) ≡ says l .numbers
-  given = ap (λ (x : Says). x .numbers) q
-
-  here : eqb (sort (said .letter)) k ≡ eqb (sort (says l .letter)) k
-  here = ap (λ (b : ℕ). eqb (sort b) k) letter
-
+module _ (k most : ℕ) (ss : List Says) (old : List ℕ) {out : List ℕ} {kept : Kept} (held : Held k most ss old out kept) (said : Said) (small : said .size ≤ widest (sort (said .letter))) (four : length (said .numbers) ≡ 4) where
   -- a line with no such record, or one record too many
-  same : stored k most (ls ++ (l ∷ [])) ≡ stored k most ls → min (length (recordsOf k (ls ++ (l ∷ [])))) most ≡ min (length (recordsOf k ls)) most → Held k most (ls ++ (l ∷ [])) old out kept
+  same : stored k most (andLine ss said) ≡ stored k most ss → min (length (recordsOf k (andLine ss said))) most ≡ min (length (recordsOf k ss)) most → Held k most (andLine ss said) old out kept
   same s r = record { records = held .records ∙ sym r; numbers = rw s (held .numbers); list = rw s (held .list); few = held .few }
 
-  held-other : eqb (sort (said .letter)) k ≡ false → Held k most (ls ++ (l ∷ [])) old out kept
+  held-other : eqb (sort (said .letter)) k ≡ false → Held k most (andLine ss said) old out kept
   unfolding stored
   held-other t =
-      let e : recordsOf k (ls ++ (l ∷ [])) ≡ recordsOf k ls = records-more k ls l ∙ rw (← here, t, append-nil (recordsOf k ls)) in
+      let e : recordsOf k (andLine ss said) ≡ recordsOf k ss = records-more k ss (saidOf said) ∙ rw (t, append-nil (recordsOf k ss)) in
       same (rw e) (rw e)
 
-  with-record : eqb (sort (said .letter)) k ≡ true → recordsOf k (ls ++ (l ∷ [])) ≡ recordsOf k ls ++ (says l .numbers ∷ [])
-  with-record t = records-more k ls l ∙ rw (← here, t)
+  with-record : eqb (sort (said .letter)) k ≡ true → recordsOf k (andLine ss said) ≡ recordsOf k ss ++ (given said ∷ [])
+  with-record t = records-more k ss (saidOf said) ∙ rw t
 
-  held-full : eqb (sort (said .letter)) k ≡ true → most ≤ kept .records → Held k most (ls ++ (l ∷ [])) old out kept
+  held-full : eqb (sort (said .letter)) k ≡ true → most ≤ kept .records → Held k most (andLine ss said) old out kept
   unfolding stored
   held-full t f =
       let e = with-record t in
-      let m : most ≤ length (recordsOf k ls) = omega (arith, held .records) in
-      same (rw (e, take-append-le most (recordsOf k ls) (says l .numbers ∷ []) m)) (rw e (omega (arith, length-append (recordsOf k ls) (says l .numbers ∷ []))))
+      let m : most ≤ length (recordsOf k ss) = omega (arith, held .records) in
+      same (rw (e, take-append-le most (recordsOf k ss) (given said ∷ []) m)) (rw e (omega (arith, length-append (recordsOf k ss) (given said ∷ []))))
 
-  whole : (x r : List ℕ) → r ≡ take (said .size) (said .numbers) → length r ≡ said .size → paste (over x old) (length x) (said .numbers) (said .size) ≡ over (x ++ r) old
+  whole : (x : List ℕ) → length (given said) ≡ said .size → paste (over x old) (length x) (said .numbers) (said .size) ≡ over (x ++ given said) old
   unfolding over
-  whole x r g v = paste-behind old x (said .numbers) (said .size) ∙ rw (← g, length-append x r, v)
+  whole x v = paste-behind old x (said .numbers) (said .size) ∙ rw (length-append x (given said), v)
 
-  held-stored : eqb (sort (said .letter)) k ≡ true → kept .records < most → Held k most (ls ++ (l ∷ [])) old (paste out (kept .numbers) (said .numbers) (said .size)) (andRecord said kept)
+  held-stored : eqb (sort (said .letter)) k ≡ true → kept .records < most → Held k most (andLine ss said) old (paste out (kept .numbers) (said .numbers) (said .size)) (andRecord said kept)
   unfolding stored
   held-stored t f =
-      let rs = recordsOf k ls in
-      let r = says l .numbers in
+      let rs = recordsOf k ss in
       let e = with-record t in
       let m : length rs < most = omega (arith, held .records) in
-      let g : length (rs ++ (r ∷ [])) ≡ length rs + 1 = length-append rs (r ∷ []) in
-      let a : take most (rs ++ (r ∷ [])) ≡ take most rs ++ (r ∷ []) = take-all most (rs ++ (r ∷ [])) (omega arith) ∙ rw (take-all most rs (omega arith)) in
-      let s : stored k most (ls ++ (l ∷ [])) ≡ stored k most ls ++ r = rw (e, a) (joined-more (take most rs) r) in
+      let g : length (rs ++ (given said ∷ [])) ≡ length rs + 1 = length-append rs (given said ∷ []) in
+      let a : take most (rs ++ (given said ∷ [])) ≡ take most rs ++ (given said ∷ []) = take-all most (rs ++ (given said ∷ [])) (omega arith) ∙ rw (take-all most rs (omega arith)) in
+      let s : stored k most (andLine ss said) ≡ stored k most ss ++ given said = rw (e, a) (joined-more (take most rs) (given said)) in
       let w : sort (said .letter) ≡ k = eqb-true (sort (said .letter)) k t in
       let n : said .size ≤ widest k = rw w at small in
       let z : said .size ≤ 4 = omega (arith, n, widest-small k) in
-      let v : length r ≡ said .size = ap length (sym given) ∙ length-take-le (said .size) (said .numbers) (omega arith) in
-      let b : length (stored k most ls ++ r) ≡ kept .numbers + said .size = omega (arith, length-append (stored k most ls) r, held .numbers) in
+      let v : length (given said) ≡ said .size = length-take-le (said .size) (said .numbers) (omega arith) in
+      let b : length (stored k most ss ++ given said) ≡ kept .numbers + said .size = omega (arith, length-append (stored k most ss) (given said), held .numbers) in
       record {
         records = rw e (omega (arith, held .records));
         numbers = rw s (sym b);
-        list = rw (held .list, held .numbers, s) (whole (stored k most ls) r (sym given) v);
+        list = rw (held .list, held .numbers, s) (whole (stored k most ss) v);
         few = omega (arith, held .few, mul-add (widest k) (kept .records) 1);
       }
 
-  pub held-more : {kept' : Kept} {out' : List ℕ} → kept' ≡ cond (takes said k most kept) (andRecord said kept) kept → out' ≡ cond (takes said k most kept) (paste out (kept .numbers) (said .numbers) (said .size)) out → Held k most (ls ++ (l ∷ [])) old out' kept'
+  pub held-more : {kept' : Kept} {out' : List ℕ} → kept' ≡ cond (takes said k most kept) (andRecord said kept) kept → out' ≡ cond (takes said k most kept) (paste out (kept .numbers) (said .numbers) (said .size)) out → Held k most (andLine ss said) old out' kept'
   held-more {kept'} {out'} e f = go (eqb (sort (said .letter)) k) refl (ltb (kept .records) most) refl
     where
-      go : (b : Bool) → eqb (sort (said .letter)) k ≡ b → (t : Bool) → ltb (kept .records) most ≡ t → Held k most (ls ++ (l ∷ [])) old out' kept'
+      go : (b : Bool) → eqb (sort (said .letter)) k ≡ b → (t : Bool) → ltb (kept .records) most ≡ t → Held k most (andLine ss said) old out' kept'
       go false h t g = rw (e, f, h) (held-other h)
       go true h false g = rw (e, f, h, g) (held-full h (ltb-false (kept .records) most g))
       go true h true g = rw (e, f, h, g) (held-stored h (ltb-true (kept .records) most g))

@@ -11,76 +11,76 @@ use lib.ListN.{length, drop, getD, length-append}
 use Rattle.recording_text.specs.declared.Read.{Read}
 use Rattle.recording_text.specs.declared.Kept.{Kept}
 use Rattle.recording_text_fields.specs.Pieces.{separator, lines, between, Ends}
-use Rattle.recording_text_line.specs.Line.{says}
-use Rattle.recording_text.specs.Text.{faultIn, knownAfter, readable, textFault, stored, over, readableOf, storedOf, tasksKept, linksKept, eventsKept, defaultsOf, linksOf, eventsOf, faultOf, answerOf, readOf}
-use Rattle.recording_text_place.proofs.Places.{lines-past}
+use Rattle.recording_text_line.specs.declared.Said.{Said}
+use Rattle.recording_text_line.specs.Line.{Says, says, saidOf, datedAfter, allSay, textSays}
+use Rattle.recording_text.specs.Text.{faultIn, knownAfter, readable, textFault, stored, over, readableOf, storedOf, tasksKept, linksKept, eventsKept, tasksOf, linksOf, eventsOf, faultOf, answerOf, readOf}
+use Rattle.recording_text_line.proofs.Lines.{line-more, no-line}
 use Rattle.recording_text.proofs.Stores.{Held}
 
 -- lines that can be read, in front of others: after them the kind is known, or not
-pub record Good (done : List (List ℕ)) (known : Bool) : Type 0 where
-  pub first : (ls : List (List ℕ)) → readable false (done ++ ls) ≡ done ++ readable known ls
-  pub fault : (ls : List (List ℕ)) → textFault false (done ++ ls) ≡ textFault known ls
+pub record Good (done : List Says) (known : Bool) : Type 0 where
+  pub first : (ss : List Says) → readable false (done ++ ss) ≡ done ++ readable known ss
+  pub fault : (ss : List Says) → textFault false (done ++ ss) ≡ textFault known ss
 
 pub good-none : Good [] false
-good-none = record { first = λ ls. refl; fault = λ ls. refl }
+good-none = record { first = λ ss. refl; fault = λ ss. refl }
 
-pub good-more :
-    {done : List (List ℕ)} {known : Bool} → Good done known → (l : List ℕ) → faultIn known (says l) ≡ 0 → Good (done ++ (l ∷ [])) (knownAfter known (says l))
+pub good-more : {done : List Says} {known : Bool} → Good done known → (s : Says) → faultIn known s ≡ 0 → Good (done ++ (s ∷ [])) (knownAfter known s)
 unfolding readable textFault
-good-more {done} {known} g l e =
-    let z = eq-eqb (faultIn known (says l)) 0 e in
+good-more {done} {known} g s e =
+    let z = eq-eqb (faultIn known s) 0 e in
     record {
-      first = λ ls.
-          ap (readable false) (append-assoc done (l ∷ []) ls) ∙ g .first (l ∷ ls) ∙ rw z (sym (append-assoc done (l ∷ []) (readable (knownAfter known (says l)) ls)));
-      fault = λ ls. ap (textFault false) (append-assoc done (l ∷ []) ls) ∙ g .fault (l ∷ ls) ∙ rw z;
+      first = λ ss. ap (readable false) (append-assoc done (s ∷ []) ss) ∙ g .first (s ∷ ss) ∙ rw z (sym (append-assoc done (s ∷ []) (readable (knownAfter known s) ss)));
+      fault = λ ss. ap (textFault false) (append-assoc done (s ∷ []) ss) ∙ g .fault (s ∷ ss) ∙ rw z;
     }
 
--- the lines before a place are read, and can be
-pub record Before (text : List ℕ) (line at : ℕ) (done : List (List ℕ)) (known : Bool) : Type 0 where
-  pub split : lines text ≡ done ++ lines (drop at text)
+-- the lines before a place are read, and can be; after them the kind is known, or not, and the text is dated, or not
+pub record Before (text : List ℕ) (line at : ℕ) (done : List Says) (known dated : Bool) : Type 0 where
+  pub split : textSays text ≡ done ++ allSay dated (lines (drop at text))
   pub many : length done ≡ line
   pub near : line ≤ at
   pub few : line ≤ length text
   pub good : Good done known
 
-pub before-none : (text : List ℕ) {known : Bool} → known ≡ false → Before text 0 0 [] known
-before-none text e = record { split = refl; many = refl; near = omega arith; few = omega arith; good = rw e good-none }
+pub before-none : (text : List ℕ) {known dated : Bool} → known ≡ false → dated ≡ false → Before text 0 0 [] known dated
+before-none text e f = record { split = rw f; many = refl; near = omega arith; few = omega arith; good = rw e good-none }
 
-module _ (text : List ℕ) {line at : ℕ} {done : List (List ℕ)} {known : Bool} (b : Before text line at done known) where
+module _ (text : List ℕ) {line at : ℕ} {done : List Says} {known dated : Bool} (b : Before text line at done known dated) where
   -- a line more
-  module _ {e : ℕ} (w : Ends (separator false) text at e) where
+  module _ {e : ℕ} (w : Ends (separator false) text at e) (said : Said) (q : saidOf said ≡ says dated (between at e text)) where
+    from-here : {next : Bool} → next ≡ datedAfter dated (saidOf said) → textSays text ≡ done ++ (saidOf said ∷ allSay next (lines (drop (e + 1) text)))
+    from-here d = b .split ∙ ap (λ (ss : List Says). done ++ ss) (line-more text w dated said q d)
+
     pub before-more :
-        at < length text → faultIn known (says (between at e text)) ≡ 0 → {next : Bool} → next ≡ knownAfter known (says (between at e text)) →
-        Before text (line + 1) (e + 1) (done ++ (between at e text ∷ [])) next
-    before-more h z n =
+        at < length text → faultIn known (saidOf said) ≡ 0 → {known' : Bool} → known' ≡ knownAfter known (saidOf said) → {dated' : Bool} → dated' ≡ datedAfter dated (saidOf said) →
+        Before text (line + 1) (e + 1) (done ++ (saidOf said ∷ [])) known' dated'
+    before-more h z n {dated'} d =
         record {
-          split = b .split ∙ ap (λ (ls : List (List ℕ)). done ++ ls) (w .split) ∙ sym (append-assoc done (between at e text ∷ []) (lines (drop (e + 1) text)));
-          many = omega (arith, length-append done (between at e text ∷ []), b .many);
+          split = from-here d ∙ sym (append-assoc done (saidOf said ∷ []) (allSay dated' (lines (drop (e + 1) text))));
+          many = omega (arith, length-append done (saidOf said ∷ []), b .many);
           near = omega (arith, b .near, w .after);
           few = omega (arith, b .near);
-          good = rw n (good-more (b .good) (between at e text) z);
+          good = rw n (good-more (b .good) (saidOf said) z);
         }
 
     -- a line that cannot be read
-    pub stops :
-        {f : ℕ} → f ≡ faultIn known (says (between at e text)) → (f ≡ 0 → ⊥) → (readableOf text ≡ done) × (faultOf text ≡ f)
+    pub stops : {f : ℕ} → f ≡ faultIn known (saidOf said) → (f ≡ 0 → ⊥) → (readableOf text ≡ done) × (faultOf text ≡ f)
     unfolding readable textFault
     stops f z =
-        let l = between at e text in
-        let ls = lines (drop (e + 1) text) in
-        let s : lines text ≡ done ++ (l ∷ ls) = b .split ∙ ap (λ (ls : List (List ℕ)). done ++ ls) (w .split) in
-        let n = ne-eqb (faultIn known (says l)) 0 (λ q. z (f ∙ q)) in
-        (ap (readable false) s ∙ b .good .first (l ∷ ls) ∙ rw (n, append-nil done), ap (textFault false) s ∙ b .good .fault (l ∷ ls) ∙ rw n (sym f))
+        let s = saidOf said in
+        let ss = allSay (datedAfter dated s) (lines (drop (e + 1) text)) in
+        let n = ne-eqb (faultIn known s) 0 (λ q. z (f ∙ q)) in
+        (ap (readable false) (from-here refl) ∙ b .good .first (s ∷ ss) ∙ rw (n, append-nil done), ap (textFault false) (from-here refl) ∙ b .good .fault (s ∷ ss) ∙ rw n (sym f))
 
   -- no line more
   pub ends : length text ≤ at → (readableOf text ≡ done) × (faultOf text ≡ cond known 0 6)
   unfolding readable textFault
   ends h =
-      let s : lines text ≡ done ++ [] = b .split ∙ ap (λ (ls : List (List ℕ)). done ++ ls) (lines-past text at h) in
+      let s : textSays text ≡ done ++ [] = b .split ∙ ap (λ (ss : List Says). done ++ ss) (no-line text dated at h) in
       (ap (readable false) s ∙ b .good .first [] ∙ append-nil done, ap (textFault false) s ∙ b .good .fault [])
 
 -- the answer
-module _ (text : List ℕ) {done : List (List ℕ)} (r : readableOf text ≡ done) where
+module _ (text : List ℕ) {done : List Says} (r : readableOf text ≡ done) where
   pub list-held : (k most : ℕ) {old out : List ℕ} {kept : Kept} → Held k most done old out kept → out ≡ over (storedOf k most text) old
   list-held k most h = h .list ∙ rw r
 
@@ -97,9 +97,9 @@ over-within ns old e f = omega (arith, ap length f, length-append ns (drop (leng
 
 -- so are those that are stored of a text, as the answer counts them
 module _ (text : List ℕ) (r : Read) (e : r ≡ readOf text) (old : List ℕ) {out : List ℕ} where
-  pub tasks-within : out ≡ over (defaultsOf text) old → r .tasks ≤ length out
+  pub tasks-within : out ≡ over (tasksOf text) old → r .tasks ≤ length out
   unfolding readOf
-  tasks-within = over-within (defaultsOf text) old (ap (λ (x : Read). x .tasks) e)
+  tasks-within = over-within (tasksOf text) old (ap (λ (x : Read). x .tasks) e)
 
   pub links-within : out ≡ over (linksOf text) old → r .links ≤ length out
   unfolding readOf

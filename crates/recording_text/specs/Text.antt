@@ -10,8 +10,7 @@ use Rattle.recording_text.specs.declared.Read.{Read}
 use Rattle.recording_text_line.specs.declared.Said.{Said}
 use Rattle.recording_text.specs.declared.Kept.{Kept}
 use Rattle.recording_text.specs.declared.KnownKind.{KnownKind}
-use Rattle.recording_text_fields.specs.Pieces.{lines}
-use Rattle.recording_text_line.specs.Line.{Says, says, sort, widest}
+use Rattle.recording_text_line.specs.Line.{Says, sort, widest, textSays}
 
 -- whether a record of a sort may stand where the kind is known, or not yet: the kind, 4, comes first and once; a line with no record, 0, may stand anywhere
 abbrev pub inPlace : Bool → ℕ → Bool
@@ -25,20 +24,20 @@ faultIn known s = cond (eqb (s .fault) 0) (cond (inPlace known (sort (s .letter)
 abbrev pub knownAfter : Bool → Says → Bool
 knownAfter known s = known || eqb (sort (s .letter)) 4
 
--- the lines before the first that cannot be read
-unfoldable pub readable : Bool → List (List ℕ) → List (List ℕ)
+-- what the lines before the first that cannot be read say
+unfoldable pub readable : Bool → List Says → List Says
 readable known [] = []
-readable known (l ∷ ls) = cond (eqb (faultIn known (says l)) 0) (l ∷ readable (knownAfter known (says l)) ls) []
+readable known (s ∷ ss) = cond (eqb (faultIn known s) 0) (s ∷ readable (knownAfter known s) ss) []
 
 -- why the first line that cannot be read cannot be read; at the end it is 6 where the kind is not known, else 0
-unfoldable pub textFault : Bool → List (List ℕ) → ℕ
+unfoldable pub textFault : Bool → List Says → ℕ
 textFault known [] = cond known 0 6
-textFault known (l ∷ ls) = cond (eqb (faultIn known (says l)) 0) (textFault (knownAfter known (says l)) ls) (faultIn known (says l))
+textFault known (s ∷ ss) = cond (eqb (faultIn known s) 0) (textFault (knownAfter known s) ss) (faultIn known s)
 
 -- the records of one sort
-unfoldable pub recordsOf : ℕ → List (List ℕ) → List (List ℕ)
+unfoldable pub recordsOf : ℕ → List Says → List (List ℕ)
 recordsOf k [] = []
-recordsOf k (l ∷ ls) = cond (eqb (sort (says l .letter)) k) (says l .numbers ∷ recordsOf k ls) (recordsOf k ls)
+recordsOf k (s ∷ ss) = cond (eqb (sort (s .letter)) k) (s .numbers ∷ recordsOf k ss) (recordsOf k ss)
 
 -- records one after the other
 unfoldable pub joined : List (List ℕ) → List ℕ
@@ -46,16 +45,16 @@ joined [] = []
 joined (r ∷ rs) = r ++ joined rs
 
 -- the first so many records of one sort, one after the other: what is stored
-unfoldable pub stored : ℕ → ℕ → List (List ℕ) → List ℕ
-stored k most ls = joined (take most (recordsOf k ls))
+unfoldable pub stored : ℕ → ℕ → List Says → List ℕ
+stored k most ss = joined (take most (recordsOf k ss))
 
 -- numbers at the start of a list; the rest is as it was
 unfoldable pub over : List ℕ → List ℕ → List ℕ
 over ns old = ns ++ drop (length ns) old
 
--- the lines of a text before the first that cannot be read: the kind is not known at its beginning
-abbrev pub readableOf : List ℕ → List (List ℕ)
-readableOf text = readable false (lines text)
+-- what the lines of a text say before the first that cannot be read: the kind is not known at its beginning
+abbrev pub readableOf : List ℕ → List Says
+readableOf text = readable false (textSays text)
 
 -- the first so many records of one sort in them
 abbrev pub storedOf : ℕ → ℕ → List ℕ → List ℕ
@@ -65,7 +64,7 @@ storedOf k most text = stored k most (readableOf text)
 abbrev pub kindSaid : List ℕ → ℕ
 kindSaid text = getD (storedOf 4 1 text) 0 0
 
--- so many tasks are stored: one more than the wide kind may have, so that the writer sees too many
+-- so many tasks are stored: one more than any kind may have, so that the writer sees too many
 abbrev pub tasksKept : ℕ
 tasksKept = wideRecording .tasks + 1
 
@@ -77,21 +76,21 @@ linksKept = wideRecording .links + 1
 abbrev pub eventsKept : ℕ
 eventsKept = wideRecording .events + 1
 
--- what is stored of tasks: their defaults
-abbrev pub defaultsOf : List ℕ → List ℕ
-defaultsOf text = storedOf 1 tasksKept text
+-- what is stored of tasks: default, and in a dated text relative deadline
+abbrev pub tasksOf : List ℕ → List ℕ
+tasksOf text = storedOf 1 tasksKept text
 
 -- of links: writer, reader, kind and start value
 abbrev pub linksOf : List ℕ → List ℕ
 linksOf text = storedOf 2 linksKept text
 
--- of events: kind and numbers
+-- of events: kind, in a dated text tick, and numbers
 abbrev pub eventsOf : List ℕ → List ℕ
 eventsOf text = storedOf 3 eventsKept text
 
 -- why a text cannot be read, 0 where it can
 abbrev pub faultOf : List ℕ → ℕ
-faultOf text = textFault false (lines text)
+faultOf text = textFault false (textSays text)
 
 -- the line at fault, from 1; 0 where there is none
 abbrev pub faultLine : List ℕ → ℕ
@@ -103,7 +102,7 @@ answerOf fault line kind tasks links events = record { fault = fault; line = lin
 
 -- the answer to a text
 unfoldable pub readOf : List ℕ → Read
-readOf text = answerOf (faultOf text) (faultLine text) (kindSaid text) (length (defaultsOf text)) (length (linksOf text)) (length (eventsOf text))
+readOf text = answerOf (faultOf text) (faultLine text) (kindSaid text) (length (tasksOf text)) (length (linksOf text)) (length (eventsOf text))
 
 -- nothing is stored
 abbrev pub noneKept : Kept

@@ -4,32 +4,35 @@ ghost use mathlib.Core.Bool.{cond};
 ghost use Prim.Native.Nat.{_+_, _≤_};
 ghost use lib.ListN.{length};
 ghost use lib.Seq.{paste};
-ghost use Rattle.recording_text.specs.Text.{readOf, answerOf, noneKept, takes, andRecord, RoomFor, defaultsOf, linksOf, eventsOf, over, inPlace, faultIn, noKind, kindAfter};
+ghost use Rattle.recording_text.specs.Text.{readOf, answerOf, noneKept, takes, andRecord, RoomFor, tasksOf, linksOf, eventsOf, over, inPlace, faultIn, noKind, kindAfter};
 ghost use Rattle.recording_text_line.specs.Line.{saidOf};
 ghost use Rattle.recording_text_place.specs.Place.{lineOf};
-use mailbox_base::numbers;
-use recording_format::WIDE_LINKS;
-use recording_format::WIDE_TASKS;
+use recording_format::LINK_NUMBERS;
+use recording_format::MOST_LINKS;
+use recording_format::MOST_TASKS;
+use recording_format::PLAIN_EVENTS;
+use recording_format::WhichKind;
 use recording_text_fields::piece::piece_end;
 use recording_text_line::Said;
+use recording_text_line::is_dated;
 use recording_text_line::line_says;
 use recording_text_line::sort_of;
 
-// So many tasks, links and events are stored: one more than a recording of the wide kind may have, so that the writer sees that there are too many.
-const MOST_TASKS: usize = WIDE_TASKS + 1;
+// So many tasks, links and events are stored: one more than a recording of any kind may have, so that the writer sees that there are too many.
+const TASKS_KEPT: usize = MOST_TASKS + 1;
 
-const MOST_LINKS: usize = WIDE_LINKS + 1;
+const LINKS_KEPT: usize = MOST_LINKS + 1;
 
-const MOST_EVENTS: usize = numbers::EVENTS + 1;
+const EVENTS_KEPT: usize = PLAIN_EVENTS + 1;
 
-// The room for the defaults of tasks,
-pub const TASKS: usize = MOST_TASKS;
+// The room for tasks, of one or two numbers,
+pub const TASKS: usize = 2 * TASKS_KEPT;
 
-// that for links, four numbers each,
-pub const LINKS: usize = 4 * MOST_LINKS;
+// that for links,
+pub const LINKS: usize = LINK_NUMBERS * LINKS_KEPT;
 
-// and that for events, of two or three numbers.
-pub const EVENTS: usize = 3 * MOST_EVENTS;
+// and that for events, of two to four numbers.
+pub const EVENTS: usize = 4 * EVENTS_KEPT;
 
 // What a text is read as: why it cannot be read, 0 where it can, and in which line, from 1; the number of the kind, 0 where no line before that
 // says it; how many numbers were stored.
@@ -165,12 +168,12 @@ fn answer(fault: u8, line: usize, kind: KnownKind, task: Kept, link: Kept, event
 // Reads a text: the kind, the tasks, links and events up to the first line that cannot be read, each of these sorts at the start of its own list.
 pub fn read_text(
     text: &[u8],
-    defaults: &mut [u32; TASKS],
+    tasks: &mut [u32; TASKS],
     links: &mut [u32; LINKS],
     events: &mut [u32; EVENTS],
 ) -> Read
     ensures answer { λ r. ⌜ r ≡ readOf (now (text .entry)) ⌝ }
-    ensures defaults { λ r. ⌜ now (defaults .exit) ≡ over (defaultsOf (now (text .entry))) (now (defaults .entry)) ⌝ }
+    ensures tasks { λ r. ⌜ now (tasks .exit) ≡ over (tasksOf (now (text .entry))) (now (tasks .entry)) ⌝ }
     ensures links { λ r. ⌜ now (links .exit) ≡ over (linksOf (now (text .entry))) (now (links .entry)) ⌝ }
     ensures events { λ r. ⌜ now (events .exit) ≡ over (eventsOf (now (text .entry))) (now (events .entry)) ⌝ }
 {
@@ -182,16 +185,16 @@ pub fn read_text(
     let mut at = 0;
     while at < text.len() {
         let end = piece_end(text, at, false);
-        let said = line_says(&text[at..end]);
+        let said = line_says(&text[at..end], is_dated(kind.number));
         line += 1;
         let fault = fault_in(kind.known, said);
         if fault != 0 {
             return answer(fault, line, kind, task, link, event);
         }
         kind = kind_after(kind, said);
-        task = keep(said, 1, MOST_TASKS, defaults, task);
-        link = keep(said, 2, MOST_LINKS, links, link);
-        event = keep(said, 3, MOST_EVENTS, events, event);
+        task = keep(said, 1, TASKS_KEPT, tasks, task);
+        link = keep(said, 2, LINKS_KEPT, links, link);
+        event = keep(said, 3, EVENTS_KEPT, events, event);
         at = end + 1;
     }
     if !kind.known {
@@ -200,9 +203,9 @@ pub fn read_text(
     answer(0, 0, kind, task, link, event)
 }
 
-// The line of a refusal of the writer, in the text of a recording, wide or not: that of the record at fault, or the line after the last.
-pub fn line_of(text: &[u8], wide: bool, refusal: u8, place: usize) -> usize
-    ensures { λ r. ⌜ r ≡ lineOf wide (now (text .entry)) refusal place ⌝ }
+// The line of a refusal of the writer, in the text of a recording of a kind: that of the record at fault, or the line after the last.
+pub fn line_of(text: &[u8], which: WhichKind, refusal: u8, place: usize) -> usize
+    ensures { λ r. ⌜ r ≡ lineOf which (now (text .entry)) refusal place ⌝ }
 {
-    recording_text_place::refusal_line(text, wide, refusal, place)
+    recording_text_place::refusal_line(text, which, refusal, place)
 }

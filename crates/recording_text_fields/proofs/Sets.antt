@@ -13,13 +13,16 @@ use lib.ListN.{length}
 use lib.Pow.{pow-pos, pow-mono, pow-lt}
 use Rattle.lists.proofs.Bools.{or-left, or-right}
 use Rattle.protocol_state.specs.Judge.{judgedArrival}
-use Rattle.recording_format.specs.RecordingKind.{eitherKind}
+use Rattle.recording_format.specs.declared.WhichKind.{WhichKind}
+use Rattle.recording_format.specs.declared.WhichKind.the-variants.{Base, Wide, Dated}
+use Rattle.recording_format.specs.RecordingKind.{anyKind}
 use Rattle.recording_text_fields.specs.Numeral.{lastOfSet, clipped, setWith, namedSet, setOf, handedSet}
 
--- no table of either kind has a task of the last bit's number
-pub last-of-set-free : (wide : Bool) → eitherKind wide .tasks ≤ lastOfSet
-last-of-set-free true = lit≤ tt
-last-of-set-free false = lit≤ tt
+-- no table of any kind has a task of the last bit's number
+pub last-of-set-free : (which : WhichKind) → anyKind which .tasks ≤ lastOfSet
+last-of-set-free Base = lit≤ tt
+last-of-set-free Wide = lit≤ tt
+last-of-set-free Dated = lit≤ tt
 
 -- whether one of these numbers is above the tasks of all tables
 abbrev pub someAbove : List ℕ → Bool
@@ -104,23 +107,23 @@ empty-exactly ns = go (someAbove ns) refl
     go true e = rw (le-ltb (setOf ns) (2 ^ lastOfSet) (set-above clipped clipped-high 0 ns e), or-true (eqb (length ns) 0))
     go false e = rw (whole-set ns e, or-false (eqb (length ns) 0)) (set-empty ns)
 
--- a set that reaches past all tables is 12 in every table of either kind
-past-all : (wide : Bool) (set tasks : ℕ) (phase : ℕ → ℕ) → tasks ≤ eitherKind wide .tasks → 2 ^ lastOfSet ≤ set → judgedArrival set tasks phase ≡ 12
+-- a set that reaches past all tables is 12 in every table of any kind
+past-all : (which : WhichKind) (set tasks : ℕ) (phase : ℕ → ℕ) → tasks ≤ anyKind which .tasks → 2 ^ lastOfSet ≤ set → judgedArrival set tasks phase ≡ 12
 unfolding judgedArrival
-past-all wide set tasks phase few reach =
-    let m : 2 ^ tasks ≤ 2 ^ lastOfSet = pow-mono (le-trans few (last-of-set-free wide)) in
+past-all which set tasks phase few reach =
+    let m : 2 ^ tasks ≤ 2 ^ lastOfSet = pow-mono (le-trans few (last-of-set-free which)) in
     let h : leb (2 ^ tasks) set ≡ true = le-leb (2 ^ tasks) set (le-trans m reach) in
     rw (h, or-true (eqb set 0))
 
--- what is handed over is judged as the set that the numbers name, by every table of either kind
+-- what is handed over is judged as the set that the numbers name, by every table of any kind
 pub judged-as-named :
-    (wide : Bool) (ns : List ℕ) (tasks : ℕ) (phase : ℕ → ℕ) → tasks ≤ eitherKind wide .tasks →
+    (which : WhichKind) (ns : List ℕ) (tasks : ℕ) (phase : ℕ → ℕ) → tasks ≤ anyKind which .tasks →
     judgedArrival (handedSet (setOf ns)) tasks phase ≡ judgedArrival (namedSet ns) tasks phase
 unfolding judgedArrival
-judged-as-named wide ns tasks phase few = go (someAbove ns) refl
+judged-as-named which ns tasks phase few = go (someAbove ns) refl
   where
     go : (b : Bool) → someAbove ns ≡ b → judgedArrival (handedSet (setOf ns)) tasks phase ≡ judgedArrival (namedSet ns) tasks phase
     go true e =
         let reach = set-above (λ n. n) (λ n h. h) 0 ns e in
-        rw (le-ltb (setOf ns) (2 ^ lastOfSet) (set-above clipped clipped-high 0 ns e)) (sym (past-all wide (namedSet ns) tasks phase few reach))
+        rw (le-ltb (setOf ns) (2 ^ lastOfSet) (set-above clipped clipped-high 0 ns e)) (sym (past-all which (namedSet ns) tasks phase few reach))
     go false e = rw (whole-set ns e, set-same 0 ns e)

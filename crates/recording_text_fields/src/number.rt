@@ -32,7 +32,7 @@ pub struct Numbers {
 }
 
 // Whether a byte is a decimal digit.
-fn is_digit(b: u8) -> bool
+pub fn is_digit(b: u8) -> bool
     ensures { λ r. ⌜ r ≡ isDigit b ⌝ }
 {
     (48 <= b) & (b <= 57)
@@ -48,7 +48,7 @@ fn grown(n: u64, digit: u8) -> u64
 }
 
 // What a field says as a number.
-fn number_of(field: &[u8]) -> Number
+pub fn number_of(field: &[u8]) -> Number
     ensures { λ r. ⌜ r ≡ fieldNumber (now (field .entry)) ⌝ }
 {
     let mut n = 0u64;

@@ -1,3 +1,5 @@
 -- Laws that the proofs cite, and worked examples.
 pub mod Letters
+pub mod Lines
+pub mod Whole
 pub mod Examples

@@ -1,2 +1,3 @@
 -- What the contracts cite.
 pub mod Answers
+pub mod Tables

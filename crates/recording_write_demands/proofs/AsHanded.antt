@@ -2,7 +2,7 @@
 -- Assumes nothing.
 use mathlib.Core.Path.{_≡_, sym, ap, _∙_}
 use mathlib.Core.Logic.{_≢_}
-use mathlib.Core.Bool.{Bool, true, or-true}
+use mathlib.Core.Bool.{true, or-true}
 use mathlib.Core.List.{List, [], _∷_, _++_}
 use Prim.Native.Nat.{ℕ, _+_, _^_, _≤_}
 use native.Mathlib.Nat.{le-trans}
@@ -14,9 +14,10 @@ use lib.Pow.{pow-mono}
 use Rattle.protocol.specs.Event.{Event, arrival}
 use Rattle.protocol.specs.Table.{Table}
 use Rattle.protocol.specs.History.{reads, past}
-use Rattle.protocol.specs.Schedule.{policyOf, judged}
+use Rattle.protocol.specs.Schedule.{judged}
+use Rattle.protocol_deadlines.specs.Timed.{Timed, timed, untimed, judgedAt}
+use Rattle.protocol_state.specs.Records.{Task, aheadOf}
 use Rattle.protocol_state.specs.Saved.{stateRoom}
-use Rattle.protocol_state.specs.Records.{aheadOf}
 use Rattle.byte_format.specs.Number.{bytesOf}
 use Rattle.byte_format.specs.Format.{Format, encodes, encodeSection}
 use Rattle.byte_format.specs.Play.{verdict, finally, Allowed}
@@ -26,18 +27,20 @@ use Rattle.byte_format.proofs.Weighing.{section-allowed}
 use Rattle.recording_format.specs.Link.{Link, links, andLink, linkFault}
 use Rattle.recording_format.specs.Event.{events}
 use Rattle.recording_format.specs.Task.{tasks}
-use Rattle.recording_format.specs.RecordingKind.{RecordingKind, eitherKind, linkLimit, eventLimit}
+use Rattle.recording_format.specs.declared.WhichKind.{WhichKind}
+use Rattle.recording_format.specs.RecordingKind.{RecordingKind, anyKind, linkLimit, eventLimit}
 use Rattle.recording_format.specs.Recording.{encodeRecording, tasksEnd, tableEnd, Core, stateAfter, Recorded}
 use Rattle.recording_format.specs.Writing.{tableWeighed, recordingWeighed, writing}
-use Rattle.recording_format.specs.Words.{linksSaid, eventsSaid}
-use Rattle.recording_format.proofs.BothKinds.{kind-room}
+use Rattle.recording_format.specs.Words.{tasksSaid, linksSaid, eventsSaid}
+use Rattle.recording_format.proofs.AllKinds.{kind-room, kind-dates}
 use Rattle.recording_format.proofs.Onward.{in-order}
+use Rattle.recording_format.proofs.TaskRules.{fitting-policed}
 use Rattle.recording_format.proofs.LinkRules.{recorded-judged}
 use Rattle.recording_format.proofs.AsWritten.{tasks-weighed}
 use Rattle.recording_format.proofs.Sizes.{within-events}
-use Rattle.recording_core.specs.Playing.{coreOf, judgedIn, alone}
+use Rattle.recording_core.specs.Playing.{Playing, coreOf, judgedIn, alone}
 use Rattle.recording_core.specs.Promise.{refusedBy}
-use Rattle.recording_core.proofs.Right.{refused-by}
+use Rattle.recording_core.proofs.Right.{refused-by, fits-still}
 use Rattle.recording_core.proofs.Rooms.{whole-with-room}
 use Rattle.recording_write.specs.declared.Written.{Written}
 use Rattle.demands.specs.Station.{station}
@@ -61,11 +64,11 @@ module _ {A S : Type 0} (F : Format A) (judge : S → A → ℕ) (step : S → A
       let e : p + length (F .encode y) + length (encodes F xs) ≡ p + length (encodes F (y ∷ xs)) = omega (arith, length-append (F .encode y) (encodes F xs)) in
       rw (eq-eqb (judge q y) 0 (a .0)) (rw e at i)
 
-module _ {S : Type 0} (kind : RecordingKind) (core : Core S) {s ds : List ℕ} {ls : List Link} {es : List (Event ℕ)} (k : Recorded kind core s ds ls es) where
+module _ {S : Type 0} (kind : RecordingKind) (core : Core S) {s : List ℕ} {ds : List Task} {ls : List Link} {es : List (Timed ℕ)} (k : Recorded kind core s ds ls es) where
   -- an event that is refused after a recording, whatever stands after it: the place is where the recording ends
   whole-stops :
-      (ending : ℕ) (x : Event ℕ) (rest : List (Event ℕ)) → eventLimit kind (tally (handed (es ++ (x ∷ rest)) ending)) ≡ 0 → core .judge (stateAfter core ds ls es) x ≢ 0 →
-      recordingWeighed kind core ds (handed ls 0) (handed (es ++ (x ∷ rest)) ending)
+      (ending : ℕ) (x : Timed ℕ) (rest : List (Timed ℕ)) → eventLimit kind (tally (handed (es ++ (x ∷ rest)) ending)) ≡ 0 → core .judge (stateAfter core ds ls es) x ≢ 0 →
+      recordingWeighed kind core (handed ds 0) (handed ls 0) (handed (es ++ (x ∷ rest)) ending)
       ≡ verdict (core .judge (stateAfter core ds ls es) x) (length (encodeRecording kind ds ls es)) (stateAfter core ds ls es)
   unfolding recordingWeighed tableWeighed weighedSection
   whole-stops ending x rest few n =
@@ -81,7 +84,7 @@ module _ {S : Type 0} (kind : RecordingKind) (core : Core S) {s ds : List ℕ} {
         length-bytes (kind .eventCountWidth) (length es),
       ) in
       rw (
-        tasks-weighed kind ds (k .tasked .few),
+        tasks-weighed kind ds (k .tasked .few) (k .tasked .allowed),
         section-allowed (links kind) (linkLimit kind) (linkFault (aheadOf ds) (length ds)) andLink [] [] ls (tasksEnd kind ds) (k .linked .few) (k .linked .allowed),
         in-order [] ls,
         few,
@@ -91,50 +94,61 @@ module _ {S : Type 0} (kind : RecordingKind) (core : Core S) {s ds : List ℕ} {
       )
 
 module _
-    {wide : Bool} (es : List (Event ℕ)) (x : Event ℕ) (rest : List (Event ℕ)) {ds lw ew old new out : List ℕ} {a : Written} {ls : List Link} {r : ℕ}
-    (said : WritesAs wide ds lw ew old a new) (linked : linksSaid lw ≡ handed ls 0) (begun : eventsSaid ew .whole ≡ es ++ (x ∷ rest))
-    (few : tally (eventsSaid ew) ≤ eitherKind wide .events) (g : Genuine wide (recordingBytes wide ds ls es) out ds ls es) (room : reads (eventsSaid ew .whole) ≤ length out)
-    (earned : r ≡ judged (station ds ls) (policyOf (station ds ls)) (past [] es) x) (n : r ≢ 0) where
-  kept : Recorded (eitherKind wide) (coreOf stateRoom out) (recordingBytes wide ds ls es) ds ls es
+    {which : WhichKind} (es : List (Timed ℕ)) (x : ℕ) (e : Event ℕ) (rest : List (Timed ℕ)) {tw lw ew old new out : List ℕ} {a : Written} {ds : List Task} {ls : List Link} {r : ℕ}
+    (said : WritesAs which tw lw ew old a new) (tasked : tasksSaid (anyKind which) tw ≡ handed ds 0) (linked : linksSaid lw ≡ handed ls 0)
+    (begun : eventsSaid (anyKind which) ew .whole ≡ es ++ (timed x e ∷ rest)) (few : tally (eventsSaid (anyKind which) ew) ≤ anyKind which .events)
+    (g : Genuine which (recordingBytes which ds ls es) out ds ls es) (room : reads (untimed (eventsSaid (anyKind which) ew .whole)) ≤ length out)
+    (earned : r ≡ judgedAt (station ds ls) (past [] es) x e) (n : r ≢ 0) where
+  -- the core by which the reader judges
+  abbrev readerCore : Core Playing
+  readerCore = coreOf stateRoom (anyKind which .policy) out
+
+  kept : Recorded (anyKind which) readerCore (recordingBytes which ds ls es) ds ls es
   kept = genuine-kept g
 
-  -- the core refuses it so, by the table and the events before it
-  refused : judgedIn (stateAfter (coreOf stateRoom out) ds ls es) x ≡ r
+  -- it refuses it so, by the table and the events before it
+  refused : judgedIn (stateAfter readerCore ds ls es) (timed x e) ≡ r
   refused =
-      let w = went out ds ls es (recorded-judged (eitherKind wide) stateRoom (kind-room wide) (coreOf stateRoom out) (recordingBytes wide ds ls es) ds ls es kept) (kept .played .allowed) in
-      refused-by (w .right) x ∙ ap (λ (T : Table ℕ). refusedBy T out (past [] es) x) (w .same) ∙ rw (← earned, ne-eqb r 0 n)
+      let kind = anyKind which in
+      let dates = kind-dates which in
+      let w = went (kind .policy) out ds ls es (fitting-policed kind dates ds (kept .tasked .fits)) (fits-still kind dates es (kept .played .fits))
+      (recorded-judged kind dates stateRoom (kind-room which) readerCore (recordingBytes which ds ls es) ds ls es kept) (kept .played .allowed) in
+      refused-by (w .right) (timed x e) ∙ ap (λ (T : Table ℕ). refusedBy T out (past [] es) (timed x e)) (w .own) ∙ rw (← earned, ne-eqb r 0 n)
 
   -- what is judged of all that is handed over
   all-judged :
-      recordingWeighed (eitherKind wide) (coreOf stateRoom out) ds (linksSaid lw) (eventsSaid ew)
-      ≡ verdict r (length (recordingBytes wide ds ls es)) (stateAfter (coreOf stateRoom out) ds ls es)
+      recordingWeighed (anyKind which) readerCore (tasksSaid (anyKind which) tw) (linksSaid lw) (eventsSaid (anyKind which) ew)
+      ≡ verdict r (length (recordingBytes which ds ls es)) (stateAfter readerCore ds ls es)
   all-judged =
-      let ending = eventsSaid ew .ending in
-      let limit : eventLimit (eitherKind wide) (tally (handed (es ++ (x ∷ rest)) ending)) ≡ 0 = rw (← begun) (within-events (eitherKind wide) (tally (eventsSaid ew)) few) in
-      let stops = whole-stops (eitherKind wide) (coreOf stateRoom out) kept ending x rest limit (λ z. n (sym refused ∙ z)) in
-      ap (λ (h : Handed Link). recordingWeighed (eitherKind wide) (coreOf stateRoom out) ds h (eventsSaid ew)) linked
-      ∙ ap (λ (xs : List (Event ℕ)). recordingWeighed (eitherKind wide) (coreOf stateRoom out) ds (handed ls 0) (handed xs ending)) begun
+      let kind = anyKind which in
+      let ending = eventsSaid (anyKind which) ew .ending in
+      let limit : eventLimit (anyKind which) (tally (handed (es ++ (timed x e ∷ rest)) ending)) ≡ 0 = rw (← begun) (within-events (anyKind which) (tally (eventsSaid (anyKind which) ew)) few) in
+      let stops = whole-stops kind readerCore kept ending (timed x e) rest limit (λ z. n (sym refused ∙ z)) in
+      ap (λ (h : Handed Task). recordingWeighed kind readerCore h (linksSaid lw) (eventsSaid kind ew)) tasked
+      ∙ ap (λ (h : Handed Link). recordingWeighed kind readerCore (handed ds 0) h (eventsSaid kind ew)) linked
+      ∙ ap (λ (xs : List (Timed ℕ)). recordingWeighed kind readerCore (handed ds 0) (handed ls 0) (handed xs ending)) begun
       ∙ stops
-      ∙ ap (λ (k : ℕ). verdict k (length (recordingBytes wide ds ls es)) (stateAfter (coreOf stateRoom out) ds ls es)) refused
+      ∙ ap (λ (k : ℕ). verdict k (length (recordingBytes which ds ls es)) (stateAfter readerCore ds ls es)) refused
 
   -- so the writer refuses it so, before it asks for room
-  pub handed-so : (a .refusal ≡ r) × (a .place ≡ length (recordingBytes wide ds ls es))
+  pub handed-so : (a .refusal ≡ r) × (a .place ≡ length (recordingBytes which ds ls es))
   unfolding writing
   handed-so =
-      let whole = whole-with-room (eitherKind wide) stateRoom out ds (linksSaid lw) (eventsSaid ew) (room-past (eventsSaid ew .whole) room) ∙ ap alone all-judged in
-      let e : a ≡ record { refusal = r; place = length (recordingBytes wide ds ls es) } = said .answer ∙ rw (whole, ne-eqb r 0 n) in
+      let kind = anyKind which in
+      let whole = whole-with-room kind stateRoom (kind .policy) out (tasksSaid kind tw) (linksSaid lw) (eventsSaid kind ew) (room-past (eventsSaid kind ew .whole) room) ∙ ap alone all-judged in
+      let e : a ≡ record { refusal = r; place = length (recordingBytes which ds ls es) } = said .answer ∙ rw (whole, ne-eqb r 0 n) in
       (ap (λ (w : Written). w .refusal) e, ap (λ (w : Written). w .place) e)
 
 -- what an event earns is what it is judged
 pub earned-judged :
-    (T : Table ℕ) (h : List (Event ℕ)) (x : Event ℕ) {r : ℕ} → Earns (EventBreaks T (byHistory h) x) r → r ≡ judged T (policyOf T) h x
-earned-judged T h x e = earns-one e (judged-earned T h x)
+    (T : Table ℕ) (H : List (Timed ℕ)) (x : ℕ) (e : Event ℕ) {r : ℕ} → Earns (EventBreaks T (byHistory T H) x e) r → r ≡ judgedAt T H x e
+earned-judged T H x e i = earns-one i (judged-earned T H x e)
 
--- a set that reaches past the tasks of the kind is 12
+-- a set that reaches past the tasks of the kind is 12, whatever its tick
 pub beyond-judged :
-    (wide : Bool) (ds : List ℕ) (ls : List Link) (h : List (Event ℕ)) {m : ℕ} → length ds ≤ eitherKind wide .tasks → 2 ^ (eitherKind wide .tasks) ≤ m →
-    12 ≡ judged (station ds ls) (policyOf (station ds ls)) h (arrival m)
-unfolding judged
-beyond-judged wide ds ls h {m} few reach =
+    (which : WhichKind) (ds : List Task) (ls : List Link) (H : List (Timed ℕ)) (x : ℕ) {m : ℕ} → length ds ≤ anyKind which .tasks → 2 ^ (anyKind which .tasks) ≤ m →
+    12 ≡ judgedAt (station ds ls) H x (arrival m)
+unfolding judged judgedAt
+beyond-judged which ds ls H x {m} few reach =
     let past : leb (2 ^ length ds) m ≡ true = le-leb (2 ^ length ds) m (le-trans (pow-mono few) reach) in
     rw (past, or-true (eqb m 0))

@@ -8,7 +8,7 @@ use Rattle.recording_write.proofs.write.Kinds.{ps, r}
 use Rattle.recording_write.proofs.write.Reads.{Learnt}
 use Rattle.recording_write_demands.specs.Ensured.{Writes}
 
--- a call: `given` are the kind that is told, and the defaults, the numbers of links and events, and the buffer that are lent, a is the answer, and `left`
+-- a call: `given` are the kind that is told, and the numbers of tasks, links and events, and the buffer that are lent, a is the answer, and `left`
 -- is what the four then hold
 module _ (κs : Lfts 4) (given : Dens κs ps) (a : resT r κs .Denot) (left : AtExit (endedOf 4 ps r) κs) where
   pub learnt-ensured :

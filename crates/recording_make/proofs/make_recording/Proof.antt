@@ -16,8 +16,8 @@ returns c =
     let r = c .before .before .read-text in
     (made-unread _ (r .result) (r .ensures .0) (c .if1 .taken) _, buffer-unread _ (r .result) (r .ensures .0) (c .if1 .taken) _)
 
-array-share-prefix-defaults : tie.Need-array-share-prefix-defaults
-array-share-prefix-defaults c =
+array-share-prefix-tasks : tie.Need-array-share-prefix-tasks
+array-share-prefix-tasks c =
     let r = c .before .before .read-text in
     tasks-within _ (r .result) (r .ensures .0) _ (r .ensures .1 .0)
 
@@ -71,7 +71,7 @@ make-recording-spec =
     (tie.spec
     read-text-requires
     returns
-    array-share-prefix-defaults
+    array-share-prefix-tasks
     slice-aggregate-make-written
     array-share-prefix-links
     slice-aggregate-make-written-2

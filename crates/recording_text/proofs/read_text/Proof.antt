@@ -1,30 +1,31 @@
 -- `recording_text::read_text` meets its contract. The loop's invariant: the lines before the place can be read, and what they say is stored. The measure is what is left of the text.
 -- Assumes nothing.
 use mathlib.Core.Path.{_≡_, refl, sym, ap, _∙_}
-use mathlib.Core.List.{List, [], _∷_, _++_}
-use Prim.Native.Nat.{ℕ, _-_}
+use mathlib.Core.Bool.{Bool}
+use mathlib.Core.List.{List, []}
+use Prim.Native.Nat.{_-_}
 use native.Mathlib.Omega.{arith}
 use borrow.Author.Tests.{not-true, not-false, ne-eqb}
 use lib.ListN.{length}
 use Rattle.recording_text.specs.declared.KnownKind.{KnownKind}
 use Rattle.recording_text_fields.specs.Pieces.{between}
-use Rattle.recording_text_line.specs.Line.{says}
+use Rattle.recording_text_line.specs.Line.{Says, says, saidOf, isDated}
 use Rattle.recording_text.specs.Text.{faultIn, tasksKept, linksKept, eventsKept}
-use Rattle.recording_text.proofs.Stores.{Held, held-none, held-more}
-use Rattle.recording_text.proofs.Known.{Told, told-none, known-more, told-more}
+use Rattle.recording_text.proofs.Stores.{andLine, Held, held-none, held-more}
+use Rattle.recording_text.proofs.Known.{Told, told-none, known-more, dated-more, told-more}
 use Rattle.recording_text.proofs.Texts.{Before, before-none, before-more, stops, ends, list-held, answered}
 use borrow.Author.Needs.{needs}
 use Rattle.recording_text.proofs.read_text.Statement.{statement}
 use Rattle.recording_text.proofs.read_text.Tie as tie
 
 abbrev Inv-loop : tie.InvT-loop
-Inv-loop text defaults₀ links₀ events₀ kind₀ task₀ link₀ event₀ line₀ at₀ defaults links events kind task link event line at =
-    (done : List (List ℕ))
-    × (Before text line at done (kind .known)
-    × (Told done kind × (Held 1 tasksKept done defaults₀ defaults task × (Held 2 linksKept done links₀ links link × Held 3 eventsKept done events₀ events event))))
+Inv-loop text tasks₀ links₀ events₀ kind₀ task₀ link₀ event₀ line₀ at₀ tasks links events kind task link event line at =
+    (done : List Says)
+    × (Before text line at done (kind .known) (isDated (kind .number))
+    × (Told done kind × (Held 1 tasksKept done tasks₀ tasks task × (Held 2 linksKept done links₀ links link × Held 3 eventsKept done events₀ events event))))
 
 abbrev μ-loop : tie.MeasureT-loop
-μ-loop text defaults₀ links₀ events₀ kind₀ task₀ link₀ event₀ line₀ at₀ defaults links events kind task link event line at =
+μ-loop text tasks₀ links₀ events₀ kind₀ task₀ link₀ event₀ line₀ at₀ tasks links events kind task link event line at =
     length text - at
 
 no-kind-requires : tie.Need-no-kind-requires Inv-loop μ-loop
@@ -45,10 +46,10 @@ loop-holds c =
     let a = c .before .before .before .before .before .args in (
       [],
       (
-        before-none (a .text .now) (ap (λ (k : KnownKind). k .known) (kind .ensures)),
+        before-none (a .text .now) (ap (λ (k : KnownKind). k .known) (kind .ensures)) (ap (λ (k : KnownKind). isDated (k .number)) (kind .ensures)),
         (
           told-none (kind .ensures),
-          (held-none 1 tasksKept (a .defaults .now) (c .before .before .none-kept .ensures), (held-none 2 linksKept (a .links .now) (c .before .none-kept2 .ensures), held-none 3 eventsKept (a .events .now) (c .none-kept3 .ensures))),
+          (held-none 1 tasksKept (a .tasks .now) (c .before .before .none-kept .ensures), (held-none 2 linksKept (a .links .now) (c .before .none-kept2 .ensures), held-none 3 eventsKept (a .events .now) (c .none-kept3 .ensures))),
         ),
       ),
     )
@@ -65,12 +66,15 @@ part-line-says-start c = c .piece-end .ensures .0 (c .before .loop-test .taken) 
 part-line-says-end : tie.Need-part-line-says-end Inv-loop μ-loop
 part-line-says-end c = c .piece-end .ensures .0 (c .before .loop-test .taken) .within
 
+is-dated-requires : tie.Need-is-dated-requires Inv-loop μ-loop
+is-dated-requires c κs = search needs
+
 line-says-requires : tie.Need-line-says-requires Inv-loop μ-loop
 line-says-requires c κs = search needs
 
 add-line : tie.Need-add-line Inv-loop μ-loop
 add-line c =
-    let test = c .before .before .before in
+    let test = c .before .before .before .before in
     omega (arith, test .loop-test .taken, test .before .loop .inv .1 .0 .near)
 
 fault-in-requires : tie.Need-fault-in-requires Inv-loop μ-loop
@@ -83,13 +87,14 @@ returns : tie.Need-returns Inv-loop μ-loop
 returns c =
     let fault = c .before .before in
     let said = fault .before in
-    let piece = said .before .before in
+    let piece = said .before .before .before in
     let l = piece .before .before .loop in
     let text = piece .before .before .before .before .before .before .before .before .args .text .now in
     let told = l .inv .1 .1 .0 in
     let held = l .inv .1 .1 .1 in
-    let f = fault .fault-in .ensures ∙ ap (faultIn (l .kind .known)) (said .line-says .ensures .0) in
-    let s = stops text (l .inv .1 .0) (piece .piece-end .ensures .0 (piece .before .loop-test .taken)) f (c .before .if1 .taken) in
+    let x = said .line-says .result in
+    let q = said .line-says .ensures .0 ∙ ap (λ (d : Bool). says d (between (l .at) (piece .piece-end .result) text)) (said .before .is-dated .ensures) in
+    let s = stops text (l .inv .1 .0) (piece .piece-end .ensures .0 (piece .before .loop-test .taken)) x q (fault .fault-in .ensures) (c .before .if1 .taken) in
     let n = ne-eqb (fault .fault-in .result) 0 (c .before .if1 .taken) in (
       answered text (s .0) (s .1) (rw n (omega (arith, l .inv .1 .0 .many))) (told .number) (held .0 .numbers) (held .1 .0 .numbers) (held .1 .1 .numbers) (c .answer .ensures),
       (list-held text (s .0) 1 tasksKept (held .0), (list-held text (s .0) 2 linksKept (held .1 .0), list-held text (s .0) 3 eventsKept (held .1 .1))),
@@ -101,29 +106,29 @@ kind-after-requires c κs = search needs
 keep-requires : tie.Need-keep-requires Inv-loop μ-loop
 keep-requires c κs =
     let said = c .before .before .before .before in
-    let l = said .before .before .before .before .loop in
+    let l = said .before .before .before .before .before .loop in
     record { size = said .line-says .ensures .1 .0 .few; stored = l .inv .1 .1 .1 .0 .few; whole = search needs; small = omega arith }
 
 keep-requires-2 : tie.Need-keep-requires-2 Inv-loop μ-loop
 keep-requires-2 c κs =
     let said = c .before .before .before .before .before .before in
-    let l = said .before .before .before .before .loop in
+    let l = said .before .before .before .before .before .loop in
     record { size = said .line-says .ensures .1 .0 .few; stored = l .inv .1 .1 .1 .1 .0 .few; whole = search needs; small = omega arith }
 
 keep-requires-3 : tie.Need-keep-requires-3 Inv-loop μ-loop
 keep-requires-3 c κs =
     let said = c .before .before .before .before .before .before .before .before in
-    let l = said .before .before .before .before .loop in
+    let l = said .before .before .before .before .before .loop in
     record { size = said .line-says .ensures .1 .0 .few; stored = l .inv .1 .1 .1 .1 .1 .few; whole = search needs; small = omega arith }
 
 add-at : tie.Need-add-at Inv-loop μ-loop
 add-at c =
-    let piece = c .before .before .before .before .before .before .before .before .before .before .before in
+    let piece = c .before .before .before .before .before .before .before .before .before .before .before .before in
     omega (arith, piece .piece-end .ensures .0 (piece .before .loop-test .taken) .within, piece .before .before .before .before .before .before .before)
 
 loop-less : tie.Need-loop-less Inv-loop μ-loop
 loop-less c =
-    let piece = c .before .before .before .before .before .before .before .before .before .before .before in
+    let piece = c .before .before .before .before .before .before .before .before .before .before .before .before in
     omega (arith, piece .piece-end .ensures .0 (piece .before .loop-test .taken) .after, piece .before .loop-test .taken)
 
 loop-again : tie.Need-loop-again Inv-loop μ-loop
@@ -132,30 +137,29 @@ loop-again c =
     let no = kind .before in
     let fault = no .before in
     let said = fault .before in
-    let piece = said .before .before in
+    let piece = said .before .before .before in
     let l = piece .before .before .loop in
     let a = piece .before .before .before .before .before .before .before .before .args in
     let text = a .text .now in
     let done = l .inv .0 in
     let told = l .inv .1 .1 .0 in
     let held = l .inv .1 .1 .1 in
-    let line = between (l .at) (piece .piece-end .result) text in
     let x = said .line-says .result in
-    let q = said .line-says .ensures .0 in
+    let q = said .line-says .ensures .0 ∙ ap (λ (d : Bool). says d (between (l .at) (piece .piece-end .result) text)) (said .before .is-dated .ensures) in
     let padded = said .line-says .ensures .1 .0 in
     let four = said .line-says .ensures .1 .1 in
-    let z : faultIn (l .kind .known) (says line) ≡ 0 = sym (fault .fault-in .ensures ∙ ap (faultIn (l .kind .known)) q) ∙ no .if1 .left in
+    let z : faultIn (l .kind .known) (saidOf x) ≡ 0 = sym (fault .fault-in .ensures) ∙ no .if1 .left in
     let k = kind .kind-after .ensures in (
-      done ++ (line ∷ []),
+      andLine done x,
       (
-        before-more text (l .inv .1 .0) (piece .piece-end .ensures .0 (piece .before .loop-test .taken)) (piece .before .loop-test .taken) z (known-more told line x q padded z k),
+        before-more text (l .inv .1 .0) (piece .piece-end .ensures .0 (piece .before .loop-test .taken)) x q (piece .before .loop-test .taken) z (known-more told x padded z k) (dated-more told x padded z k),
         (
-          told-more told line x q padded z k,
+          told-more told x padded z k,
           (
-            held-more 1 tasksKept done (a .defaults .now) (held .0) line x q (padded .few) four (c .before .before .before .before .keep .ensures .0) (c .before .before .before .before .keep .ensures .1),
+            held-more 1 tasksKept done (a .tasks .now) (held .0) x (padded .few) four (c .before .before .before .before .keep .ensures .0) (c .before .before .before .before .keep .ensures .1),
             (
-              held-more 2 linksKept done (a .links .now) (held .1 .0) line x q (padded .few) four (c .before .before .keep2 .ensures .0) (c .before .before .keep2 .ensures .1),
-              held-more 3 eventsKept done (a .events .now) (held .1 .1) line x q (padded .few) four (c .keep3 .ensures .0) (c .keep3 .ensures .1),
+              held-more 2 linksKept done (a .links .now) (held .1 .0) x (padded .few) four (c .before .before .keep2 .ensures .0) (c .before .before .keep2 .ensures .1),
+              held-more 3 eventsKept done (a .events .now) (held .1 .1) x (padded .few) four (c .keep3 .ensures .0) (c .keep3 .ensures .1),
             ),
           ),
         ),
@@ -212,6 +216,7 @@ read-text-spec =
     sub-line-says
     part-line-says-start
     part-line-says-end
+    is-dated-requires
     line-says-requires
     add-line
     fault-in-requires

@@ -1,10 +1,11 @@
--- `recording_text_line::fields_say` meets its contract: each way out is one reading of the first field and the numbers behind it.
+-- `recording_text_line::fields_say` meets its contract: each way out is one reading of the first field.
 -- Assumes nothing.
 use mathlib.Core.Path.{sym, _∙_}
-use mathlib.Core.Bool.{true}
-use Rattle.recording_text_fields.specs.Pieces.{separator}
-use Rattle.recording_text_line.specs.Line.{saidOf}
-use Rattle.recording_text_fields.proofs.Splits.{has-byte}
+use Prim.Native.Nat.{_+_}
+use native.Mathlib.Omega.{arith}
+use borrow.Author.Tests.{not-true, not-false}
+use lib.ListN.{drop}
+use Rattle.recording_text_fields.specs.Pieces.{fields, between}
 use Rattle.recording_text_line.proofs.Letters as letters
 use borrow.Author.Needs.{needs}
 use Rattle.recording_text_line.proofs.fields_say.Statement.{statement}
@@ -13,8 +14,8 @@ use Rattle.recording_text_line.proofs.fields_say.Tie as tie
 piece-end-requires : tie.Need-piece-end-requires
 piece-end-requires c κs = search needs
 
-shared-slice-read-letter : tie.Need-shared-slice-read-letter
-shared-slice-read-letter c = search needs
+shared-slice-read-first : tie.Need-shared-slice-read-first
+shared-slice-read-first c = search needs
 
 no-record-requires : tie.Need-no-record-requires
 no-record-requires c κs = search needs
@@ -22,115 +23,88 @@ no-record-requires c κs = search needs
 returns : tie.Need-returns
 returns c =
     let piece = c .before .before .before in
-    let a = piece .before .before .args in
-    let s = a .line .now in
-    let e = piece .piece-end .result in
-    let p = piece .before .before .pre in
-    let w = piece .piece-end .ensures .0 (p .0) in
-    let h = has-byte (separator true) s (a .at) e w (p .0) (p .1) in
-    (c .no-record .ensures .0 ∙ sym (letters.remark s (a .at) e w h (c .before .if1 .taken)), c .no-record .ensures .1)
+    let start = piece .before .before in
+    let a = start .args in
+    let w = letters.field (a .line .now) (a .at) (piece .piece-end .result) (start .pre .0) (start .pre .1) (piece .piece-end .ensures .0) in
+    (c .no-record .ensures .0 ∙ sym (letters.remark (a .dated) w (c .before .if1 .taken)), c .no-record .ensures .1)
 
-add-if2 : tie.Need-add-if2
-add-if2 c = search needs
+is-digit-requires : tie.Need-is-digit-requires
+is-digit-requires c κs = search needs
 
-no-record-requires-2 : tie.Need-no-record-requires-2
-no-record-requires-2 c κs = search needs
+tick-says-requires : tie.Need-tick-says-requires
+tick-says-requires c κs =
+    let piece = c .before .before .before .before in
+    let w = piece .piece-end .ensures .0 (piece .before .before .pre .0) in
+    (w .after, w .within)
 
 returns-2 : tie.Need-returns-2
 returns-2 c =
+    let digit = c .before .before in
+    let piece = digit .before .before .before in
+    let start = piece .before .before in
+    let a = start .args in
+    let w = letters.field (a .line .now) (a .at) (piece .piece-end .result) (start .pre .0) (start .pre .1) (piece .piece-end .ensures .0) in
+    (c .tick-says .ensures .0 ∙ sym (letters.ticked (a .dated) w (digit .before .if1 .left) (digit .is-digit .ensures) (c .before .if2 .taken)), c .tick-says .ensures .1)
+
+letter-at-requires : tie.Need-letter-at-requires
+letter-at-requires c κs =
     let piece = c .before .before .before .before in
-    let a = piece .before .before .args in
-    let s = a .line .now in
-    let e = piece .piece-end .result in
-    let p = piece .before .before .pre in
-    let w = piece .piece-end .ensures .0 (p .0) in
-    let h = has-byte (separator true) s (a .at) e w (p .0) (p .1) in
-    (c .no-record2 .ensures .0 ∙ sym (letters.word s (a .at) e w h (c .before .before .if1 .left) (c .before .if2 .taken)), c .no-record2 .ensures .1)
+    let start = piece .before .before in
+    let a = start .args in
+    let w = letters.field (a .line .now) (a .at) (piece .piece-end .result) (start .pre .0) (start .pre .1) (piece .piece-end .ensures .0) in
+    (w .some, w .ends .within)
 
 sort-of-requires : tie.Need-sort-of-requires
 sort-of-requires c κs = search needs
 
-no-record-requires-3 : tie.Need-no-record-requires-3
-no-record-requires-3 c κs = search needs
+may-begin-requires : tie.Need-may-begin-requires
+may-begin-requires c κs = search needs
+
+no-record-requires-2 : tie.Need-no-record-requires-2
+no-record-requires-2 c κs = search needs
 
 returns-3 : tie.Need-returns-3
 returns-3 c =
-    let piece = c .before .before .before .before .before .before in
-    let a = piece .before .before .args in
+    let begin = c .before .before in
+    let letter = begin .before .before in
+    let digit = letter .before .before in
+    let piece = digit .before .before .before in
+    let start = piece .before .before in
+    let a = start .args in
     let s = a .line .now in
     let e = piece .piece-end .result in
-    let p = piece .before .before .pre in
-    let w = piece .piece-end .ensures .0 (p .0) in
-    let h = has-byte (separator true) s (a .at) e w (p .0) (p .1) in
-    let sort = c .before .before in (
-      c .no-record3 .ensures .0 ∙ sym (letters.unknown s (a .at) e w h (sort .before .before .if1 .left) (sort .before .if2 .left) (sym (sort .sort-of .ensures) ∙ c .before .if3 .taken)),
-      c .no-record3 .ensures .1,
+    let w = letters.field s (a .at) e (start .pre .0) (start .pre .1) (piece .piece-end .ensures .0) in (
+      c .no-record2 .ensures .0
+          ∙ sym
+          (letters.unticked (a .dated) w (digit .before .if1 .left) (digit .is-digit .ensures) (letter .before .if2 .left)
+          ∙ letters.unknown (a .dated) (between (a .at) e s) (fields (drop (e + 1) s)) (letter .letter-at .ensures) (begin .before .sort-of .ensures) (begin .may-begin .ensures) (not-true _ (c .before .if3 .taken))),
+      c .no-record2 .ensures .1,
     )
 
-add-numbers-from : tie.Need-add-numbers-from
-add-numbers-from c = search needs
+add-letter-says : tie.Need-add-letter-says
+add-letter-says c =
+    let piece = c .before .before .before .before .before .before .before .before in
+    omega (arith, piece .piece-end .ensures .0 (piece .before .before .pre .0) .within)
 
-numbers-from-requires : tie.Need-numbers-from-requires
-numbers-from-requires c κs = search needs
-
-no-record-requires-4 : tie.Need-no-record-requires-4
-no-record-requires-4 c κs = search needs
+letter-says-requires : tie.Need-letter-says-requires
+letter-says-requires c κs = search needs
 
 returns-4 : tie.Need-returns-4
 returns-4 c =
-    let piece = c .before .before .before .before .before .before .before .before .before in
-    let a = piece .before .before .args in
+    let begin = c .before .before in
+    let letter = begin .before .before in
+    let digit = letter .before .before in
+    let piece = digit .before .before .before in
+    let start = piece .before .before in
+    let a = start .args in
     let s = a .line .now in
     let e = piece .piece-end .result in
-    let p = piece .before .before .pre in
-    let w = piece .piece-end .ensures .0 (p .0) in
-    let h = has-byte (separator true) s (a .at) e w (p .0) (p .1) in
-    let numbers = c .before .before .before in
-    let sort = numbers .before .before in (
-      c .no-record4 .ensures .0
+    let w = letters.field s (a .at) e (start .pre .0) (start .pre .1) (piece .piece-end .ensures .0) in (
+      c .letter-says .ensures .0
           ∙ sym
-          (letters.no-numbers
-          s
-          (a .at)
-          e
-          w
-          h
-          (sort .before .before .if1 .left)
-          (sort .before .if2 .left)
-          (λ z. numbers .before .if3 .left (sort .sort-of .ensures ∙ z))
-          (numbers .numbers-from .ensures)
-          (c .before .if4 .taken)),
-      c .no-record4 .ensures .1,
-    )
-
-record-of-requires : tie.Need-record-of-requires
-record-of-requires c κs = search needs
-
-returns-5 : tie.Need-returns-5
-returns-5 c =
-    let piece = c .before .before .before .before .before .before .before .before .before in
-    let a = piece .before .before .args in
-    let s = a .line .now in
-    let e = piece .piece-end .result in
-    let p = piece .before .before .pre in
-    let w = piece .piece-end .ensures .0 (p .0) in
-    let h = has-byte (separator true) s (a .at) e w (p .0) (p .1) in
-    let numbers = c .before .before .before in
-    let sort = numbers .before .before in (
-      letters.some-numbers
-          s
-          (a .at)
-          e
-          w
-          h
-          (sort .before .before .if1 .left)
-          (sort .before .if2 .left)
-          (λ z. numbers .before .if3 .left (sort .sort-of .ensures ∙ z))
-          (numbers .numbers-from .ensures)
-          (c .before .if4 .left)
-          (saidOf (c .record-of .result))
-          (c .record-of .ensures .0),
-      c .record-of .ensures .1,
+          (letters.unticked (a .dated) w (digit .before .if1 .left) (digit .is-digit .ensures) (letter .before .if2 .left)
+          ∙ letters.known (a .dated) (between (a .at) e s) (fields (drop (e + 1) s)) (letter .letter-at .ensures) (begin .before .sort-of .ensures) (begin .may-begin .ensures) (not-false _ (c .before .if3 .left))),
+      c .letter-says .ensures .1,
     )
 
 pub fields-say-spec : {M : Type 1} → statement M
@@ -138,18 +112,17 @@ fields-say-spec =
     tie.close
     (tie.spec
     piece-end-requires
-    shared-slice-read-letter
+    shared-slice-read-first
     no-record-requires
     returns
-    add-if2
-    no-record-requires-2
+    is-digit-requires
+    tick-says-requires
     returns-2
+    letter-at-requires
     sort-of-requires
-    no-record-requires-3
+    may-begin-requires
+    no-record-requires-2
     returns-3
-    add-numbers-from
-    numbers-from-requires
-    no-record-requires-4
-    returns-4
-    record-of-requires
-    returns-5)
+    add-letter-says
+    letter-says-requires
+    returns-4)

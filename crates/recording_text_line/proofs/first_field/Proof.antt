@@ -1,7 +1,7 @@
--- `recording_text_line::first_field` meets its contract. The loop's invariant: only blanks stand before the place. The measure is what is left of the line.
+-- `recording_text_line::first_field` meets its contract. The loop's invariant: only blanks stand between the two places. The measure is what is left of the line.
 -- Assumes nothing.
 use mathlib.Core.Path.{_≡_, refl, sym, _∙_}
-use Prim.Native.Nat.{_-_, _≤_}
+use Prim.Native.Nat.{_-_}
 use native.Mathlib.Omega.{arith}
 use borrow.Author.Tests.{not-true, not-false}
 use lib.ListN.{length, drop}
@@ -12,13 +12,13 @@ use Rattle.recording_text_line.proofs.first_field.Statement.{statement}
 use Rattle.recording_text_line.proofs.first_field.Tie as tie
 
 abbrev Inv-loop : tie.InvT-loop
-Inv-loop line at₀ at = (at ≤ length line) × (fields (drop at line) ≡ fields line)
+Inv-loop line from at₀ at = fields (drop at line) ≡ fields (drop from line)
 
 abbrev μ-loop : tie.MeasureT-loop
-μ-loop line at₀ at = length line - at
+μ-loop line from at₀ at = length line - at
 
 loop-holds : tie.Need-loop-holds Inv-loop μ-loop
-loop-holds c = (omega arith, refl)
+loop-holds c = refl
 
 shared-slice-read-separates : tie.Need-shared-slice-read-separates Inv-loop μ-loop
 shared-slice-read-separates c = search needs
@@ -28,10 +28,8 @@ separates-requires c κs = search needs
 
 returns : tie.Need-returns Inv-loop μ-loop
 returns c =
-    let at-loop = c .before .before .before .before in
-    let l = at-loop .loop in
-    let s = at-loop .before .before .args .line .now in
-    (omega arith, (l .inv .1, λ h. sym (c .before .separates .ensures) ∙ not-true _ (c .if1 .taken)))
+    let l = c .before .before .before .before .loop in
+    (l .inv, λ h. sym (c .before .separates .ensures) ∙ not-true _ (c .if1 .taken))
 
 add-at : tie.Need-add-at Inv-loop μ-loop
 add-at c = search needs
@@ -44,10 +42,10 @@ loop-again c =
     let at-loop = c .before .before .before .before in
     let l = at-loop .loop in
     let s = at-loop .before .before .args .line .now in
-    (omega arith, sym (fields-skip s (l .at) (omega arith) (sym (c .before .separates .ensures) ∙ not-false _ (c .if1 .left))) ∙ l .inv .1)
+    sym (fields-skip s (l .at) (omega arith) (sym (c .before .separates .ensures) ∙ not-false _ (c .if1 .left))) ∙ l .inv
 
 returns-2 : tie.Need-returns-2 Inv-loop μ-loop
-returns-2 c = (c .before .loop .inv .0, (c .before .loop .inv .1, λ h. absurd (omega arith)))
+returns-2 c = (c .before .loop .inv, λ h. absurd (omega arith))
 
 pub first-field-spec : {M : Type 1} → statement M
 first-field-spec =

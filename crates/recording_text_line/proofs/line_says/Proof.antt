@@ -11,11 +11,13 @@ first-field-requires : tie.Need-first-field-requires
 first-field-requires c κs = search needs
 
 fields-say-requires : tie.Need-fields-say-requires
-fields-say-requires c κs = let t = c .if1 .taken in (t, c .before .first-field .ensures .1 .1 t)
+fields-say-requires c κs = let t = c .if1 .taken in (t, c .before .first-field .ensures .1 t)
 
 returns : tie.Need-returns
 returns c =
-    (c .fields-say .ensures .0 ∙ ap fieldsSay (c .before .before .first-field .ensures .1 .0), (c .fields-say .ensures .1, search needs))
+    let found = c .before .before in
+    let dated = found .before .before .args .dated in
+    (c .fields-say .ensures .0 ∙ ap (fieldsSay dated) (found .first-field .ensures .0), (c .fields-say .ensures .1, search needs))
 
 no-record-requires : tie.Need-no-record-requires
 no-record-requires c κs = search needs
@@ -23,9 +25,10 @@ no-record-requires c κs = search needs
 returns-2 : tie.Need-returns-2
 unfolding fieldsSay
 returns-2 c =
-    let f = c .before .before .first-field in
-    let s = c .before .before .before .before .args .line .now in
-    (c .no-record .ensures .0 ∙ ap fieldsSay (sym (fields-past s (f .result) (c .before .if1 .left)) ∙ f .ensures .1 .0), (c .no-record .ensures .1, search needs))
+    let found = c .before .before in
+    let a = found .before .before .args in
+    let f = found .first-field in
+    (c .no-record .ensures .0 ∙ ap (fieldsSay (a .dated)) (sym (fields-past (a .line .now) (f .result) (c .before .if1 .left)) ∙ f .ensures .0), (c .no-record .ensures .1, search needs))
 
 pub line-says-spec : {M : Type 1} → statement M
 line-says-spec =

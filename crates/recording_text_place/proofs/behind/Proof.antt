@@ -5,6 +5,8 @@ use Prim.Native.Nat.{_-_}
 use native.Mathlib.Omega.{arith}
 use lib.ListN.{length, drop}
 use Rattle.recording_text_fields.specs.Pieces.{lines}
+use Rattle.recording_text_line.specs.Line.{allSay, textSays}
+use Rattle.recording_text_line.proofs.Lines.{line-more, no-line}
 use Rattle.recording_text_place.specs.Place.{allBytes}
 use Rattle.recording_text_place.proofs.Places.{bytes-on, bytes-end}
 use borrow.Author.Needs.{needs}
@@ -12,10 +14,11 @@ use Rattle.recording_text_place.proofs.behind.Statement.{statement}
 use Rattle.recording_text_place.proofs.behind.Tie as tie
 
 abbrev Inv-loop : tie.InvT-loop
-Inv-loop text wide sort bytes much₀ at₀ much at = bytes - allBytes wide sort (lines text) ≡ much - allBytes wide sort (lines (drop at text))
+Inv-loop text which sort bytes much₀ dated₀ at₀ much dated at =
+    bytes - allBytes which sort (textSays text) ≡ much - allBytes which sort (allSay dated (lines (drop at text)))
 
 abbrev μ-loop : tie.MeasureT-loop
-μ-loop text wide sort bytes much₀ at₀ much at = length text - at
+μ-loop text which sort bytes much₀ dated₀ at₀ much dated at = length text - at
 
 loop-holds : tie.Need-loop-holds Inv-loop μ-loop
 loop-holds c = refl
@@ -41,37 +44,35 @@ counts-requires c κs = search needs
 left-requires : tie.Need-left-requires Inv-loop μ-loop
 left-requires c κs = search needs
 
+dated-after-requires : tie.Need-dated-after-requires Inv-loop μ-loop
+dated-after-requires c κs = c .before .before .line-says .ensures .1 .0
+
 add-at : tie.Need-add-at Inv-loop μ-loop
-add-at c = omega (arith, c .before .before .before .before .piece-end .ensures .0 (c .before .before .before .before .before .loop-test .taken) .within)
+add-at c =
+    let piece = c .before .before .before .before .before in
+    omega (arith, piece .piece-end .ensures .0 (piece .before .loop-test .taken) .within)
 
 loop-less : tie.Need-loop-less Inv-loop μ-loop
-loop-less c = omega (arith, c .before .before .before .before .piece-end .ensures .0 (c .before .before .before .before .before .loop-test .taken) .after, c .before .before .before .before .before .loop-test .taken)
+loop-less c =
+    let piece = c .before .before .before .before .before in
+    omega (arith, piece .piece-end .ensures .0 (piece .before .loop-test .taken) .after, piece .before .loop-test .taken)
 
 loop-again : tie.Need-loop-again Inv-loop μ-loop
 loop-again c =
-    let said = c .before .before in
+    let said = c .before .before .before in
     let piece = said .before .before in
     let l = piece .before .before .loop in
     let a = piece .before .before .before .before .args in
-    l .inv
-    ∙ bytes-on
-    (a .text .now)
-    (l .at)
-    (piece .piece-end .result)
-    (piece .piece-end .ensures .0 (piece .before .loop-test .taken))
-    (said .line-says .result)
-    (said .line-says .ensures .0)
-    (a .sort)
-    (a .wide)
-    (l .much)
-    (c .before .counts .ensures)
-    (c .left .ensures)
+    let more =
+    line-more (a .text .now) (piece .piece-end .ensures .0 (piece .before .loop-test .taken)) (l .dated) (said .line-says .result) (said .line-says .ensures .0) (c .dated-after .ensures)
+    in
+    l .inv ∙ bytes-on more (a .sort) (a .which) (l .much) (c .before .before .counts .ensures) (c .before .left .ensures)
 
 returns : tie.Need-returns Inv-loop μ-loop
 returns c =
     let l = c .before .loop in
     let a = c .before .before .before .args in
-    sym (l .inv ∙ bytes-end (a .wide) (a .sort) (l .much) (a .text .now) (l .at) (c .loop-test .left))
+    sym (l .inv ∙ bytes-end (no-line (a .text .now) (l .dated) (l .at) (c .loop-test .left)) (a .which) (a .sort) (l .much))
 
 pub behind-spec : {M : Type 1} → statement M
 behind-spec =
@@ -87,6 +88,7 @@ behind-spec =
     line-says-requires
     counts-requires
     left-requires
+    dated-after-requires
     add-at
     loop-less
     loop-again

@@ -1,7 +1,7 @@
 -- `recording_text_place::refusal_line` meets its contract: each refusal by its own law.
 -- Assumes nothing.
 use mathlib.Core.Path.{_∙_}
-use Rattle.recording_text_fields.specs.Pieces.{lines}
+use Rattle.recording_text_line.specs.Line.{textSays}
 use Rattle.recording_text_place.specs.Place.{refusalLine}
 use Rattle.recording_text_place.proofs.Places.{of-link, of-event, of-none}
 use borrow.Author.Needs.{needs}
@@ -24,10 +24,10 @@ returns : tie.Need-returns
 returns c =
     let one = c .before .before .before .before in
     let a = one .before .before .args in
-    of-link (a .wide) (lines (a .text .now)) (a .refusal) (a .place) (one .of-link .ensures) (c .before .before .before .if1 .taken) (c .before .before .left .ensures) (c .before .behind .ensures) (c .line-after .ensures)
+    of-link (a .which) (textSays (a .text .now)) (a .refusal) (a .place) (one .of-link .ensures) (c .before .before .before .if1 .taken) (c .before .before .left .ensures) (c .before .behind .ensures) (c .line-after .ensures)
 
-one-of-requires : tie.Need-one-of-requires
-one-of-requires c κs = search needs
+of-event-requires : tie.Need-of-event-requires
+of-event-requires c κs = search needs
 
 left-requires-2 : tie.Need-left-requires-2
 left-requires-2 c κs = search needs
@@ -47,13 +47,13 @@ returns-2 c =
     let one = two .before .before in
     let a = one .before .before .args in
     of-event
-    (a .wide)
-    (lines (a .text .now))
+    (a .which)
+    (textSays (a .text .now))
     (a .refusal)
     (a .place)
     (one .of-link .ensures)
     (two .before .if1 .left)
-    (two .one-of .ensures)
+    (two .of-event .ensures)
     (c .before .before .before .before .if2 .taken)
     (c .before .before .before .left2 .ensures)
     (c .before .before .behind2 .ensures)
@@ -69,11 +69,20 @@ most-links-requires c κs = search needs
 line-after-requires-3 : tie.Need-line-after-requires-3
 line-after-requires-3 c κs = search needs
 
+most-events-requires : tie.Need-most-events-requires
+most-events-requires c κs = search needs
+
 line-after-requires-4 : tie.Need-line-after-requires-4
 line-after-requires-4 c κs = search needs
 
+left-requires-3 : tie.Need-left-requires-3
+left-requires-3 c κs = search needs
+
 line-after-requires-5 : tie.Need-line-after-requires-5
 line-after-requires-5 c κs = search needs
+
+line-after-requires-6 : tie.Need-line-after-requires-6
+line-after-requires-6 c κs = search needs
 
 returns-3 : tie.Need-returns-3
 unfolding refusalLine
@@ -85,28 +94,33 @@ returns-4 c = c .line-after3 .ensures ∙ rw (c .before .before .match .keys2, c
 
 returns-5 : tie.Need-returns-5
 unfolding refusalLine
-returns-5 c = c .line-after4 .ensures ∙ rw (c .before .match .keys3)
+returns-5 c = c .line-after4 .ensures ∙ rw (c .before .before .match .keys3, c .before .most-events .ensures)
 
 returns-6 : tie.Need-returns-6
-returns-6 c =
+unfolding refusalLine
+returns-6 c = c .line-after5 .ensures ∙ rw (c .before .before .match .keys4, c .before .left3 .ensures)
+
+returns-7 : tie.Need-returns-7
+returns-7 c =
     let no = c .before .before in
     let two = no .before in
     let one = two .before .before in
     let a = one .before .before .args in
     let r = c .before .match .rest in
     of-none
-    (a .wide)
-    (lines (a .text .now))
+    (a .which)
+    (textSays (a .text .now))
     (a .refusal)
     (a .place)
     (one .of-link .ensures)
     (two .before .if1 .left)
-    (two .one-of .ensures)
+    (two .of-event .ensures)
     (no .if2 .left)
+    (r .0 .0 .0 .1)
     (r .0 .0 .1)
     (r .0 .1)
     (r .1)
-    (c .line-after5 .ensures)
+    (c .line-after6 .ensures)
 
 pub refusal-line-spec : {M : Type 1} → statement M
 refusal-line-spec =
@@ -117,7 +131,7 @@ refusal-line-spec =
     behind-requires
     line-after-requires
     returns
-    one-of-requires
+    of-event-requires
     left-requires-2
     behind-requires-2
     behind-requires-3
@@ -126,9 +140,13 @@ refusal-line-spec =
     kind-or-task-requires
     most-links-requires
     line-after-requires-3
+    most-events-requires
     line-after-requires-4
+    left-requires-3
     line-after-requires-5
+    line-after-requires-6
     returns-3
     returns-4
     returns-5
-    returns-6)
+    returns-6
+    returns-7)
