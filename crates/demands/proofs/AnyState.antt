@@ -1,20 +1,21 @@
 -- An accepted event given to any sound state is a step of the published protocol.
 -- Assumes nothing.
-use mathlib.Core.Path.{_≡_, sym, ap, subst, _∙_}
-use mathlib.Core.Logic.{inl, inr}
-use Prim.Native.Nat.{ℕ}
+use mathlib.Core.Path.{_≡_, refl, sym, ap, subst, _∙_}
+use mathlib.Core.Bool.{Bool}
+use Prim.Native.Nat.{ℕ, _≤_}
+use native.Mathlib.Decide.{ℕ-discrete}
 use Rattle.protocol.specs.Event.{Event, arrival, start, read, finish}
-use Rattle.protocol.specs.Answering.{ReadsNothing}
 use Rattle.protocol.specs.Published.{Lowest, number}
 use Rattle.protocol.specs.Published as published
+use Rattle.protocol_deadlines.specs.Timed.{limit}
+use Rattle.protocol_deadlines.specs.Answering.{ReadsNothing}
 use Rattle.protocol_state.specs.Saved.{Saved, stateRoom, aheadIn, table, boxes}
-use Rattle.protocol_state.specs.Judge.{judgedOn}
-use Rattle.protocol_state.specs.Next.{next, valueOf}
-use Rattle.protocol_state.specs.Give.{Reply, givenTo}
-use Rattle.protocol_state.specs.Sound.{testedSound, StandsSound}
-use Rattle.protocol_state.proofs.Sound.{says-sound}
-use Rattle.protocol_state.proofs.Give.{Ways, give-ways, give-refusal, give-done}
-use Rattle.protocol_state.proofs.Keeps.{table-same, next-sound}
+use Rattle.protocol_state.specs.Judge.{judgedOn, lateIn}
+use Rattle.protocol_state.specs.Next.{nextAt, valueOf}
+use Rattle.protocol_state.specs.Give.{Reply, Call, callPolicy, callTick, callEvent}
+use Rattle.protocol_state.specs.Sound.{Sound, StandsSound}
+use Rattle.protocol_state.proofs.Give.{judged-parts, refused-same}
+use Rattle.protocol_state.proofs.Keeps.{table-same, order-same, next-sound}
 use Rattle.protocol_state.proofs.Steps.{step, number-read}
 use Rattle.mailbox.specs.States.{saved}
 use Rattle.mailbox.proofs.Packed.{whole-shape}
@@ -22,39 +23,52 @@ use Rattle.mailbox.specs.declared.State.{State}
 use Rattle.mailbox.specs.declared.Step.{Step}
 use Rattle.demands.specs.States.{IsSound, IsWhole, tableIn, boxesIn}
 use Rattle.demands.specs.Calls.{Gives}
+use Rattle.demands.proofs.Calls.{call-done}
 
-module _ (q : State) (e : Event ℕ) (r : Step) (call : Gives q e r) (S : IsWhole q) (G : IsSound q) (z : r .answer .refusal ≡ 0) where
-  allowed : judgedOn (aheadIn (saved q)) (saved q) e ≡ 0
-  allowed = sym (give-refusal (aheadIn (saved q)) stateRoom (saved q) e (says-sound (aheadIn (saved q)) stateRoom (saved q) G)) ∙ ap (λ (x : Reply). x .refusal) (sym (call .answer)) ∙ z
+module _ (q : State) (c : Call) (r : Step) (call : Gives q c r) (S : IsWhole q) (G : IsSound q) (z : r .answer .refusal ≡ 0) where
+  abbrev after : Saved
+  after = nextAt (aheadIn (saved q)) (saved q) (callTick c) (callEvent c)
 
-  done : saved (r .state) ≡ next (aheadIn (saved q)) (saved q) e
-  done = ap (λ (x : Reply). x .state) (call .answer) ∙ ap (λ (x : Reply). x .state) (give-done (aheadIn (saved q)) stateRoom (saved q) e (says-sound (aheadIn (saved q)) stateRoom (saved q) G) allowed)
+  -- none of 12 to 16, and none of the ticks' refusals
+  allowed : (judgedOn (aheadIn (saved q)) (saved q) (callEvent c) ≡ 0) × (saved q .last ≤ callTick c) × (callTick c ≤ limit) × (lateIn (saved q) (callTick c) (callEvent c) ≡ 0)
+  allowed = judged-parts (aheadIn (saved q)) (saved q) (callTick c) (callEvent c) (call-done q c r call z .1)
 
-  pub any-state : published.Step (tableIn q) (Lowest (tableIn q)) e (boxesIn q) (boxesIn (r .state)) × (tableIn (r .state) ≡ tableIn q) × (IsWhole (r .state) × IsSound (r .state))
+  done : saved (r .state) ≡ after
+  done = call-done q c r call z .2
+
+  stays-sound : StandsSound stateRoom after
+  stays-sound =
+      subst (λ (ahead : ℕ → ℕ → Bool). Sound ahead stateRoom after) (sym (order-same (aheadIn (saved q)) (saved q) (callTick c) (callEvent c)))
+      (next-sound (whole-shape q S) G (callTick c) (allowed .1, allowed .2) (callEvent c) (allowed .0))
+
+  pub any-state : published.Step (tableIn q) (Lowest (tableIn q)) (callEvent c) (boxesIn q) (boxesIn (r .state)) × (tableIn (r .state) ≡ tableIn q) × (IsWhole (r .state) × IsSound (r .state))
   any-state = (
-    subst (λ (x : Saved). published.Step (tableIn q) (Lowest (tableIn q)) e (boxesIn q) (boxes x)) (sym done) (step (saved q) (whole-shape q S) G e allowed),
-    ap (λ (x : Saved). table (aheadIn x) x) done ∙ table-same (aheadIn (saved q)) (saved q) e,
-    (
-      call .whole,
-      subst (λ (x : Saved). StandsSound stateRoom x) (sym done) (next-sound (whole-shape q S) G e allowed),
-    ),
+    subst (λ (x : Saved). published.Step (tableIn q) (Lowest (tableIn q)) (callEvent c) (boxesIn q) (boxes x)) (sym done) (step (saved q) (whole-shape q S) G (callTick c) (callEvent c) (allowed .0)),
+    ap (λ (x : Saved). table (aheadIn x) x) done
+        ∙ ap (λ (ahead : ℕ → ℕ → Bool). table ahead after) (order-same (aheadIn (saved q)) (saved q) (callTick c) (callEvent c))
+        ∙ table-same (aheadIn (saved q)) (saved q) (callTick c) (callEvent c),
+    (call .whole, subst (λ (x : Saved). StandsSound stateRoom x) (sym done) stays-sound),
   )
 
-pub any-number : (q : State) (l : ℕ) (r : Step) → Gives q (read l) r → IsWhole q → IsSound q → r .answer .refusal ≡ 0 → r .answer .value ≡ number (tableIn q) (boxesIn q) l
-any-number q l r call S G z =
-    let j = allowed q (read l) r call S G z in
-    ap (λ (x : Reply). x .value) (call .answer) ∙ ap (λ (x : Reply). x .value) (give-done (aheadIn (saved q)) stateRoom (saved q) (read l) (says-sound (aheadIn (saved q)) stateRoom (saved q) G) j) ∙ number-read (saved q) (whole-shape q S) G l j
+pub any-number : (q : State) (c : Call) (l : ℕ) (r : Step) → callEvent c ≡ read l → Gives q c r → IsWhole q → IsSound q → r .answer .refusal ≡ 0
+    → r .answer .value ≡ number (tableIn q) (boxesIn q) l
+any-number q c l r e call S G z =
+    call-done q c r call z .3 ∙ ap (valueOf (saved q)) e
+    ∙ number-read (saved q) (whole-shape q S) G l (ap (judgedOn (aheadIn (saved q)) (saved q)) (sym e) ∙ allowed q c r call S G z .0)
 
 -- only a read gives a value
-pub silent : (q : State) (e : Event ℕ) (r : Step) → Gives q e r → ReadsNothing e → r .answer .value ≡ 0
+no-number : (q : Saved) (e : Event ℕ) → ReadsNothing e → valueOf q e ≡ 0
 unfolding ReadsNothing
-silent q e r call n = ap (λ (x : Reply). x .value) (call .answer) ∙ go e n (give-ways (aheadIn (saved q)) stateRoom (saved q) e)
+no-number q (arrival m) n = refl
+no-number q (start t) n = refl
+no-number q (read l) n = absurd n
+no-number q (finish t v) n = refl
+
+pub silent : (q : State) (c : Call) (r : Step) → Gives q c r → ReadsNothing (callEvent c) → r .answer .value ≡ 0
+silent q c r call n = go (ℕ-discrete (r .answer .refusal) 0)
   where
-    go : (e : Event ℕ) → ReadsNothing e
-        → Ways (testedSound stateRoom (saved q)) (judgedOn (aheadIn (saved q)) (saved q) e) (saved q) (next (aheadIn (saved q)) (saved q) e) (valueOf (saved q) e) (givenTo stateRoom (saved q) e)
-        → givenTo stateRoom (saved q) e .value ≡ 0
-    go e n (inr w) = w .2
-    go (arrival m) n (inl w) = ap (λ (x : Reply). x .value) (w .2)
-    go (start t) n (inl w) = ap (λ (x : Reply). x .value) (w .2)
-    go (read l) n (inl w) = absurd n
-    go (finish t v) n (inl w) = ap (λ (x : Reply). x .value) (w .2)
+    go : Dec (r .answer .refusal ≡ 0) → r .answer .value ≡ 0
+    go (yes z) = call-done q c r call z .3 ∙ no-number (saved q) (callEvent c) n
+    go (no y) =
+        ap (λ (x : Reply). x .value) (call .answer)
+        ∙ refused-same (aheadIn (saved q)) stateRoom (callPolicy c) (saved q) (callTick c) (callEvent c) (λ z. y (ap (λ (x : Reply). x .refusal) (call .answer) ∙ z)) .1

@@ -30,4 +30,5 @@ pub mod Contract
 pub mod Demands
 pub mod SelfLinks
 pub mod TwoKinds
+pub mod Deadlines
 pub mod Example

@@ -11,10 +11,10 @@ use lib.Dec.{eqb, ltb, leb, lit<}
 use lib.ListN.{length}
 use Rattle.lists.specs.Lists.{some}
 use Rattle.lists.proofs.Bools.{and-left, and-right, and-both}
-use Rattle.protocol_state.specs.Records.{linkOf, aheadOf}
+use Rattle.protocol_state.specs.Records.{Task, linkOf, aheadOf}
 use Rattle.protocol_state.specs.Rules.{samePair, linksBehind}
 use Rattle.recording_format.specs.Link.{Link, linkFault}
-use Rattle.demands.specs.Refusals.{Earns, LinkBreaks, noTask, directToItself, unknownKind, directAhead, twice, ninth, startsDirect}
+use Rattle.demands.specs.Refusals.{turn, Earns, LinkBreaks, noTask, directToItself, unknownKind, directAhead, twice, ninth, startsDirect}
 use Rattle.demands.proofs.Earned.{earns-alike, Test, test, Fires, here, later, chain-earns}
 
 -- one of two tests holds
@@ -49,7 +49,7 @@ some-at f (suc n) k h e = go (f n) refl (λ l. some-at f n k l e)
     go true i g = refl
     go false i g = g (let ne : k ≢ n = λ z. (let y : true ≡ false = sym e ∙ ap f z ∙ i in let o : _≡_ {A = ℕ} 0 1 = cc in omega arith) in omega (arith, ne))
 
-module _ (ds : List ℕ) (ls : List Link) (l : Link) where
+module _ (ds : List Task) (ls : List Link) (l : Link) where
   -- the seven tests
   abbrev tests : List Test
   tests =
@@ -91,7 +91,7 @@ module _ (ds : List ℕ) (ls : List Link) (l : Link) where
 
   -- what the reader of a recording computes after the links ls is what the link earns
   pub link-earned : Earns (LinkBreaks ds ls l) (linkFault (aheadOf ds) (length ds) ls l)
-  unfolding linkFault
+  unfolding linkFault turn
   link-earned =
       earns-alike (λ n f. fires-broken f) (λ n b. broken-fires b)
       (chain-earns 0 tests (lit< tt, (lit< tt, (lit< tt, (lit< tt, (lit< tt, (lit< tt, (lit< tt, tt))))))))

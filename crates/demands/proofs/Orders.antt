@@ -8,18 +8,30 @@ use lib.ListN.{length, length-append, drop, set}
 use Rattle.protocol.specs.Event.{Event, arrival, start, read, finish}
 use Rattle.protocol.specs.Table.{Table}
 use Rattle.protocol.specs.History.{Goes, same, more, arrivals, reads, past}
-use Rattle.protocol.specs.Schedule.{policyOf, AllPossible}
+use Rattle.protocol.specs.Schedule.{Policy, AllPossible}
 use Rattle.protocol.specs.ZeroTime.{due, dues}
 use Rattle.protocol.specs.Instant.{LogEntry, find, looked}
-use Rattle.protocol.specs.Answering.{ReadsNothing}
+use Rattle.protocol_deadlines.specs.Timed.{Timed, timed, untimed, AllPossibleAt}
+use Rattle.protocol_deadlines.specs.Answering.{ReadsNothing}
 use Rattle.recording_core.specs.Promise.{placed}
 use Rattle.demands.specs.Order.{Happen, EachRead, turned}
 
 -- one event more at the end
-pub past-snoc : (h es : List (Event ℕ)) (e : Event ℕ) → past h (es ++ (e ∷ [])) ≡ e ∷ past h es
+pub past-snoc : {A : Type 0} (h es : List A) (e : A) → past h (es ++ (e ∷ [])) ≡ e ∷ past h es
 unfolding past
 past-snoc h [] e = refl
 past-snoc h (x ∷ es) e = past-snoc (x ∷ h) es e
+
+-- without the ticks, in either order
+pub untimed-past : (H es : List (Timed ℕ)) → untimed (past H es) ≡ past (untimed H) (untimed es)
+unfolding past untimed
+untimed-past H [] = refl
+untimed-past H (timed x e ∷ es) = untimed-past (timed x e ∷ H) es
+
+pub untimed-snoc : (es : List (Timed ℕ)) (x : ℕ) (e : Event ℕ) → untimed (es ++ (timed x e ∷ [])) ≡ untimed es ++ (e ∷ [])
+unfolding untimed
+untimed-snoc [] x e = refl
+untimed-snoc (timed y f ∷ es) x e = ap (λ (h : List (Event ℕ)). f ∷ h) (untimed-snoc es x e)
 
 -- as many reads in either order
 pub past-reads : (h es : List (Event ℕ)) → reads (past h es) ≡ reads es + reads h
@@ -32,21 +44,21 @@ past-reads h (finish t v ∷ es) = past-reads (finish t v ∷ h) es
 
 -- each event could happen in its turn, in either order
 module _ (T : Table ℕ) where
-  pub happen-possible : (h es : List (Event ℕ)) → AllPossible T (policyOf T) h → Happen T h es → AllPossible T (policyOf T) (past h es)
-  unfolding past Happen AllPossible
-  happen-possible h [] P H = P
-  happen-possible h (e ∷ es) P H = happen-possible (e ∷ h) es (H .0, P) (H .1)
+  pub happen-possible : (H es : List (Timed ℕ)) → AllPossibleAt T H → Happen T H es → AllPossibleAt T (past H es)
+  unfolding past Happen AllPossibleAt
+  happen-possible H [] P E = P
+  happen-possible H (timed x e ∷ es) P E = happen-possible (timed x e ∷ H) es (E .0, P) (E .1)
 
-  pub possible-happen : (h es : List (Event ℕ)) → AllPossible T (policyOf T) (past h es) → Happen T h es × AllPossible T (policyOf T) h
-  unfolding past Happen AllPossible
-  possible-happen h [] P = (tt, P)
-  possible-happen h (e ∷ es) P = let i = possible-happen (e ∷ h) es P in ((i .1 .0, i .0), i .1 .1)
+  pub possible-happen : (H es : List (Timed ℕ)) → AllPossibleAt T (past H es) → Happen T H es × AllPossibleAt T H
+  unfolding past Happen AllPossibleAt
+  possible-happen H [] P = (tt, P)
+  possible-happen H (timed x e ∷ es) P = let i = possible-happen (timed x e ∷ H) es P in ((i .1 .0, i .0), i .1 .1)
 
   -- the first of events that could happen
-  pub part-possible : {h H : List (Event ℕ)} → Goes h H → AllPossible T (policyOf T) H → AllPossible T (policyOf T) h
+  pub part-possible : (may : Policy ℕ) {h H : List (Event ℕ)} → Goes h H → AllPossible T may H → AllPossible T may h
   unfolding AllPossible
-  part-possible same P = P
-  part-possible (more e g) P = part-possible g (P .1)
+  part-possible may same P = P
+  part-possible may (more e g) P = part-possible may g (P .1)
 
 -- what holds of each read, one event more at the end
 module _ (Q : List (Event ℕ) → ℕ → ℕ → Type 0) where

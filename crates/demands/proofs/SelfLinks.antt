@@ -13,14 +13,16 @@ use Rattle.lists.specs.Lists.{count}
 use Rattle.protocol.specs.Event.{Event, arrival, start, read, finish, has}
 use Rattle.protocol.specs.Table.{Table, marked, N}
 use Rattle.protocol.specs.History.{Goes, arrivals, finishes, past}
-use Rattle.protocol.specs.Schedule.{policyOf, Possible, AllPossible}
+use Rattle.protocol.specs.Schedule.{Possible, AllPossible}
 use Rattle.protocol.specs.ZeroTime.{runOf, had}
 use Rattle.protocol.specs.Published.{Lowest, Step}
 use Rattle.protocol.proofs.Schedule.{counted}
 use Rattle.protocol.proofs.Effects.{pointer-delayed, pointer-out, mark-in, mark-out}
 use Rattle.protocol.proofs.SelfLinks.{self-had, self-uncounted, self-stays, self-unprotected}
+use Rattle.protocol_deadlines.specs.Timed.{Timed, untimed, earliestAt}
+use Rattle.protocol_deadlines.proofs.Orders.{ahead-order}
 use Rattle.protocol_state.specs.Records.{Task, linkOf, aheadOf}
-use Rattle.protocol_state.specs.Saved.{Saved, stateRoom, tasksIn}
+use Rattle.protocol_state.specs.Saved.{Saved, stateRoom, at}
 use Rattle.protocol_state.specs.Sound.{StandsSound}
 use Rattle.protocol_state.proofs.Rules.{ranked}
 use Rattle.protocol_state.proofs.SelfLinks.{self-sound-delayed, self-other-sound}
@@ -30,10 +32,10 @@ use Rattle.mailbox.proofs.Packed.{whole-shape}
 use Rattle.mailbox.specs.declared.State.{State}
 use Rattle.mailbox.specs.declared.Step as code
 use Rattle.demands.specs.Station.{station}
-use Rattle.demands.specs.Refusals.{Earns, none, lowest, LinkBreaks, noTask, directToItself, unknownKind, directAhead, twice, ninth, startsDirect}
+use Rattle.demands.specs.Refusals.{turn, Earns, none, first, LinkBreaks, noTask, directToItself, unknownKind, directAhead, twice, ninth, startsDirect}
 use Rattle.demands.specs.States.{IsSound, IsWhole, tableIn, boxesIn, OtherPointer, standingIn}
 use Rattle.demands.specs.Order.{EachRead}
-use Rattle.demands.specs.Calls.{Gives, Calls}
+use Rattle.demands.specs.Calls.{Call, callEvent, Gives, Calls}
 use Rattle.demands.specs.Outputs.{Gave}
 use Rattle.demands.specs.SelfLinks.{ToItself, SelfLink, HasPair, SoundlySet, SelfLinks}
 use Rattle.demands.proofs.Orders.{part-possible, each-so}
@@ -68,24 +70,28 @@ module _ (ds : List Task) (ls : List Link) (x : Link) (S : ToItself ds x) where
       go (eight p) = alone p
       go (twenty z) = omega arith
 
-  -- where each of these rules that it breaks has a number of r or more, so has every rule that it breaks
-  least : (r : ℕ) → (x .kind ≡ 0 → r ≤ 5) → (1 < x .kind → r ≤ 6) → (HasPair ls x → r ≤ 8) → (n : ℕ) → n < r → LinkBreaks ds ls x n → ⊥
+  -- where none of these rules that it breaks is tried before r, no rule that it breaks is
+  least : (r : ℕ) → (x .kind ≡ 0 → turn r ≤ turn 5) → (1 < x .kind → turn r ≤ turn 6) → (HasPair ls x → turn r ≤ turn 8) → (n : ℕ) → turn n < turn r → LinkBreaks ds ls x n → ⊥
+  unfolding turn
   least r by-five by-six by-eight n low b = go low (can-break b)
     where
-      go : {n : ℕ} → n < r → CanBreak n → ⊥
+      go : {n : ℕ} → turn n < turn r → CanBreak n → ⊥
       go low (five z) = omega (arith, by-five z)
       go low (six z) = omega (arith, by-six z)
       go low (eight p) = omega (arith, by-eight p)
       go low (twenty z) = omega (arith, by-five z)
 
   second : x .kind ≡ 1 → HasPair ls x → Earns (LinkBreaks ds ls x) 8
-  second k p = lowest (twice (p .0) (p .1) (p .2) (p .3)) (least 8 (λ z. absurd (omega arith)) (λ z. absurd (omega arith)) (λ p. omega arith))
+  unfolding turn
+  second k p = first (twice (p .0) (p .1) (p .2) (p .3)) (least 8 (λ z. absurd (omega arith)) (λ z. absurd (omega arith)) (λ p. omega arith))
 
   direct-refused : x .kind ≡ 0 → Earns (LinkBreaks ds ls x) 5
-  direct-refused k = lowest (directToItself k (S .same)) (least 5 (λ z. omega arith) (λ z. omega arith) (λ p. omega arith))
+  unfolding turn
+  direct-refused k = first (directToItself k (S .same)) (least 5 (λ z. omega arith) (λ z. omega arith) (λ p. omega arith))
 
   unknown-refused : 1 < x .kind → Earns (LinkBreaks ds ls x) 6
-  unknown-refused k = lowest (unknownKind (λ z. omega arith) (λ z. omega arith)) (least 6 (λ z. absurd (omega arith)) (λ z. omega arith) (λ p. omega arith))
+  unfolding turn
+  unknown-refused k = first (unknownKind (λ z. omega arith) (λ z. omega arith)) (least 6 (λ z. absurd (omega arith)) (λ z. omega arith) (λ p. omega arith))
 
 -- ---- N
 -- counted from the first number on
@@ -124,23 +130,24 @@ module _ (q : State) (G : IsSound q) (l : ℕ) (S : SelfLink (tableIn q) l) wher
 
   -- nobody is ahead of himself
   level : (t : ℕ) → tableIn q .ahead t t ≡ false
-  level t = ranked (tasksIn (saved q)) .itself t
+  level t = ahead-order (at (saved q .deadline)) .itself t
 
-  at-arrival : (m : ℕ) (r : code.Step) → Gives q (arrival m) r → IsWhole q → r .answer .refusal ≡ 0 → has m (tableIn q .reader l) ≡ true
+  at-arrival : (c : Call) (m : ℕ) (r : code.Step) → callEvent c ≡ arrival m → Gives q c r → IsWhole q → r .answer .refusal ≡ 0 → has m (tableIn q .reader l) ≡ true
       → (boxesIn (r .state) .pointer l ≡ boxesIn (r .state) .previous (tableIn q .reader l)) × ((boxesIn (r .state) .mark l ≡ true) ↔ (boxesIn (r .state) .seen (tableIn q .reader l) < 2))
   unfolding Step
-  at-arrival m r call W z h =
-      let A = any-state q (arrival m) r call W G z .0 in
+  at-arrival c m r e call W z h =
+      let A : Step (tableIn q) (Lowest (tableIn q)) (arrival m) (boxesIn q) (boxesIn (r .state)) =
+      subst (λ (x : Event ℕ). Step (tableIn q) (Lowest (tableIn q)) x (boxesIn q) (boxesIn (r .state))) e (any-state q c r call W G z .0) in
       let p = pointer-delayed (tableIn q) A l (S .link) h sound-delayed in
       let k : boxesIn (r .state) .mark l ≡ marked true (boxesIn (r .state) .seen (tableIn q .writer l)) = mark-in (tableIn q) A l (S .link) h ∙ ap (λ (d : Bool). marked d (boxesIn (r .state) .seen (tableIn q .writer l))) sound-delayed in (
         subst (λ (w : ℕ). boxesIn (r .state) .pointer l ≡ boxesIn (r .state) .previous w) (S .same) p,
         subst (λ (w : ℕ). (boxesIn (r .state) .mark l ≡ true) ↔ (boxesIn (r .state) .seen w < 2)) (S .same) (λ e. ltb-true _ 2 (sym k ∙ e), λ i. k ∙ lt-ltb _ 2 i),
       )
 
-  stays : (e : Event ℕ) (r : code.Step) → Gives q e r → IsWhole q → r .answer .refusal ≡ 0 → ((m : ℕ) → e ≡ arrival m → has m (tableIn q .reader l) ≡ false)
+  stays : (c : Call) (r : code.Step) → Gives q c r → IsWhole q → r .answer .refusal ≡ 0 → ((m : ℕ) → callEvent c ≡ arrival m → has m (tableIn q .reader l) ≡ false)
       → (boxesIn (r .state) .pointer l ≡ boxesIn q .pointer l) × (boxesIn (r .state) .mark l ≡ boxesIn q .mark l)
   unfolding Step
-  stays e r call W z = go e (any-state q e r call W G z .0)
+  stays c r call W z = go (callEvent c) (any-state q c r call W G z .0)
     where
       go : (e : Event ℕ) → Step (tableIn q) (Lowest (tableIn q)) e (boxesIn q) (boxesIn (r .state)) → ((m : ℕ) → e ≡ arrival m → has m (tableIn q .reader l) ≡ false)
           → (boxesIn (r .state) .pointer l ≡ boxesIn q .pointer l) × (boxesIn (r .state) .mark l ≡ boxesIn q .mark l)
@@ -162,11 +169,11 @@ module _ (q : State) (G : IsSound q) (l : ℕ) (S : SelfLink (tableIn q) l) wher
       → (standingIn q .active (tableIn q .reader l) ≡ true → 1 ≤ p) → m ≤ 1 → (m ≡ 1 → 1 ≤ p) → (1 ≤ p → boxesIn q .seen (tableIn q .reader l) < 2 → m ≡ 1) → IsSound q′
   no-more q′ p m W same high present bit held early =
       subst (λ (x : Saved). StandsSound stateRoom x) (sym same)
-      (self-other-sound (saved q) G l (S .link) (S .same) (ranked (tasksIn (saved q))) (whole-shape q W) p m
+      (self-other-sound (saved q) G l (S .link) (S .same) (ahead-order (at (saved q .deadline))) (whole-shape q W) p m
       (subst (λ (w : ℕ). p ≤ N (tableIn q) w + 2) (sym (S .same)) high) (λ active. present (ap not (ne-eqb _ 0 active))) bit held (λ i few. early i (rw (S .same) at few)))
 
 -- ---- after any calls
-module _ {T : Table ℕ} {es : List (Event ℕ)} {ns : List ℕ} {q : State} (c : Calls T es ns q) where
+module _ {T : Table ℕ} {es : List (Timed ℕ)} {ns : List ℕ} {q : State} (c : Calls T es ns q) where
   -- the state is sound and of the same table
   calls-self-delayed : (l : ℕ) → SelfLink T l → T .delayed l ≡ true
   calls-self-delayed =
@@ -174,18 +181,18 @@ module _ {T : Table ℕ} {es : List (Event ℕ)} {ns : List ℕ} {q : State} (c 
       subst (λ (t : Table ℕ). (l : ℕ) → SelfLink t l → t .delayed l ≡ true) (here .2) (λ l S. sound-delayed q (here .1) l S)
 
   -- at a read the link is one of the table, and its reader's run is the next after those that have finished
-  at-read : (h : List (Event ℕ)) (l : ℕ) → Goes (read l ∷ h) (past [] es) → (l < T .links) × (arrivals h (T .reader l) ≡ suc (finishes h (T .reader l)))
+  at-read : (h : List (Event ℕ)) (l : ℕ) → Goes (read l ∷ h) (past [] (untimed es)) → (l < T .links) × (arrivals h (T .reader l) ≡ suc (finishes h (T .reader l)))
   unfolding AllPossible Possible
   at-read h l g =
-      let P : AllPossible T (policyOf T) (read l ∷ h) = part-possible T g (calls-possible c) in
-      let F = counted T (policyOf T) h (P .1) (T .reader l) in
+      let P : AllPossible T (earliestAt T (past [] es)) (read l ∷ h) = part-possible T (earliestAt T (past [] es)) g (calls-possible c) in
+      let F = counted T (earliestAt T (past [] es)) h (P .1) (T .reader l) in
       (P .0 .0, omega (arith, ltb-true (finishes h (T .reader l)) _ (P .0 .1), F))
 
-  run-before : EachRead (λ h l n. arrivals h (T .reader l) ≡ suc (finishes h (T .reader l))) [] es ns
-  run-before = each-so (λ h l n. runOf (T .delayed l) (had T h l) ≤ finishes h (T .writer l)) _ [] es ns (λ h l n g f. at-read h l g .1) (calls-finished c)
+  run-before : EachRead (λ h l n. arrivals h (T .reader l) ≡ suc (finishes h (T .reader l))) [] (untimed es) ns
+  run-before = each-so (λ h l n. runOf (T .delayed l) (had T h l) ≤ finishes h (T .writer l)) _ [] (untimed es) ns (λ h l n g f. at-read h l g .1) (calls-finished c)
 
-  last-output : EachRead (λ h l n. T .writer l ≡ T .reader l → 1 ≤ finishes h (T .reader l) → Gave (T .reader l) h (finishes h (T .reader l)) n) [] es ns
-  last-output = each-so (λ h l n. T .delayed l ≡ true → 2 ≤ had T h l → Gave (T .writer l) h (pred (had T h l)) n) _ [] es ns (λ h l n g d s f. go h l n (at-read h l g) d s f) (calls-delayed c)
+  last-output : EachRead (λ h l n. T .writer l ≡ T .reader l → 1 ≤ finishes h (T .reader l) → Gave (T .reader l) h (finishes h (T .reader l)) n) [] (untimed es) ns
+  last-output = each-so (λ h l n. T .delayed l ≡ true → 2 ≤ had T h l → Gave (T .writer l) h (pred (had T h l)) n) _ [] (untimed es) ns (λ h l n g d s f. go h l n (at-read h l g) d s f) (calls-delayed c)
     where
       go : (h : List (Event ℕ)) (l n : ℕ) → (l < T .links) × (arrivals h (T .reader l) ≡ suc (finishes h (T .reader l)))
           → (T .delayed l ≡ true → 2 ≤ had T h l → Gave (T .writer l) h (pred (had T h l)) n) → T .writer l ≡ T .reader l → 1 ≤ finishes h (T .reader l)
@@ -195,8 +202,8 @@ module _ {T : Table ℕ} {es : List (Event ℕ)} {ns : List ℕ} {q : State} (c 
           let v = d (calls-self-delayed l (record { link = a .0; same = s })) (omega arith) in
           subst (λ (w : ℕ). Gave w h (finishes h (T .reader l)) n) s (subst (λ (k : ℕ). Gave (T .writer l) h (pred k) n) k v)
 
-  first-run : EachRead (λ h l n. T .writer l ≡ T .reader l → finishes h (T .reader l) ≡ 0 → n ≡ T .startValue l) [] es ns
-  first-run = each-so (λ h l n. T .delayed l ≡ true → had T h l < 2 → n ≡ T .startValue l) _ [] es ns (λ h l n g d s f. go h l n (at-read h l g) d s f) (calls-start-value c)
+  first-run : EachRead (λ h l n. T .writer l ≡ T .reader l → finishes h (T .reader l) ≡ 0 → n ≡ T .startValue l) [] (untimed es) ns
+  first-run = each-so (λ h l n. T .delayed l ≡ true → had T h l < 2 → n ≡ T .startValue l) _ [] (untimed es) ns (λ h l n g d s f. go h l n (at-read h l g) d s f) (calls-start-value c)
     where
       go : (h : List (Event ℕ)) (l n : ℕ) → (l < T .links) × (arrivals h (T .reader l) ≡ suc (finishes h (T .reader l)))
           → (T .delayed l ≡ true → had T h l < 2 → n ≡ T .startValue l) → T .writer l ≡ T .reader l → finishes h (T .reader l) ≡ 0 → n ≡ T .startValue l
@@ -213,8 +220,8 @@ self-links = record {
   unknown-refused = unknown-refused;
   uncounted = uncounted;
   unprotected = λ T level l S. self-unprotected T l (S .same) level;
-  at-arrival = λ q m r call W G z l S h. at-arrival q G l S m r call W z h;
-  stays = λ q e r call W G z l S out. stays q G l S e r call W z out;
+  at-arrival = λ q c m r e call W G z l S h. at-arrival q G l S c m r e call W z h;
+  stays = λ q c r call W G z l S out. stays q G l S c r call W z out;
   sound = sound;
   no-more = λ q q′ l p m W G S. no-more q G l S q′ p m W;
   last-output = last-output;

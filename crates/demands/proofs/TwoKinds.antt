@@ -2,12 +2,12 @@
 -- Assumes nothing.
 use mathlib.Core.Path.{_≡_, refl, sym, ap, _∙_}
 use mathlib.Core.Logic.{inr}
-use mathlib.Core.Bool.{Bool, true, false}
 use mathlib.Core.List.{List, [], _∷_}
 use Prim.Native.Nat.{ℕ, zero, suc, _<_}
 use native.Mathlib.Omega.{arith}
 use lib.ListN.{length, getD}
-use Rattle.protocol.specs.Event.{Event, arrival, start, read, finish}
+use Rattle.protocol.specs.Event.{arrival, start, read, finish}
+use Rattle.protocol_deadlines.specs.Timed.{Timed, timed}
 use Rattle.protocol_state.specs.Saved.{stateRoom}
 use Rattle.protocol_state.specs.Records.{Task}
 use Rattle.byte_format.specs.Format.{FitEach}
@@ -15,13 +15,15 @@ use Rattle.byte_format.specs.Play.{Verdict, verdict}
 use Rattle.byte_format.specs.Number.{numberAt}
 use Rattle.byte_format.proofs.Numbers.{number-one}
 use Rattle.byte_format.proofs.Counts.{count-above}
-use Rattle.recording_format.specs.RecordingKind.{baseRecording, wideRecording, eitherKind, firstLimit}
+use Rattle.recording_format.specs.RecordingKind.{baseRecording, wideRecording, anyKind, firstLimit}
+use Rattle.recording_format.specs.declared.WhichKind.{WhichKind}
+use Rattle.recording_format.specs.declared.WhichKind.the-variants.{Base, Wide}
 use Rattle.recording_format.specs.Link.{Link}
 use Rattle.recording_format.specs.Event.{EventFits, events}
 use Rattle.recording_format.specs.Recording.{Core, recording, eventsFrom, taskPlace}
 use Rattle.recording_format.specs.Outcome.{Begins}
 use Rattle.recording_format.proofs.Onward.{first-refused}
-use Rattle.recording_format.proofs.BothKinds.{kind-begun}
+use Rattle.recording_format.proofs.AllKinds.{kind-begun}
 use Rattle.recording_core.specs.Playing.{Playing, coreOf}
 use Rattle.recording.specs.Answers.{replied}
 use Rattle.recording.specs.declared.Answer.{Answer}
@@ -47,13 +49,13 @@ answered {s} {out} said f =
     let e = sym (only-answer said (fault-found s out f)) in
     (ap (λ (x : Verdict Playing). x .refusal) e, ap (λ (x : Verdict Playing). x .place) e)
 
-many-tasks : {s out list : List ℕ} {a : Answer} → Replays s out a list → (wide : Bool) → Begins (eitherKind wide) s →
-    eitherKind wide .tasks < getD s taskPlace 0 → (a .refusal ≡ 2) × (a .place ≡ taskPlace)
-many-tasks {s} said wide x h = answered said (badTaskCount wide x (omega (arith, there s taskPlace h)) (inr (rw (number-one s taskPlace) h)))
+many-tasks : {s out list : List ℕ} {a : Answer} → Replays s out a list → (which : WhichKind) → Begins (anyKind which) s →
+    anyKind which .tasks < getD s taskPlace 0 → (a .refusal ≡ 2) × (a .place ≡ taskPlace)
+many-tasks {s} said which x h = answered said (badTaskCount which x (omega (arith, there s taskPlace h)) (inr (rw (number-one s taskPlace) h)))
 
-many-links : {wide : Bool} {s out list ds : List ℕ} {a : Answer} {p : ℕ} → Replays s out a list → TasksBegun wide s (length ds) ds p →
-    eitherKind wide .links < getD s p 0 → (a .refusal ≡ 3) × (a .place ≡ p)
-many-links {wide} {s} {p = p} said b h = answered said (badLinkCount wide b (omega (arith, there s p h)) (rw (number-one s p) h))
+many-links : {which : WhichKind} {s out list : List ℕ} {ds : List Task} {a : Answer} {p : ℕ} → Replays s out a list → TasksBegun which s (length ds) ds p →
+    anyKind which .links < getD s p 0 → (a .refusal ≡ 3) × (a .place ≡ p)
+many-links {which} {s} {p = p} said b h = answered said (badLinkCount which b (omega (arith, there s p h)) (rw (number-one s p) h))
 
 -- ---- the reader from before
 
@@ -65,25 +67,25 @@ reader-before core s =
     first-refused baseRecording (core .single) (eventsFrom baseRecording core bytes) bytes
     (count-above 1 (firstLimit baseRecording) bytes 0 (omega arith) two (λ y. omega arith))
 
-still-taken : {s out list : List ℕ} {a : Answer} → Replays s out a list → Begins baseRecording s → replied a list ≡ recording baseRecording (coreOf stateRoom out) s
-still-taken {s} said x = answer-by said false (kind-begun false s x)
+still-taken : {s out list : List ℕ} {a : Answer} → Replays s out a list → Begins baseRecording s → replied a list ≡ recording baseRecording (coreOf stateRoom 0 out) s
+still-taken {s} said x = answer-by said Base (kind-begun Base s x)
 
 -- ---- what both hold
 
 -- the numbers of an event fit the bytes of the wide kind, where they fit those of the other
-event-widened : (e : Event ℕ) → EventFits baseRecording e → EventFits wideRecording e
+event-widened : (e : Timed ℕ) → EventFits baseRecording e → EventFits wideRecording e
 unfolding EventFits
-event-widened (arrival m) f = omega arith
-event-widened (start t) f = f
-event-widened (read l) f = f
-event-widened (finish t v) f = f
+event-widened (timed x (arrival m)) f = (f .0, omega (arith, f .1))
+event-widened (timed x (start t)) f = f
+event-widened (timed x (read l)) f = f
+event-widened (timed x (finish t v)) f = f
 
-events-widened : (es : List (Event ℕ)) → FitEach (events baseRecording) es → FitEach (events wideRecording) es
+events-widened : (es : List (Timed ℕ)) → FitEach (events baseRecording) es → FitEach (events wideRecording) es
 unfolding FitEach
 events-widened [] f = tt
 events-widened (e ∷ es) f = (event-widened e (f .0), events-widened es (f .1))
 
-widened : {s out : List ℕ} {ds : List Task} {ls : List Link} {es : List (Event ℕ)} → Genuine false s out ds ls es → Genuine true (recordingBytes true ds ls es) out ds ls es
+widened : {s out : List ℕ} {ds : List Task} {ls : List Link} {es : List (Timed ℕ)} → Genuine Base s out ds ls es → Genuine Wide (recordingBytes Wide ds ls es) out ds ls es
 widened {es = es} g = record {
   keeps = g .keeps;
   bytes = refl;
@@ -95,8 +97,8 @@ widened {es = es} g = record {
   happen = g .happen;
 }
 
-same-answer : {wide wide′ : Bool} {s s′ out out′ list list′ : List ℕ} {a a′ : Answer} {ds : List Task} {ls : List Link} {es : List (Event ℕ)} →
-    Genuine wide s out ds ls es → Genuine wide′ s′ out′ ds ls es → Replays s out a list → Replays s′ out′ a′ list′ → SaysTheSame out list a out′ list′ a′
+same-answer : {which which′ : WhichKind} {s s′ out out′ list list′ : List ℕ} {a a′ : Answer} {ds : List Task} {ls : List Link} {es : List (Timed ℕ)} →
+    Genuine which s out ds ls es → Genuine which′ s′ out′ ds ls es → Replays s out a list → Replays s′ out′ a′ list′ → SaysTheSame out list a out′ list′ a′
 same-answer g g′ said said′ =
     let c = accepted-calls said g in
     let c′ = accepted-calls said′ g′ in

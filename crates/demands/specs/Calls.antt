@@ -7,11 +7,13 @@ use Prim.Native.Nat.{ℕ}
 use lib.ListN.{drop}
 use Rattle.protocol.specs.Event.{Event, arrival, start, read, finish}
 use Rattle.protocol.specs.Table.{Table}
+use Rattle.protocol_deadlines.specs.Timed.{Timed, timed}
+pub use Rattle.protocol_state.specs.Give.{Call, plainly, ticked, callPolicy, callTick, callEvent}
 pub use Rattle.mailbox.specs.States.{Makes, Gives}
 use Rattle.mailbox.specs.declared.State.{State}
 use Rattle.mailbox.specs.declared.Step.{Step}
 use Rattle.mailbox.specs.declared.Made.{Made}
-use Rattle.demands.specs.Station.{station, firstTasks, firstLinks}
+use Rattle.demands.specs.Station.{station, HandedOver, firstTasks, firstLinks}
 
 -- the part of the recording s that `recording::rest` hands back for the place p
 abbrev pub Rests : List ℕ → ℕ → List ℕ → Type 0
@@ -25,10 +27,11 @@ numbersOf (read l) r = r .answer .value ∷ []
 numbersOf (finish t v) r = []
 
 -- "every sequence of accepted events from a fresh state, refused ones left aside":
--- of the table T the events es were accepted, the reads among them gave the numbers ns, and the last call handed back q
-pub data Calls : Table ℕ → List (Event ℕ) → List ℕ → State → Type 0 where
-  fresh : (n l : ℕ) (D W R K B : List ℕ) (m : Made) → Makes n l D W R K B m → m .refusal ≡ 0 → Calls (station (firstTasks n D) (firstLinks l W R K B)) [] [] (m .state)
-  accepted : {T : Table ℕ} {es : List (Event ℕ)} {ns : List ℕ} {q : State} → Calls T es ns q →
-      (e : Event ℕ) (r : Step) → Gives q e r → r .answer .refusal ≡ 0 → Calls T (es ++ (e ∷ [])) (ns ++ numbersOf e r) (r .state)
-  refused : {T : Table ℕ} {es : List (Event ℕ)} {ns : List ℕ} {q : State} → Calls T es ns q →
-      (e : Event ℕ) (r : Step) → Gives q e r → r .answer .refusal ≢ 0 → Calls T es ns (r .state)
+-- of the table T the events es were accepted, at their ticks, the reads among them gave the numbers ns, and the last call handed back q
+pub data Calls : Table ℕ → List (Timed ℕ) → List ℕ → State → Type 0 where
+  fresh : {p : ℕ} {X : List ℕ} → HandedOver p X → (n l : ℕ) (D W R K B : List ℕ) (m : Made) → Makes p n l D X W R K B m → m .refusal ≡ 0 →
+      Calls (station (firstTasks n D X) (firstLinks l W R K B)) [] [] (m .state)
+  accepted : {T : Table ℕ} {es : List (Timed ℕ)} {ns : List ℕ} {q : State} → Calls T es ns q →
+      (c : Call) (r : Step) → Gives q c r → r .answer .refusal ≡ 0 → Calls T (es ++ (timed (callTick c) (callEvent c) ∷ [])) (ns ++ numbersOf (callEvent c) r) (r .state)
+  refused : {T : Table ℕ} {es : List (Timed ℕ)} {ns : List ℕ} {q : State} → Calls T es ns q →
+      (c : Call) (r : Step) → Gives q c r → r .answer .refusal ≢ 0 → Calls T es ns (r .state)

@@ -20,3 +20,5 @@ pub mod Demands
 pub mod SelfLinks
 -- request 2026-06
 pub mod TwoKinds
+-- request 2026-07
+pub mod Deadlines

@@ -10,12 +10,12 @@ use Rattle.lists.specs.Lists.{some, count}
 use Rattle.protocol.specs.Event.{Event}
 use Rattle.protocol.specs.Table.{Table}
 use Rattle.protocol.specs.History.{arrivals, active, past}
-use Rattle.protocol.specs.Schedule.{policyOf, AllPossible}
+use Rattle.protocol_deadlines.specs.Timed.{Timed, untimed, last, since, AllPossibleAt}
 use Rattle.protocol.specs.ZeroTime.{had}
 use Rattle.protocol.specs.Published.{Boxes, Same, Lowest, Run}
 use Rattle.protocol.specs.Published as published
 use Rattle.mailbox.specs.declared.State.{State}
-use Rattle.demands.specs.States.{boxesIn}
+use Rattle.demands.specs.States.{boxesIn, lastIn, sinceIn}
 use Rattle.demands.specs.Order.{turned}
 
 -- task r reads from task w
@@ -41,17 +41,24 @@ pub record Remembered (T : Table ℕ) (h : List (Event ℕ)) (s : Boxes ℕ) : T
   pub seen : (t : ℕ) → t < T .tasks → s .seen t ≡ min 2 (arrivals h t)
   pub mark : (l : ℕ) → l < T .links → (s .mark l ≡ true) ↔ ((T .delayed l ≡ true) × (had T h l < 2) × (1 ≤ s .pointer l))
 
+-- "The state keeps the last tick, 0 when fresh, and each active job's arrival tick"
+pub record Clocked (H : List (Timed ℕ)) (q : State) : Type 0 where
+  pub last : lastIn q ≡ last H
+  pub since : (t : ℕ) → active (untimed H) t ≡ true → sinceIn q t ≡ since H t
+
 -- state q and numbers ns are what the published protocol gives for the events es
-pub record Published (T : Table ℕ) (es : List (Event ℕ)) (ns : List ℕ) (q : State) : Type 0 where
+pub record Published (T : Table ℕ) (es : List (Timed ℕ)) (ns : List ℕ) (q : State) : Type 0 where
   -- the events could happen on one processor
-  pub possible : AllPossible T (policyOf T) (past [] es)
+  pub possible : AllPossibleAt T (past [] es)
   -- "Every pointer, mailbox": by a run of the protocol over these events
-  pub run : Run T (Lowest T) (boxesIn q) (past [] es)
+  pub run : Run T (Lowest T) (boxesIn q) (past [] (untimed es))
   -- "is .. the one": no run of the protocol, with the lowest free position taken, gives others
-  pub only : (s : Boxes ℕ) → Run T (Lowest T) s (past [] es) → Same (boxesIn q) s
+  pub only : (s : Boxes ℕ) → Run T (Lowest T) s (past [] (untimed es)) → Same (boxesIn q) s
   -- "and number read"
   pub numbers : ns ≡ turned (published.numbers T run)
   -- "with at most two mailboxes more than a writer has less urgent readers"
-  pub mailboxes : Mailboxes T (past [] es) (boxesIn q)
+  pub mailboxes : Mailboxes T (past [] (untimed es)) (boxesIn q)
   -- arrivals and marks, by the events
-  pub remembered : Remembered T (past [] es) (boxesIn q)
+  pub remembered : Remembered T (past [] (untimed es)) (boxesIn q)
+  -- and the ticks
+  pub clocked : Clocked (past [] es) q

@@ -5,12 +5,12 @@ use mathlib.Core.List.{List, [], _∷_, _++_}
 use Prim.Native.Nat.{ℕ}
 use Rattle.protocol.specs.Event.{Event, arrival, start, read, finish}
 use Rattle.protocol.specs.Table.{Table}
-use Rattle.protocol.specs.Schedule.{policyOf, Possible}
+use Rattle.protocol_deadlines.specs.Timed.{Timed, timed, PossibleAt}
 
--- "could happen": each of the events es could happen in its turn, after the history h
-unfoldable pub Happen : Table ℕ → List (Event ℕ) → List (Event ℕ) → Type 0
-Happen T h [] = Unit {0}
-Happen T h (e ∷ es) = Possible T (policyOf T) h e × Happen T (e ∷ h) es
+-- "could happen": each of the events es could happen in its turn, at its tick, after the history H
+unfoldable pub Happen : Table ℕ → List (Timed ℕ) → List (Timed ℕ) → Type 0
+Happen T H [] = Unit {0}
+Happen T H (timed x e ∷ es) = PossibleAt T H x e × Happen T (timed x e ∷ H) es
 
 -- ns are the numbers of the reads among es, one for each and in their order, and Q holds of each: of the history before the read, its link and its number
 unfoldable pub EachRead : (List (Event ℕ) → ℕ → ℕ → Type 0) → List (Event ℕ) → List (Event ℕ) → List ℕ → Type 0

@@ -11,6 +11,7 @@ use Rattle.protocol.specs.Event.{Event, arrival, has}
 use Rattle.protocol.specs.Table.{Table, N}
 use Rattle.protocol.specs.History.{arrivals, finishes}
 use Rattle.protocol.specs.Published.{Boxes, Free}
+use Rattle.protocol_deadlines.specs.Timed.{Timed, untimed}
 use Rattle.protocol_state.specs.Records.{Task, linkOf}
 use Rattle.recording_format.specs.Link.{Link}
 use Rattle.mailbox.specs.declared.State.{State}
@@ -19,7 +20,7 @@ use Rattle.demands.specs.Station.{station}
 use Rattle.demands.specs.Refusals.{Earns, LinkBreaks}
 use Rattle.demands.specs.States.{IsSound, IsWhole, tableIn, boxesIn, OtherPointer, standingIn}
 use Rattle.demands.specs.Order.{EachRead}
-use Rattle.demands.specs.Calls.{Gives, Calls}
+use Rattle.demands.specs.Calls.{Call, callEvent, Gives, Calls}
 use Rattle.demands.specs.Outputs.{Gave}
 
 -- the link x leads from a task of the table to itself
@@ -60,13 +61,13 @@ pub record SelfLinks : Type 0 where
       ((k : ℕ) → k ≢ l → s .pointer k ≡ s′ .pointer k) → Free T s t p → Free T s′ t p
   -- "Its pointer is set at arrival like that of a reader ahead": to `previous`; and it is marked while the task has had fewer than two arrivals, this one
   -- included
-  pub at-arrival : (q : State) (m : ℕ) (r : Step) → Gives q (arrival m) r → IsWhole q → IsSound q → r .answer .refusal ≡ 0 →
+  pub at-arrival : (q : State) (c : Call) (m : ℕ) (r : Step) → callEvent c ≡ arrival m → Gives q c r → IsWhole q → IsSound q → r .answer .refusal ≡ 0 →
       (l : ℕ) → SelfLink (tableIn q) l → has m (tableIn q .reader l) ≡ true →
       (boxesIn (r .state) .pointer l ≡ boxesIn (r .state) .previous (tableIn q .reader l))
       × ((boxesIn (r .state) .mark l ≡ true) ↔ (boxesIn (r .state) .seen (tableIn q .reader l) < 2))
   -- "and stays at finish": at whatever event but an arrival of the task, and its mark with it
-  pub stays : (q : State) (e : Event ℕ) (r : Step) → Gives q e r → IsWhole q → IsSound q → r .answer .refusal ≡ 0 →
-      (l : ℕ) → SelfLink (tableIn q) l → ((m : ℕ) → e ≡ arrival m → has m (tableIn q .reader l) ≡ false) →
+  pub stays : (q : State) (c : Call) (r : Step) → Gives q c r → IsWhole q → IsSound q → r .answer .refusal ≡ 0 →
+      (l : ℕ) → SelfLink (tableIn q) l → ((m : ℕ) → callEvent c ≡ arrival m → has m (tableIn q .reader l) ≡ false) →
       (boxesIn (r .state) .pointer l ≡ boxesIn q .pointer l) × (boxesIn (r .state) .mark l ≡ boxesIn q .mark l)
   -- "soundness .. include[s] these links": a sound state has each of them so
   pub sound : (q : State) → IsSound q → (l : ℕ) → SelfLink (tableIn q) l → SoundlySet q l
@@ -75,10 +76,10 @@ pub record SelfLinks : Type 0 where
       p ≤ N (tableIn q) (tableIn q .reader l) + 2 → (standingIn q .active (tableIn q .reader l) ≡ true → 1 ≤ p) →
       m ≤ 1 → (m ≡ 1 → 1 ≤ p) → (1 ≤ p → boxesIn q .seen (tableIn q .reader l) < 2 → m ≡ 1) → IsSound q′
   -- "demands 2 and 3 include these links": the number read is the task's own last output, with which it last finished; in its first run, the start value
-  pub last-output : {T : Table ℕ} {es : List (Event ℕ)} {ns : List ℕ} {q : State} → Calls T es ns q →
-      EachRead (λ h l n. T .writer l ≡ T .reader l → 1 ≤ finishes h (T .reader l) → Gave (T .reader l) h (finishes h (T .reader l)) n) [] es ns
-  pub first-run : {T : Table ℕ} {es : List (Event ℕ)} {ns : List ℕ} {q : State} → Calls T es ns q →
-      EachRead (λ h l n. T .writer l ≡ T .reader l → finishes h (T .reader l) ≡ 0 → n ≡ T .startValue l) [] es ns
+  pub last-output : {T : Table ℕ} {es : List (Timed ℕ)} {ns : List ℕ} {q : State} → Calls T es ns q →
+      EachRead (λ h l n. T .writer l ≡ T .reader l → 1 ≤ finishes h (T .reader l) → Gave (T .reader l) h (finishes h (T .reader l)) n) [] (untimed es) ns
+  pub first-run : {T : Table ℕ} {es : List (Timed ℕ)} {ns : List ℕ} {q : State} → Calls T es ns q →
+      EachRead (λ h l n. T .writer l ≡ T .reader l → finishes h (T .reader l) ≡ 0 → n ≡ T .startValue l) [] (untimed es) ns
   -- and that is the run before this one: the run that reads is the next after those that have finished
-  pub run-before : {T : Table ℕ} {es : List (Event ℕ)} {ns : List ℕ} {q : State} → Calls T es ns q →
-      EachRead (λ h l n. arrivals h (T .reader l) ≡ suc (finishes h (T .reader l))) [] es ns
+  pub run-before : {T : Table ℕ} {es : List (Timed ℕ)} {ns : List ℕ} {q : State} → Calls T es ns q →
+      EachRead (λ h l n. arrivals h (T .reader l) ≡ suc (finishes h (T .reader l))) [] (untimed es) ns
