@@ -1,6 +1,6 @@
 //! All three replays give the same whole answers, or the program ends.
 use crate::answer::Replay;
-use crate::kind::{Kind, BASE, WIDE};
+use crate::kind::{Kind, KINDS};
 use crate::random::{self, Random};
 use crate::rows::Row;
 use crate::{fail, NAMES, REPLAYS};
@@ -8,8 +8,10 @@ use parnusild::{Answer, EVENTS};
 
 /// So many random recordings of each kind.
 const RECORDINGS: usize = 6_000;
-/// A replay refuses with 1 to 18 or 20, and 0 is none.
-const REFUSALS: usize = 21;
+/// A replay refuses with 1 to 18 or 20 to 24, and 0 is none.
+const REFUSALS: usize = 25;
+/// From here on only that of a dated recording.
+const OF_DATED: usize = 21;
 /// The refusal of single events alone.
 const UNSOUND: usize = 19;
 /// What the list holds before a replay.
@@ -56,16 +58,17 @@ fn check_random(kind: Kind) -> [usize; REFUSALS] {
         let room = if random.one_in(8) { random.below(40) } else { EVENTS };
         earned[agreed(&format!("random recording {} of kind {}", i, kind.first), &bytes, room)] += 1;
     }
-    if let Some(n) = (0..REFUSALS).find(|&n| n != UNSOUND && earned[n] == 0) {
+    let given = if kind.dated { 0..REFUSALS } else { 0..OF_DATED };
+    if let Some(n) = given.into_iter().find(|&n| n != UNSOUND && earned[n] == 0) {
         fail(format!("no random recording of kind {} was refused with {}", kind.first, n));
     }
     earned
 }
 
 /// Compares the answers to the timed recordings and to random ones. How many random ones of each kind earned each refusal.
-pub fn check(rows: &[Row]) -> [[usize; REFUSALS]; 2] {
+pub fn check(rows: &[Row]) -> [[usize; REFUSALS]; KINDS.len()] {
     check_timed(rows);
-    let earned = [BASE, WIDE].map(check_random);
+    let earned = KINDS.map(check_random);
     println!(
         "bench: same answers (refusal, place, state, counts, list): {} timed recordings, {} random ones of each kind",
         rows.len(),

@@ -1,7 +1,8 @@
 //! Random recordings, many of them damaged.
 use crate::answer::DELAYED;
-use crate::kind::{Kind, BASE, WIDE};
+use crate::kind::{Kind, KINDS};
 use crate::make::{link, Link, Maker};
+use parnusild::LAST_TICK;
 
 /// Random numbers (splitmix64).
 pub struct Random(pub u64);
@@ -88,10 +89,94 @@ fn some_events(random: &mut Random, kind: Kind, tasks: usize, links: &[Link]) ->
     m
 }
 
-/// In two of three cases one damage: a cut, a byte more or less, the other kind, or another byte.
-fn damage(random: &mut Random, bytes: &mut Vec<u8>, tasks: usize, links: usize) {
+/// Relative deadlines, few of them, so that many tasks are tied; now and then one that is none.
+fn some_deadlines(random: &mut Random, tasks: usize) -> Vec<u16> {
+    let most = [3, 40, 65_535][random.below(3)];
+    (0..tasks).map(|_| if random.one_in(2_000) { 0 } else { 1 + random.below(most) as u16 }).collect()
+}
+
+/// The jobs of a dated recording, by the order of tasks: which are active, which run, and when each is due.
+struct Jobs {
+    deadlines: Vec<u32>,
+    due: Vec<u32>,
+    active: usize,
+    running: usize,
+}
+
+impl Jobs {
+    fn new(deadlines: &[u16]) -> Jobs {
+        let mut deadlines: Vec<u32> = deadlines.iter().map(|&deadline| deadline.into()).collect();
+        deadlines.sort();
+        Jobs { due: vec![0; deadlines.len()], deadlines, active: 0, running: 0 }
+    }
+
+    /// The one that may run.
+    fn top(&self) -> Option<usize> {
+        (0..self.due.len()).filter(|t| self.active >> t & 1 == 1).min_by_key(|&t| (self.due[t], t))
+    }
+
+    fn begin(&mut self, set: usize, tick: u32) {
+        self.active |= set;
+        (0..self.due.len()).filter(|t| set >> t & 1 == 1).for_each(|t| self.due[t] = tick + self.deadlines[t]);
+    }
+
+    /// The next tick: as late as the job that may run allows, or sooner; now and then too late.
+    fn next_tick(&self, random: &mut Random, last: u32) -> u32 {
+        let until = self.top().map_or(last + 9, |top| self.due[top]).max(last);
+        let late = u32::from(random.one_in(300));
+        let tick = [last, last, last + 1, until, last + (until - last) / 2][random.below(5)].min(until) + late;
+        tick.min(LAST_TICK)
+    }
+}
+
+/// Up to 399 events of a dated recording, likewise; a job that is late may read, and no other one may run.
+fn some_dated_events(random: &mut Random, kind: Kind, deadlines: &[u16], links: &[Link]) -> Maker {
+    let tasks = deadlines.len();
+    let mut m = Maker::made(kind, deadlines, links, random.below(400));
+    let mut jobs = Jobs::new(deadlines);
+    let wild = random.one_in(3);
+    m.tick = [0, 1, LAST_TICK - 20][random.below(3)];
+    let mut tries = 0;
+    while !m.full() && tries < 4_000 {
+        tries += 1;
+        let last = m.tick;
+        m.tick = jobs.next_tick(random, last);
+        if wild && random.one_in(40) {
+            m.tick = [last, last.saturating_sub(1), LAST_TICK + 1, last + 9][random.below(4)];
+            any_event(random, &mut m, tasks, links.len());
+            m.tick = last;
+            continue;
+        }
+        match jobs.top() {
+            Some(top) if !random.one_in(4) => {
+                let bit = 1 << top;
+                if jobs.running & bit == 0 {
+                    m.start(top);
+                    jobs.running |= bit;
+                } else if random.one_in(3) && (m.tick <= jobs.due[top] || random.one_in(20)) {
+                    m.finish(top);
+                    jobs.active &= !bit;
+                    jobs.running &= !bit;
+                } else {
+                    m.reads(top, 1);
+                }
+            }
+            _ => {
+                let set = random.below(1 << tasks) & random.below(1 << tasks) & !jobs.active;
+                if set != 0 {
+                    m.arrival(set);
+                    jobs.begin(set, m.tick);
+                }
+            }
+        }
+    }
+    m
+}
+
+/// In two of three cases one damage: a cut, a byte more or less, another kind, or another byte.
+fn damage(random: &mut Random, bytes: &mut Vec<u8>, kind: Kind, tasks: usize, links: usize) {
     let size = bytes.len();
-    let count_of_links = 2 + 4 * tasks;
+    let count_of_links = 2 + kind.task_size() * tasks;
     let table = count_of_links + 1 + 7 * links + 2;
     let counts = [0, 1, count_of_links, table - 2, table - 1];
     let (place, below) = match random.below(15) {
@@ -108,7 +193,7 @@ fn damage(random: &mut Random, bytes: &mut Vec<u8>, tasks: usize, links: usize) 
         7 => (counts[random.below(5)], 256),
         8 => (counts[random.below(5)], 128),
         9 => {
-            bytes[0] ^= BASE.first ^ WIDE.first;
+            bytes[0] = KINDS[random.below(KINDS.len())].first;
             return;
         }
         _ => return,
@@ -116,11 +201,17 @@ fn damage(random: &mut Random, bytes: &mut Vec<u8>, tasks: usize, links: usize) 
     bytes[place] = random.below(below) as u8;
 }
 
-/// A random recording; damaged, it may be of the other kind.
+/// A random recording; damaged, it may be of another kind.
 pub fn recording(random: &mut Random, kind: Kind) -> Vec<u8> {
     let tasks = 1 + random.below(kind.tasks);
     let links = some_links(random, tasks, kind.links);
-    let mut bytes = some_events(random, kind, tasks, &links).bytes();
-    damage(random, &mut bytes, tasks, links.len());
+    let made = if kind.dated {
+        let deadlines = some_deadlines(random, tasks);
+        some_dated_events(random, kind, &deadlines, &links)
+    } else {
+        some_events(random, kind, tasks, &links)
+    };
+    let mut bytes = made.bytes();
+    damage(random, &mut bytes, kind, tasks, links.len());
     bytes
 }

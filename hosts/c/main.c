@@ -3,6 +3,7 @@
  * events that are refused; then tries each call at edge sizes; then writes the recording itself, in both kinds, replays what it wrote, and
  * has some writing refused; then holds each kind to its limits, and a state to its room; then reads the start value of a delayed link up to
  * its writer's second arrival, and has a state refused after each change that makes it unsound; then has a task read its own last output;
+ * then gives events at ticks to a state by deadlines, has ticks, deadlines and states refused there, and writes and replays a dated recording;
  * then sees that each named field of a state stands where the library has it.
  *
  *     host FILE       the long example of docs/FORMAT.md (recordings/figure-17.rec)
@@ -69,7 +70,7 @@ static void sizes(void)
 static int same(const struct parnusild_state *a, const struct parnusild_state *b)
 {
     return a->tasks == b->tasks && a->links == b->links && !memcmp(&a->control, &b->control, sizeof a->control)
-        && !memcmp(&a->values, &b->values, sizeof a->values);
+        && !memcmp(&a->values, &b->values, sizeof a->values) && !memcmp(&a->times, &b->times, sizeof a->times);
 }
 
 /* the replay of a whole recording */
@@ -217,6 +218,20 @@ static void least_of_kind(uint8_t kind)
     edge("first byte alone", least, 1, NULL, 0);
 }
 
+/* likewise of a dated one, whose task has a relative deadline; without one it is 24 */
+static void least_dated(void)
+{
+    const uint8_t least[12] = { PARNUSILD_KIND_DATED, 1, 0, 0, 0, 0, 1 };
+    const uint8_t without[12] = { PARNUSILD_KIND_DATED, 1 };
+    printf("kind %u\n", PARNUSILD_KIND_DATED);
+    edge("least recording", least, 11, NULL, 0);
+    edge("one byte short", least, 10, NULL, 0);
+    edge("one byte more", least, 12, NULL, 0);
+    edge("first byte alone", least, 1, NULL, 0);
+    edge("a byte of its relative deadline", least, 7, NULL, 0);
+    edge("no relative deadline", without, 11, NULL, 0);
+}
+
 static void edge_sizes(size_t size)
 {
     edge("room one more", bytes, size, numbers, 9);
@@ -228,7 +243,7 @@ static void edge_sizes(size_t size)
     least_of_kind(252);
     least_of_kind(PARNUSILD_KIND_BASE);
     least_of_kind(PARNUSILD_KIND_WIDE);
-    least_of_kind(255);
+    least_dated();
 }
 
 /* the buffer that is written to, 77 in each byte before; the longest that is written here has 1258 */
@@ -259,8 +274,8 @@ static size_t as_numbers(uint32_t *list)
 /* what is handed over to be written */
 struct handover {
     uint32_t kind;
-    const uint32_t *defaults;
-    size_t tasks;
+    const uint32_t *tasks;
+    size_t tasks_size;
     const uint32_t *links;
     size_t links_size;
     const uint32_t *events;
@@ -274,7 +289,7 @@ static size_t put(const char *what, const struct handover *h, size_t room)
     size_t place = 77;
     unsigned refusal;
     memset(written, 77, sizeof written);
-    refusal = parnusild_recording_write(h->kind, h->defaults, h->tasks, h->links, h->links_size, h->events, h->events_size, written,
+    refusal = parnusild_recording_write(h->kind, h->tasks, h->tasks_size, h->links, h->links_size, h->events, h->events_size, written,
                                         room, &place);
     printf("%s: refusal %u at %zu, %s %s\n", what, refusal, place, refusal ? "buffer" : "rest",
            touched(refusal ? 0 : place) ? "CHANGED" : "kept");
@@ -332,7 +347,7 @@ static void writing(size_t size)
  * there are not, before all else */
 static void writing_wide(const struct parnusild_state *state_of_file)
 {
-    static const uint32_t none[] = { 0, 252, 255, 256 + PARNUSILD_KIND_BASE, 256 + PARNUSILD_KIND_WIDE, 0xffffffff };
+    static const uint32_t none[] = { 0, 252, 256 + PARNUSILD_KIND_BASE, 256 + PARNUSILD_KIND_WIDE, 256 + PARNUSILD_KIND_DATED, 0xffffffff };
     uint32_t events[3 * sizeof example / sizeof example[0]];
     const size_t all = as_numbers(events);
     const struct handover whole = example_of(PARNUSILD_KIND_WIDE, events, all);
@@ -418,7 +433,7 @@ static size_t put_rings(uint32_t kind, size_t tasks, size_t links, uint32_t set)
     static uint32_t events[2 + 5 * (PARNUSILD_TASKS + 1) + 2 * (PARNUSILD_LINKS + 1)];
     struct handover h = { 0, defaults, 0, list, 0, events, 0 };
     h.kind = kind;
-    h.tasks = tasks;
+    h.tasks_size = tasks;
     h.links_size = rings_as_numbers(list, tasks, links);
     h.events_size = round_as_numbers(events, set, tasks, links);
     printf("kind %u, %zu tasks, %zu links, set %x, ", (unsigned)kind, tasks, links, (unsigned)set);
@@ -576,7 +591,165 @@ static void filter(void)
     printf("its runs: %s\n", refusals ? "REFUSED" : "accepted");
 }
 
-/* where a named field begins in what is lent and how long it is, in bytes of the control or numbers of the values */
+/* an event at a tick: its refusal; then what it left of the state and of `number`, or the last tick and the number */
+static void give(const char *what, struct parnusild_state *state, uint32_t tick, uint8_t kind, uint32_t which, uint32_t value)
+{
+    const struct parnusild_state before = *state;
+    uint32_t number = 77;
+    unsigned refusal = parnusild_state_event_at(state, tick, kind, which, value, &number);
+    printf("%s at %u: refusal %u, ", what, (unsigned)tick, refusal);
+    if (refusal)
+        printf("state %s", same(state, &before) ? "kept" : "CHANGED");
+    else
+        printf("last %u", (unsigned)state->times.last);
+    printf(", number %u\n", (unsigned)number);
+}
+
+/* two tasks with relative deadlines 5 and 2, so that task 1 is ahead; a direct link from it to task 0, and a delayed one back */
+static const struct parnusild_table dated_table = {
+    .tasks = 2,
+    .links = 2,
+    .defaults = { 100, 101 },
+    .writer = { 1, 0 },
+    .reader = { 0, 1 },
+    .kind = { 0, 1 },
+    .start_value = { 0, 40 },
+};
+static const uint16_t relative[PARNUSILD_TASKS] = { 5, 2 };
+
+/* what a table and relative deadlines make: the refusal, the tasks, and the policy */
+static void make_dated(const char *what, const struct parnusild_table *tried, const uint16_t *deadlines)
+{
+    struct parnusild_state state;
+    unsigned refusal;
+    memset(&state, 0x55, sizeof state);
+    refusal = parnusild_state_fresh_dated(&state, tried, deadlines);
+    printf("%s: refusal %u, tasks %zu, policy %u\n", what, refusal, state.tasks, (unsigned)state.times.policy);
+}
+
+/* tables with relative deadlines: 2, then 24, then 3, then links by their order */
+static void dated_tables(void)
+{
+    uint16_t other[PARNUSILD_TASKS] = { 2, 5 };
+    struct parnusild_table tried = dated_table;
+    make_dated("relative deadlines 5 and 2", &tried, relative);
+    make_dated("2 and 5, a direct link to a reader ahead", &tried, other);
+    other[0] = 5;
+    make_dated("5 and 5, likewise", &tried, other);
+    other[1] = 0;
+    make_dated("5 and none", &tried, other);
+    tried.links = 97;
+    make_dated("5 and none, 97 links", &tried, other);
+    make_dated("5 and 2, 97 links", &tried, relative);
+    tried.tasks = 33;
+    make_dated("5 and none, 33 tasks, 97 links", &tried, other);
+}
+
+/* task 0 is due at 5; so is task 1, which arrives at 3 and goes first, and again at 4 and is then due at 6; task 0 finishes at its deadline */
+static void by_deadlines(struct parnusild_state *state)
+{
+    uint32_t number = 77;
+    printf("fresh %u\n", parnusild_state_fresh_dated(state, &dated_table, relative));
+    printf("arrival %u\n", parnusild_state_arrival_at(state, 0, 0x1));
+    printf("start %u\n", parnusild_state_start_at(state, 1, 0));
+    printf("arrival %u\n", parnusild_state_arrival_at(state, 3, 0x2));
+    give("read while a job is due at once, of a task ahead", state, 3, PARNUSILD_READ, 0, 0);
+    printf("start %u\n", parnusild_state_start_at(state, 3, 1));
+    printf("read %u", parnusild_state_read_at(state, 3, 1, &number));
+    printf(" number %u\n", (unsigned)number);
+    printf("finish %u\n", parnusild_state_finish_at(state, 3, 1, 11));
+    printf("arrival %u\n", parnusild_state_arrival_at(state, 4, 0x2));
+    printf("since %u %u\n", (unsigned)state->times.since[0], (unsigned)state->times.since[1]);
+    give("start of a job that is due later", state, 4, PARNUSILD_START, 1, 0);
+    printf("read %u", parnusild_state_read_at(state, 4, 0, &number));
+    printf(" number %u\n", (unsigned)number);
+    give("finish one tick after its deadline", state, 6, PARNUSILD_FINISH, 0, 5);
+    printf("finish %u\n", parnusild_state_finish_at(state, 5, 0, 5));
+    printf("since %u %u\n", (unsigned)state->times.since[0], (unsigned)state->times.since[1]);
+}
+
+/* ticks on either side of the last one and of the limit; what comes before a tick, and what after it */
+static void ticks(struct parnusild_state *state)
+{
+    give("unknown kind 5", state, 0, 5, 0, 0);
+    give("empty set", state, 4, PARNUSILD_ARRIVAL, 0, 0);
+    give("task 256", state, 0xffffffff, PARNUSILD_START, 256, 0);
+    give("active task arrives", state, 4, PARNUSILD_ARRIVAL, 0x2, 0);
+    give("active task arrives", state, PARNUSILD_LAST_TICK + 1, PARNUSILD_ARRIVAL, 0x2, 0);
+    give("active task arrives", state, PARNUSILD_LAST_TICK, PARNUSILD_ARRIVAL, 0x2, 0);
+    give("idle task starts", state, 4, PARNUSILD_START, 0, 0);
+    give("idle task starts", state, 5, PARNUSILD_START, 0, 0);
+    give("waiting task finishes", state, 9, PARNUSILD_FINISH, 1, 0);
+    give("waiting task starts late", state, PARNUSILD_LAST_TICK, PARNUSILD_START, 1, 0);
+    give("idle task arrives", state, PARNUSILD_LAST_TICK, PARNUSILD_ARRIVAL, 0x1, 0);
+    give("late task finishes", state, PARNUSILD_LAST_TICK, PARNUSILD_FINISH, 1, 0);
+}
+
+/* a number of the times changed, which is then put back: the arrival of task 0 */
+static void arrive_with(const char *what, struct parnusild_state *state, uint32_t *field, uint32_t changed)
+{
+    struct parnusild_state tried;
+    const uint32_t kept = *field;
+    *field = changed;
+    tried = *state;
+    give(what, &tried, 9, PARNUSILD_ARRIVAL, 0x1, 0);
+    *field = kept;
+}
+
+/* what soundness asks of times; then each call on a state of the other policy */
+static void unsound_times(void)
+{
+    struct parnusild_state state, fixed;
+    parnusild_state_fresh_dated(&state, &dated_table, relative);
+    parnusild_state_arrival_at(&state, 4, 0x2);
+    arrive_with("as it is", &state, &state.times.last, 4);
+    arrive_with("last tick below an arrival", &state, &state.times.last, 3);
+    arrive_with("last tick above the limit", &state, &state.times.last, PARNUSILD_LAST_TICK + 1);
+    arrive_with("arrival above the last tick", &state, &state.times.since[1], 5);
+    arrive_with("arrival tick of an idle task", &state, &state.times.since[0], 1);
+    arrive_with("no relative deadline", &state, &state.times.deadline[0], 0);
+    arrive_with("direct link to a reader ahead", &state, &state.times.deadline[0], 2);
+    arrive_with("policy 2", &state, &state.times.policy, 2);
+    arrive_with("past the tasks", &state, &state.times.since[2], 9);
+    refuse("without a tick", &state, PARNUSILD_ARRIVAL, 1);
+    refuse("without a tick, unknown kind", &state, 9, 1);
+    parnusild_state_fresh(&fixed, &table);
+    give("fixed priorities", &fixed, 0, PARNUSILD_ARRIVAL, 1, 0);
+    give("fixed priorities, unknown kind", &fixed, 0, 9, 1, 0);
+    fixed.times.last = 1;
+    refuse("fixed priorities with a last tick", &fixed, PARNUSILD_ARRIVAL, 1);
+    fixed.times.last = 0;
+    fixed.times.deadline[3] = 1;
+    refuse("fixed priorities with a relative deadline", &fixed, PARNUSILD_ARRIVAL, 1);
+}
+
+/* a dated recording written, replayed and compared with the same events one by one; then refused */
+static void writing_dated(void)
+{
+    static const uint32_t tasks[] = { 100, 5, 101, 2, 7 }, links[] = { 1, 0, 0, 0, 0, 1, 1, 40 };
+    static uint32_t events[] = { 1, 0, 1, 2, 1, 0, 1, 3, 2, 2, 3, 1, 3, 3, 1, 4, 3, 1, 11, 3, 5, 0, 4, 5, 0, 5 };
+    const size_t all = sizeof events / sizeof events[0];
+    const struct handover whole = { PARNUSILD_KIND_DATED, tasks, 4, links, 8, events, all };
+    struct handover other = whole;
+    struct parnusild_state state;
+    const size_t size = put("written, dated", &whole, sizeof written);
+    replay(written, size, &state);
+    printf("last %u, policy %u\n", (unsigned)state.times.last, (unsigned)state.times.policy);
+    put("one byte short", &whole, size - 1);
+    other.tasks_size = 5;
+    put("task begun", &other, sizeof written);
+    other.tasks_size = 3;
+    put("task 1 begun", &other, sizeof written);
+    other = whole;
+    other.events_size = all - 1;
+    put("event begun", &other, sizeof written);
+    put_with("finish after its deadline", &whole, &events[all - 3], 6, sizeof written);
+    put_with("tick below the last", &whole, &events[7], 0, sizeof written);
+    put_with("tick above the limit", &whole, &events[7], PARNUSILD_LAST_TICK + 1, sizeof written);
+    put_with("start of task 256, dated", &whole, &events[11], 256, sizeof written);
+}
+
+/* where a named field begins in what is lent and how long it is, in bytes of the control or numbers of the values and times */
 #define STANDS(part, field) \
     printf(#field ": %zu from %zu on\n", sizeof state->part.field / sizeof state->part.field[0], \
            offsetof(struct parnusild_##part, field) / sizeof state->part.field[0])
@@ -597,6 +770,11 @@ static void layout(const struct parnusild_state *state)
     STANDS(values, defaults);
     STANDS(values, start_value);
     STANDS(values, cells);
+    printf("times: %zu numbers\n", sizeof state->times / sizeof(uint32_t));
+    STANDS(times, deadline);
+    STANDS(times, since);
+    printf("last: at %zu\n", offsetof(struct parnusild_times, last) / sizeof(uint32_t));
+    printf("policy: at %zu\n", offsetof(struct parnusild_times, policy) / sizeof(uint32_t));
 }
 
 /* as many tasks and links as there can be, so that no slot of a field is left out: in rings */
@@ -692,6 +870,26 @@ static void fields_put(void)
     show_numbers("start_value", state.values.start_value, PARNUSILD_LINKS);
     for (task = 0; task < PARNUSILD_TASKS; task++)
         show_numbers("cells", &state.values.cells[task * PARNUSILD_POSITIONS], PARNUSILD_POSITIONS);
+    show_numbers("times", (const uint32_t *)&state.times, PARNUSILD_TIMES);
+}
+
+/* what it puts into the times: the last task has arrived at 9, the others at 7 and 8 by turns */
+static void times_put(void)
+{
+    struct parnusild_table full;
+    struct parnusild_state state;
+    uint16_t deadlines[PARNUSILD_TASKS];
+    unsigned refusals;
+    size_t task;
+    full_table(&full);
+    for (task = 0; task < PARNUSILD_TASKS; task++)
+        deadlines[task] = (uint16_t)(10 + task);
+    refusals = parnusild_state_fresh_dated(&state, &full, deadlines);
+    refusals |= parnusild_state_arrival_at(&state, 7, 0x55555555);
+    refusals |= parnusild_state_arrival_at(&state, 8, 0x2aaaaaaa);
+    refusals |= parnusild_state_arrival_at(&state, 9, 0x80000000);
+    printf("arrivals at ticks: %s\n", refusals ? "REFUSED" : "accepted");
+    show_numbers("times", (const uint32_t *)&state.times, PARNUSILD_TIMES);
 }
 
 /* the fresh state of four tasks and one direct link, from task 0 to task 2; with its own number in each position */
@@ -828,8 +1026,14 @@ int main(int argc, char **argv)
     unsound_by_one_change();
     filter();
     end_of_the_room();
+    dated_tables();
+    by_deadlines(&state);
+    ticks(&state);
+    unsound_times();
+    writing_dated();
     layout(&state);
     fields_put();
+    times_put();
     fields_taken();
     delayed_fields_taken();
     return 0;

@@ -2,7 +2,7 @@
 //! with the oracle's, which was written from documents 01 and 02 alone.
 
 use oracle::command;
-use oracle::format::{Counts, Event};
+use oracle::format::{Counts, Event, Timed};
 use oracle::state::State;
 use oracle::subject::{Answer, Made, OneAnswer, Subject};
 use oracle::tables::LentTable;
@@ -33,11 +33,17 @@ fn lent(state: &State) -> parnusild::State {
             kind: state.kind,
         },
         values: parnusild::Values { defaults: state.defaults, start_value: state.start_value, cells: state.cells },
+        times: parnusild::Times {
+            deadline: state.deadline,
+            since: state.since,
+            last: state.last,
+            policy: state.policy,
+        },
     }
 }
 
 fn handed_back(state: &parnusild::State) -> State {
-    let (control, values) = (&state.control, &state.values);
+    let (control, values, times) = (&state.control, &state.values, &state.times);
     State {
         tasks: narrow(state.tasks),
         links: narrow(state.links),
@@ -53,6 +59,10 @@ fn handed_back(state: &parnusild::State) -> State {
         start_value: values.start_value,
         pointer: control.pointer,
         mark: control.mark,
+        deadline: times.deadline,
+        since: times.since,
+        last: times.last,
+        policy: times.policy,
     }
 }
 
@@ -73,7 +83,7 @@ impl Subject for Proved {
         "the proved library".to_string()
     }
 
-    fn sizes(&self) -> [usize; 4] {
+    fn sizes(&self) -> [usize; 5] {
         parnusild::sizes()
     }
 
@@ -96,25 +106,31 @@ impl Subject for Proved {
     }
 
     fn fresh(&self, table: &LentTable) -> Made {
-        let made = parnusild::State::fresh(&asked(table));
+        let made = match &table.deadlines {
+            Some(deadlines) => parnusild::State::fresh_dated(&asked(table), deadlines),
+            None => parnusild::State::fresh(&asked(table)),
+        };
         Made { refusal: made.refusal, state: handed_back(&made.state) }
     }
 
-    fn one_event(&self, state: &State, event: Event) -> OneAnswer {
-        let (kind, which, value) = match event {
+    fn one_event(&self, state: &State, timed: Timed) -> OneAnswer {
+        let (kind, which, value) = match timed.event {
             Event::Arrival(set) => (1, set, 0),
             Event::Start(task) => (2, u32::from(task), 0),
             Event::Read(link) => (3, u32::from(link), 0),
             Event::Finish(task, value) => (4, u32::from(task), value),
         };
         let mut after = lent(state);
-        let (refusal, value) = after.call(kind, which, value);
+        let (refusal, value) = match timed.tick {
+            Some(tick) => after.call_at(tick, kind, which, value),
+            None => after.call(kind, which, value),
+        };
         OneAnswer { refusal, value, state: handed_back(&after) }
     }
 
     fn write(&self, handover: &Handover, buffer: &mut [u8]) -> Written {
-        let Handover { kind, defaults, links, events } = handover;
-        let written = parnusild::write(*kind, defaults, links, events, buffer);
+        let Handover { kind, tasks, links, events } = handover;
+        let written = parnusild::write(*kind, tasks, links, events, buffer);
         Written { refusal: written.refusal, place: written.place }
     }
 }

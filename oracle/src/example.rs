@@ -1,7 +1,8 @@
 //! The long example of the document, with the start value 90 of request
-//! 2026-02, and a short one of request 2026-04, of the kind of request 2026-06.
+//! 2026-02; a short one of request 2026-04, of the kind of request 2026-06; and
+//! one of request 2026-07.
 
-use crate::format::{Event, Link, Recording, Table};
+use crate::format::{untimed, Event, Link, Recording, Table};
 use crate::sizes::RecordingKind;
 use Event::{Arrival as A, Finish as F, Read as R, Start as S};
 
@@ -10,6 +11,7 @@ pub fn example(number: usize) -> Option<Recording> {
     match number {
         0 => Some(long_example()),
         1 => Some(own_output_example()),
+        2 => Some(deadline_example()),
         _ => None,
     }
 }
@@ -37,7 +39,30 @@ pub fn own_output_example() -> Recording {
     recording(RecordingKind::THIRTY_TWO, &[1000, 1001], &[([0, 0, 1], 40), ([0, 1, 0], 0), ([1, 1, 1], 7)], events)
 }
 
+/// Three tasks with relative deadlines 5, 2 and 5, so that task 1 is ahead of task
+/// 0, and task 0 of task 2. The job of task 0 is due at 5, as early as that of task
+/// 1 that arrives at 3, which goes first; the second one of task 1, that arrives
+/// at 4, is due at 6 and so does not interrupt task 0, which finishes at its
+/// deadline.
+#[rustfmt::skip]
+pub fn deadline_example() -> Recording {
+    let events = [
+        (0, A(0b001)), (1, S(0)), (2, A(0b100)),
+        (3, A(0b010)), (3, S(1)), (3, R(0)), (3, F(1, 11)),
+        (4, A(0b010)), (4, R(1)), (5, F(0, 5)),
+        (5, S(1)), (6, R(0)), (6, F(1, 12)),
+        (6, S(2)), (7, R(2)), (7, F(2, 21)),
+    ];
+    let table = Table {
+        defaults: vec![100, 101, 102],
+        deadlines: Some(vec![5, 2, 5]),
+        links: vec![Link::of([0, 1, 1], 40), Link::of([1, 0, 0], 0), Link::of([0, 2, 0], 0)],
+    };
+    let events = events.map(|(tick, event)| event.at(tick)).to_vec();
+    Recording { kind: RecordingKind::DATED, table, events }
+}
+
 fn recording(kind: RecordingKind, defaults: &[u32], links: &[([u8; 3], u32)], events: Vec<Event>) -> Recording {
     let links = links.iter().map(|(ends, start_value)| Link::of(*ends, *start_value)).collect();
-    Recording { kind, table: Table { defaults: defaults.to_vec(), links }, events }
+    Recording { kind, table: Table::undated(defaults.to_vec(), links), events: untimed(&events) }
 }

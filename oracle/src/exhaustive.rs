@@ -5,20 +5,24 @@
 //! Finish values are all different, and neither engine looks at a value, so
 //! two histories whose states differ only by a renaming of values have the
 //! same futures. States are therefore kept with values renamed in the order
-//! they first appear, and a state already known is not entered again.
+//! they first appear, and a state already known is not entered again. Nor does
+//! anything look at a tick but beside others and the limit, so that ticks are kept
+//! as how long ago each was, and how far the limit is.
 
+mod steps;
 mod tables;
 
 use std::collections::HashSet;
 
 use crate::engine::{Engine, FreshEngine, IDLE};
-use crate::format::{encode, Event, Recording, Table};
+use crate::format::{encode, Event, Recording, Table, Timed};
 use crate::laws::sound_by_sentence;
 use crate::pointers::Pointers;
-use crate::sizes::{RecordingKind, KINDS, ROOM};
+use crate::sizes::{RecordingKind, KINDS, MOST_TICK};
 use crate::subject::{remembered_alike, OneAnswer, Subject};
 use crate::writing::{Handover, Written};
 use crate::zero_time::ZeroTime;
+use steps::{alphabet, Step};
 use tables::Explored;
 pub use tables::{explored_tables, self_links};
 
@@ -50,69 +54,68 @@ struct Pair {
     zero: ZeroTime,
 }
 
-/// A state is kept as the way to it: the node before and the event.
+/// A state is kept as the way to it: the node before and the step.
 struct Node {
     before: u32,
-    event: u8,
+    step: u8,
 }
 
-/// All events worth giving to a table, each kind's out-of-range one included,
-/// where there is one. The value of a finish is filled in when it is given.
-fn alphabet(explored: &Explored) -> Vec<Event> {
-    let Explored { table, first_task, first_link } = explored;
-    let tasks = table.defaults.len();
-    let mut sets: Vec<u32> = (0..1 << (tasks - first_task)).map(|set: u32| set << first_task).collect();
-    if tasks < ROOM.tasks {
-        sets.extend([1 << tasks, 1 << tasks | 1 << first_task]);
-    }
-    let mut events: Vec<Event> = sets.into_iter().map(Event::Arrival).collect();
-    for task in *first_task as u8..=tasks as u8 {
-        events.push(Event::Start(task));
-        events.push(Event::Finish(task, 0));
-    }
-    events.extend((*first_link as u8..=table.links.len() as u8).map(Event::Read));
-    events
-}
+/// A job that arrived longer ago is not looked into: from the largest relative
+/// deadline on there is one tick at which it is late.
+const LONGEST_AGO: u32 = 4;
 
 impl Pair {
     fn fresh(table: &Table) -> Pair {
         Pair { pointers: Pointers::fresh(table), zero: ZeroTime::fresh(table) }
     }
 
-    /// A finish writes a value no other finish of the history writes.
-    fn filled(&self, event: Event, tasks: usize) -> Event {
-        match event {
+    /// The event of a step, at the tick to which it leads, if there is one. A
+    /// finish writes a value no other finish of the history writes.
+    fn filled(&self, step: Step, tasks: usize) -> Option<Timed> {
+        let timed = step.timed(self.pointers.state.last)?;
+        let event = match timed.event {
             Event::Finish(task, _) if usize::from(task) < tasks => {
                 Event::Finish(task, u32::from(task) << 24 | (self.zero.finishes(usize::from(task)) as u32 + 1))
             }
             other => other,
-        }
+        };
+        Some(Timed { event, ..timed })
+    }
+
+    fn apply(&mut self, timed: Timed) -> [u32; 2] {
+        [self.pointers.apply(timed), self.zero.apply(timed)]
+    }
+
+    /// How long ago the tasks arrived that are active; 255 where one is not.
+    fn ages(&self, tasks: usize) -> impl Iterator<Item = u32> + '_ {
+        let state = &self.pointers.state;
+        (0..tasks).map(move |task| if state.active(task) { state.last - state.since[task] } else { 255 })
     }
 
     /// The engines' and the subject's answers to an event; the state after it
     /// if accepted.
-    fn give(&self, subject: &dyn Subject, event: Event) -> Result<Option<Pair>, String> {
-        let (by_pointers, by_counts) = (self.pointers.judge(event), self.zero.judge(event));
+    fn give(&self, subject: &dyn Subject, timed: Timed) -> Result<Option<Pair>, String> {
+        let (by_pointers, by_counts) = (self.pointers.judge(timed), self.zero.judge(timed));
         if by_pointers != by_counts {
-            return Err(format!("{:?}: {} by pointers, {} by counts", event, by_pointers, by_counts));
+            return Err(format!("{:?}: {} by pointers, {} by counts", timed, by_pointers, by_counts));
         }
-        let said = subject.one_event(&self.pointers.state, event);
+        let said = subject.one_event(&self.pointers.state, timed);
         if by_pointers != 0 {
             return self.refused(by_pointers, said);
         }
         let mut next = self.clone();
-        let (number, zero_number) = (next.pointers.apply(event), next.zero.apply(event));
+        let [number, zero_number] = next.apply(timed);
         if number != zero_number {
-            return Err(format!("{:?}: reads {:#x}, in zero time {:#x}", event, number, zero_number));
+            return Err(format!("{:?}: reads {:#x}, in zero time {:#x}", timed, number, zero_number));
         }
         if !sound_by_sentence(&next.pointers.state) {
-            return Err(format!("{:?} leads to a state that is not sound", event));
+            return Err(format!("{:?} leads to a state that is not sound", timed));
         }
         if !remembered_alike(&next.pointers.state, &next.zero) {
-            return Err(format!("{:?} leads to arrivals or marks that are not the history's", event));
+            return Err(format!("{:?} leads to arrivals, marks or ticks that are not the history's", timed));
         }
         if said != (OneAnswer { refusal: 0, value: number, state: next.pointers.state }) {
-            return Err(format!("{:?}: {} says {:?}", event, subject.name(), said));
+            return Err(format!("{:?}: {} says {:?}", timed, subject.name(), said));
         }
         Ok(Some(next))
     }
@@ -131,6 +134,10 @@ impl Pair {
         let mut key = Vec::with_capacity(64);
         (0..table.defaults.len()).for_each(|task| self.note_task(task, &mut names, &mut key));
         (0..table.links.len()).for_each(|link| self.note_link(link, &mut names, &mut key));
+        if table.deadlines.is_some() {
+            key.extend(self.ages(table.defaults.len()).map(|ago| ago as u8));
+            key.push((MOST_TICK - self.pointers.state.last).min(LONGEST_AGO) as u8);
+        }
         key.into_boxed_slice()
     }
 
@@ -179,7 +186,7 @@ struct Search<'a> {
     table: &'a Table,
     /// The kinds of recordings that may have the table.
     kinds: Vec<RecordingKind>,
-    events: Vec<Event>,
+    steps: Vec<Step>,
     nodes: Vec<Node>,
     known: HashSet<Box<[u8]>>,
     transitions: usize,
@@ -189,35 +196,50 @@ struct Search<'a> {
 impl<'a> Search<'a> {
     fn new(subject: &'a dyn Subject, explored: &'a Explored) -> Search<'a> {
         let table = &explored.table;
-        let has_room = |kind: &RecordingKind| kind.limits.refusal(table.defaults.len(), table.links.len()) == 0;
+        let has_room = |kind: &RecordingKind| {
+            let within = kind.limits.refusal(table.defaults.len(), table.links.len()) == 0;
+            within && kind.dated == table.deadlines.is_some()
+        };
         let kinds = KINDS.into_iter().filter(has_room).collect();
-        let nodes = vec![Node { before: u32::MAX, event: 0 }];
+        let nodes = vec![Node { before: u32::MAX, step: 0 }];
         let known = HashSet::from([Pair::fresh(table).key(table)]);
-        Search { subject, table, kinds, events: alphabet(explored), nodes, known, transitions: 0, written: 0 }
+        Search { subject, table, kinds, steps: alphabet(explored), nodes, known, transitions: 0, written: 0 }
+    }
+
+    fn tasks(&self) -> usize {
+        self.table.defaults.len()
     }
 
     /// Gives every event to the state of a node; a state not known before
     /// becomes a node.
     fn step(&mut self, number: usize) -> Result<(), String> {
-        let pair = self.rebuild(number);
-        for (code, &event) in self.events.iter().enumerate() {
+        let (pair, path) = self.rebuild(number);
+        for (code, &step) in self.steps.iter().enumerate() {
+            let timed = match pair.filled(step, self.tasks()) {
+                Some(timed) => timed,
+                None => continue,
+            };
             self.transitions += 1;
-            let next = pair
-                .give(self.subject, pair.filled(event, self.table.defaults.len()))
-                .map_err(|fault| format!("{} after {:?}", fault, self.path(number)))?;
-            if next.map_or(false, |next| self.known.insert(next.key(self.table))) {
-                self.nodes.push(Node { before: number as u32, event: code as u8 });
+            let next = pair.give(self.subject, timed).map_err(|fault| format!("{} after {:?}", fault, path))?;
+            let entered = next.filter(|next| next.ages(self.tasks()).all(|ago| ago <= LONGEST_AGO || ago == 255));
+            if entered.map_or(false, |next| self.known.insert(next.key(self.table))) {
+                self.nodes.push(Node { before: number as u32, step: code as u8 });
             }
         }
-        self.written += 1;
-        self.write(number, self.events[number % self.events.len()], &pair)
+        match pair.filled(self.steps[number % self.steps.len()], self.tasks()) {
+            Some(more) => {
+                self.written += 1;
+                self.write(number, path, more, &pair)
+            }
+            None => Ok(()),
+        }
     }
 
     /// The events that lead to a node and one more, written: refused if that
     /// one is, at its place.
-    fn write(&self, number: usize, more: Event, pair: &Pair) -> Result<(), String> {
+    fn write(&self, number: usize, path: Vec<Timed>, more: Timed, pair: &Pair) -> Result<(), String> {
         let kind = self.kinds[number % self.kinds.len()];
-        let mut recording = Recording { kind, table: self.table.clone(), events: self.path(number) };
+        let mut recording = Recording { kind, table: self.table.clone(), events: path };
         let place = encode(&recording).len();
         recording.events.push(more);
         let bytes = encode(&recording);
@@ -234,26 +256,22 @@ impl<'a> Search<'a> {
         Ok(())
     }
 
-    /// The events that lead to a node.
-    fn path(&self, number: usize) -> Vec<Event> {
+    /// The state of a node, and the events that lead to it.
+    fn rebuild(&self, number: usize) -> (Pair, Vec<Timed>) {
         let mut back = Vec::new();
         let mut node = &self.nodes[number];
         while node.before != u32::MAX {
-            back.push(self.events[usize::from(node.event)]);
+            back.push(self.steps[usize::from(node.step)]);
             node = &self.nodes[node.before as usize];
         }
-        back.reverse();
-        back
-    }
-
-    fn rebuild(&self, number: usize) -> Pair {
         let mut pair = Pair::fresh(self.table);
-        for event in self.path(number) {
-            let event = pair.filled(event, self.table.defaults.len());
-            pair.pointers.apply(event);
-            pair.zero.apply(event);
+        let mut path = Vec::new();
+        for step in back.into_iter().rev() {
+            let timed = pair.filled(step, self.tasks()).expect("the step led to a node");
+            pair.apply(timed);
+            path.push(timed);
         }
-        pair
+        (pair, path)
     }
 }
 
@@ -262,7 +280,7 @@ pub fn explore(subject: &dyn Subject, explored: &Explored, most: usize) -> Resul
     let mut search = Search::new(subject, explored);
     let mut level = 0..1;
     let mut depth = 0;
-    while depth < most && !level.is_empty() {
+    while depth < most.min(explored.deepest) && !level.is_empty() {
         level.clone().try_for_each(|number| search.step(number))?;
         level = level.end..search.nodes.len();
         depth += 1;

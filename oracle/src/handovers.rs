@@ -4,17 +4,18 @@
 
 mod changed;
 mod competing;
+mod dated;
 mod kinds;
 mod limits;
 mod short;
 mod split;
 
-use crate::format::{Event, Link, Recording, Table, LINK_BYTES};
+use crate::format::{Event, Link, Recording, Timed, LINK_BYTES};
 use crate::prng::Prng;
 use crate::random_table::Size;
 use crate::schedule::random_recording;
 use crate::sizes::RecordingKind;
-use crate::writing::{begun_events, Handover, LINK_NUMBERS};
+use crate::writing::{begun_events, task_numbers, Handover, LINK_NUMBERS};
 use changed::{every_cut, every_number, every_room, small_or_example};
 use competing::{competing_events, competing_links, soup};
 use kinds::{every_kind, some_kind};
@@ -31,21 +32,29 @@ pub struct Lent {
 
 impl Handover {
     pub fn of(recording: &Recording) -> Handover {
-        let Recording { kind, table: Table { defaults, links }, events } = recording;
+        let Recording { kind, table, events } = recording;
+        let task = |task: usize| [table.defaults[task], table.deadline(task)].into_iter().take(task_numbers(*kind));
         Handover {
             kind: kind.number(),
-            defaults: defaults.clone(),
-            links: links.iter().flat_map(|link| link_numbers(*link)).collect(),
-            events: events.iter().flat_map(|event| numbers(*event)).collect(),
+            tasks: (0..table.defaults.len()).flat_map(task).collect(),
+            links: table.links.iter().flat_map(|link| link_numbers(*link)).collect(),
+            events: events.iter().flat_map(|timed| numbers(*timed)).collect(),
         }
+    }
+
+    /// The kind to be written; where it is none, the smaller one stands for it.
+    pub fn kind_or_smaller(&self) -> RecordingKind {
+        RecordingKind::of_number(self.kind).unwrap_or(RecordingKind::SIXTEEN)
     }
 
     /// How many bytes the whole has, if it can be written; roughly so else.
     pub fn length(&self) -> usize {
-        let kind = RecordingKind::of_number(self.kind).unwrap_or(RecordingKind::SIXTEEN);
-        let events = begun_events(&self.events).into_iter().map(|record| kind.event_bytes(record[0]).unwrap_or(2));
+        let kind = self.kind_or_smaller();
+        let events = begun_events(kind, &self.events);
+        let events = events.into_iter().map(|record| kind.event_bytes(record[0]).unwrap_or(2));
+        let tasks = kind.task_bytes() * self.tasks.chunks(task_numbers(kind)).len();
         let links = LINK_BYTES * self.links.chunks(LINK_NUMBERS).len();
-        1 + 1 + 4 * self.defaults.len() + 1 + links + 2 + events.sum::<usize>()
+        1 + 1 + tasks + 1 + links + 2 + events.sum::<usize>()
     }
 
     /// With as much room as the whole needs, and `more`, which may be less.
@@ -60,14 +69,16 @@ fn link_numbers(link: Link) -> [u32; LINK_NUMBERS] {
     [writer, reader, kind, link.start_value]
 }
 
-/// An event as numbers: its kind, then what the kind has.
-pub fn numbers(event: Event) -> Vec<u32> {
-    match event {
-        Event::Arrival(set) => vec![1, set],
-        Event::Start(task) => vec![2, u32::from(task)],
-        Event::Read(link) => vec![3, u32::from(link)],
-        Event::Finish(task, value) => vec![4, u32::from(task), value],
-    }
+/// An event as numbers: its kind, its tick where it has one, then what the kind
+/// has.
+pub fn numbers(Timed { tick, event }: Timed) -> Vec<u32> {
+    let (kind, fields) = match event {
+        Event::Arrival(set) => (1, vec![set]),
+        Event::Start(task) => (2, vec![u32::from(task)]),
+        Event::Read(link) => (3, vec![u32::from(link)]),
+        Event::Finish(task, value) => (4, vec![u32::from(task), value]),
+    };
+    [kind].into_iter().chain(tick).chain(fields).collect()
 }
 
 /// The next handovers: one, or a whole family from one. `number` counts the

@@ -2,7 +2,9 @@
 //! the marks of delayed links that read their start value.
 
 use crate::engine::{Engine, FreshEngine, IDLE, RUNNING, WAITING};
-use crate::format::{Event, Table, DELAYED, DIRECT};
+use crate::format::{Event, Table, Timed, DELAYED, DIRECT};
+use crate::order::deadline_of;
+use crate::sizes::MOST_TICK;
 use crate::state::{State, ABSENT, SEEN_TWO};
 
 #[derive(Clone)]
@@ -17,18 +19,26 @@ impl FreshEngine for Pointers {
 }
 
 impl Engine for Pointers {
-    fn judge(&self, event: Event) -> u8 {
-        judge(&self.state, event)
+    fn judge(&self, timed: Timed) -> u8 {
+        judge(&self.state, timed)
     }
 
-    fn apply(&mut self, event: Event) -> u32 {
+    fn apply(&mut self, timed: Timed) -> u32 {
+        let Timed { tick, event } = timed;
+        let number = match event {
+            Event::Read(link) => number_at(&self.state, usize::from(link)),
+            _ => 0,
+        };
         match event {
             Event::Arrival(set) => arrival(&mut self.state, set),
             Event::Start(task) => self.state.phase[usize::from(task)] = RUNNING,
-            Event::Read(link) => return number_at(&self.state, usize::from(link)),
+            Event::Read(_) => {}
             Event::Finish(task, value) => finish(&mut self.state, usize::from(task), value),
         }
-        0
+        if let Some(tick) = tick {
+            take_tick(&mut self.state, tick, event);
+        }
+        number
     }
 
     fn phase(&self, task: usize) -> u8 {
@@ -36,8 +46,22 @@ impl Engine for Pointers {
     }
 }
 
-/// 0, or the first of 12 to 16 that holds, for a sound state.
-pub fn judge(state: &State, event: Event) -> u8 {
+/// 0, or the refusal of an event that is given to a sound state: a tick is
+/// judged after 12 and before the rest, and 23 last.
+pub fn judge(state: &State, Timed { tick, event }: Timed) -> u8 {
+    match judge_phases(state, event) {
+        12 => 12,
+        refusal => first_of([tick_refusal(state, tick), refusal, late_refusal(state, tick, event)]),
+    }
+}
+
+/// The first that is a refusal.
+pub fn first_of<const SOME: usize>(refusals: [u8; SOME]) -> u8 {
+    refusals.into_iter().find(|refusal| *refusal != 0).unwrap_or(0)
+}
+
+/// 0, or the first of 12 to 16 that holds.
+pub fn judge_phases(state: &State, event: Event) -> u8 {
     match event {
         Event::Arrival(set) => judge_arrival(state, set),
         Event::Start(task) => judge_run(state, in_table(task, state.tasks), WAITING, 14),
@@ -46,6 +70,40 @@ pub fn judge(state: &State, event: Event) -> u8 {
             judge_run(state, reader, RUNNING, 15)
         }
         Event::Finish(task, _) => judge_run(state, in_table(task, state.tasks), RUNNING, 15),
+    }
+}
+
+/// 22 for a tick that is too large, 21 for one below the last. Both can't be: the
+/// last one is within the limit.
+pub fn tick_refusal(state: &State, tick: Option<u32>) -> u8 {
+    match tick {
+        Some(tick) if tick > MOST_TICK => 22,
+        Some(tick) if tick < state.last => 21,
+        _ => 0,
+    }
+}
+
+/// 23 for a finish after its job's deadline; at the deadline it passes. The task
+/// is one of the table.
+pub fn late_refusal(state: &State, tick: Option<u32>, event: Event) -> u8 {
+    match (tick, event) {
+        (Some(tick), Event::Finish(task, _)) if u64::from(tick) > deadline(state, usize::from(task)) => 23,
+        _ => 0,
+    }
+}
+
+pub fn deadline(state: &State, task: usize) -> u64 {
+    deadline_of(state.since[task], state.deadline[task])
+}
+
+/// What an accepted event does besides where it has a tick: the last tick, and
+/// the arrival tick of each job that begins or ends.
+pub fn take_tick(state: &mut State, tick: u32, event: Event) {
+    state.last = tick;
+    match event {
+        Event::Arrival(set) => tasks_of(set, state).for_each(|task| state.since[task] = tick),
+        Event::Finish(task, _) => state.since[usize::from(task)] = 0,
+        Event::Start(_) | Event::Read(_) => {}
     }
 }
 
@@ -77,14 +135,20 @@ fn judge_arrival(state: &State, set: u32) -> u8 {
 }
 
 /// Start, read and finish need their task in the table, in the right phase,
-/// and no task earlier in the table active.
+/// and no more urgent job.
 fn judge_run(state: &State, task: Option<usize>, needed: u8, otherwise: u8) -> u8 {
     match task {
         None => 12,
         Some(task) if state.phase[task] != needed => otherwise,
-        Some(task) if (0..task).any(|earlier| state.active(earlier)) => 16,
+        Some(task) if blocked(state, task) => 16,
         Some(_) => 0,
     }
+}
+
+/// Whether a job is active that is more urgent than the task's.
+pub fn blocked(state: &State, task: usize) -> bool {
+    let more_urgent = |other: usize| state.active(other) && state.urgency(other) < state.urgency(task);
+    (0..usize::from(state.tasks)).any(more_urgent)
 }
 
 pub fn tasks_of(set: u32, state: &State) -> impl Iterator<Item = usize> {
@@ -135,10 +199,8 @@ fn lowest_free(state: &State, task: usize) -> u8 {
 /// Whether a link of the task to a reader behind points there, among the
 /// links that `counts` admits.
 pub fn pointed_at(state: &State, task: usize, position: u8, counts: impl Fn(usize) -> bool) -> bool {
-    (0..usize::from(state.links)).any(|number| {
-        let link = state.link(number);
-        usize::from(link.writer) == task && link.reader_behind() && state.pointer[number] == position && counts(number)
-    })
+    let points = |number: usize| usize::from(state.writer[number]) == task && state.pointer[number] == position;
+    (0..usize::from(state.links)).any(|number| points(number) && state.reader_behind(number) && counts(number))
 }
 
 /// Whether the reader of a link that arrives now settles on the start value:
@@ -177,8 +239,7 @@ fn finish(state: &mut State, task: usize, value: u32) {
 /// task itself.
 pub fn free_pointers(state: &mut State, task: usize) {
     for number in 0..usize::from(state.links) {
-        let link = state.link(number);
-        if usize::from(link.reader) == task && link.reader_behind() {
+        if usize::from(state.reader[number]) == task && state.reader_behind(number) {
             state.pointer[number] = ABSENT;
             state.mark[number] = 0;
         }

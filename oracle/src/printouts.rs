@@ -11,7 +11,7 @@ use crate::format::printout;
 use crate::prng::Prng;
 use crate::reach::at_least;
 use crate::sizes::{RecordingKind, KINDS, MOST_EVENTS};
-use crate::state::{State, ABSENT};
+use crate::state::{State, ABSENT, BY_DEADLINE};
 use crate::subject::{Answer, Oracle, Subject};
 
 /// So many recordings of each corpus.
@@ -29,6 +29,7 @@ pub fn inspected(answer: &Answer) -> String {
         format!("place {}", answer.place),
         format!("counts {} {} {} {}", counts.arrivals, counts.starts, counts.reads, counts.finishes),
     ];
+    lines.extend(Some(format!("last {}", state.last)).filter(|_| state.policy == BY_DEADLINE));
     lines.extend((0..usize::from(state.tasks)).map(|task| task_line(state, task)));
     lines.extend((0..usize::from(state.links)).map(|link| link_line(state, link)));
     lines.push(format!("rest {}", answer.rest.len()));
@@ -43,9 +44,13 @@ fn task_line(state: &State, task: usize) -> String {
     };
     let cell = |position: usize| format!(" {}", state.cells[state.cell(task, position as u8)]);
     let cells: String = (1..=state.positions(task)).map(cell).collect();
+    let since = match state.policy {
+        BY_DEADLINE if state.active(task) => format!(" since {}", state.since[task]),
+        _ => String::new(),
+    };
     format!(
-        "task {} {} newest {} previous {} cells{} had {}",
-        task, phase, state.newest[task], state.previous[task], cells, state.seen[task]
+        "task {} {} newest {} previous {} cells{} had {}{}",
+        task, phase, state.newest[task], state.previous[task], cells, state.seen[task], since
     )
 }
 
@@ -84,7 +89,7 @@ fn write_all(folder: &Path) -> std::io::Result<Vec<String>> {
     let (mut marked, mut of_self_links) = (0, 0);
     let mut accepted = KINDS.map(|kind| (kind, 0));
     for (number, mut bytes) in recordings().into_iter().enumerate() {
-        bytes.truncate(RecordingKind::THIRTY_TWO.most_bytes() + 1);
+        bytes.truncate(RecordingKind::DATED.most_bytes() + 1);
         let answer = Oracle.replay(&bytes, &[0; MOST_EVENTS]);
         let read = printout(&bytes, answer.refusal, answer.place, answer.counts, &answer.list);
         let inspected = inspected(&answer);
@@ -105,7 +110,8 @@ fn write_all(folder: &Path) -> std::io::Result<Vec<String>> {
     for (kind, count) in accepted {
         at_least(&mut missing, &format!("recordings of {} that are accepted", kind.first_byte), count, OFTEN / 2);
     }
-    let often = ["read ", "accepted ", "refused ", " had 0\n", " had 1\n", " had 2\n", " absent\n"];
+    let often =
+        ["read ", "accepted ", "refused ", " had 0\n", " had 1\n", " had 2\n", " absent\n", "\nlast ", " since "];
     let of_last = ["\ntask 31 ", "\nlink 95 ", "\nread 95 "];
     let wanted = often.map(|words| (words, OFTEN)).into_iter().chain(of_last.map(|words| (words, 1)));
     for (words, wanted) in wanted {

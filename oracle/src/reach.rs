@@ -5,17 +5,19 @@ mod ends;
 mod lines;
 mod self_links;
 mod start_values;
+mod times;
 
 use crate::engine::RUNNING;
-use crate::format::{event_at, Event, Link};
+use crate::format::{event_at, Link, Timed};
 use crate::sizes::{RecordingKind, KINDS, ROOM};
-use crate::state::{broken_clauses, Clause, State, MOST_POSITIONS};
+use crate::state::{broken_clauses, Clause, State, BY_DEADLINE, MOST_POSITIONS};
 use crate::subject::{Answer, OneAnswer};
 use crate::writing::{begun_events, Handover, Written};
 use ends::Ends;
 use lines::Lines;
 use self_links::SelfLinks;
 use start_values::StartValues;
+use times::Times;
 
 /// So often each line must be met on either side, and the last task and link.
 const OFTEN: usize = 20;
@@ -25,14 +27,16 @@ const OFTEN: usize = 20;
 /// what counts as many, and compares nothing else.
 const PUBLISHED_STATES: usize = 99_529;
 
-/// How often each number from 0 to 20 was given.
-pub type Refusals = [usize; 21];
+/// How often each number from 0 to 24 was given.
+pub type Refusals = [usize; 25];
 
 /// Which of them can be given where. Extra bytes (17) can't be handed over.
 const OF_RECORDINGS: [usize; 20] = [0, 1, 2, 3, 4, 5, 6, 7, 8, 9, 10, 11, 12, 13, 14, 15, 16, 17, 18, 20];
-const OF_ONE_EVENT: [usize; 7] = [0, 12, 13, 14, 15, 16, 19];
-const OF_TABLES: [usize; 10] = [0, 2, 3, 4, 5, 6, 7, 8, 9, 20];
+const OF_ONE_EVENT: [usize; 10] = [0, 12, 13, 14, 15, 16, 19, 21, 22, 23];
+const OF_TABLES: [usize; 11] = [0, 2, 3, 4, 5, 6, 7, 8, 9, 20, 24];
 const OF_WRITING: [usize; 19] = [0, 1, 2, 3, 4, 5, 6, 7, 8, 9, 10, 11, 12, 13, 14, 15, 16, 18, 20];
+/// In dated recordings, and in writing them, these besides.
+const OF_DATED: [usize; 4] = [21, 22, 23, 24];
 /// And of recordings of no kind: there is no byte at all, or another one.
 const OF_NO_KIND: [usize; 2] = [1, 2];
 const OF_NO_KIND_WRITTEN: [usize; 1] = [2];
@@ -56,10 +60,16 @@ impl ByKind {
         &'a self,
         given: &'a [usize],
         of_none: &'a [usize],
-    ) -> impl Iterator<Item = (String, &'a Refusals, &'a [usize])> {
-        let named = |kind: &RecordingKind| kind.first_byte.to_string();
-        let of_kinds = KINDS.iter().zip(&self.of_kinds).map(move |(kind, refusals)| (named(kind), refusals, given));
-        of_kinds.chain([("no kind".to_string(), &self.of_none, of_none)])
+    ) -> impl Iterator<Item = (String, &'a Refusals, Vec<usize>)> {
+        let of_kind = move |kind: &RecordingKind| {
+            let besides: &[usize] = if kind.dated { &OF_DATED } else { &[] };
+            (kind.first_byte.to_string(), [given, besides].concat())
+        };
+        let of_kinds = KINDS.iter().zip(&self.of_kinds).map(move |(kind, refusals)| {
+            let (name, given) = of_kind(kind);
+            (name, refusals, given)
+        });
+        of_kinds.chain([("no kind".to_string(), &self.of_none, of_none.to_vec())])
     }
 }
 
@@ -68,6 +78,7 @@ pub struct Reach {
     start_values: StartValues,
     self_links: SelfLinks,
     ends: Ends,
+    times: Times,
     most_active: usize,
     most_running: usize,
     highest_position: u8,
@@ -80,18 +91,28 @@ impl Reach {
     }
 
     /// An accepted event, with the states before and after it.
-    pub fn note_event(&mut self, before: &State, event: Event, after: &State) {
-        self.start_values.note(before, event, after);
-        self.self_links.note(before, event, after);
-        self.ends.note(before, event);
+    pub fn note_event(&mut self, before: &State, timed: Timed, after: &State) {
+        self.start_values.note(before, timed.event, after);
+        self.self_links.note(before, timed.event, after);
+        self.ends.note(before, timed.event);
+        self.times.note(before, timed, after);
     }
 
-    /// What became of start values, of self links and of the last task and link,
-    /// each with its name and with how often it must come up.
+    /// An event that was refused for what it is, with the state as it was.
+    fn note_refused(&mut self, state: &State, timed: Timed, refusal: u8) {
+        if refusal == 12 {
+            self.ends.note_refused(state, timed.event);
+        }
+        self.times.note_refused(state, timed, refusal);
+    }
+
+    /// What became of start values, of self links, of the last task and link and
+    /// of ticks, each with its name and with how often it must come up.
     fn counts(&self) -> impl Iterator<Item = (&'static str, usize, usize)> {
         let wanted = |wanted: usize| move |(what, count)| (what, count, wanted);
         let anywhere = self.start_values.counts().into_iter().chain(self.self_links.counts());
-        anywhere.map(wanted(100)).chain(self.ends.counts().map(wanted(OFTEN)))
+        let at_lines = self.ends.counts().into_iter().chain(self.times.counts());
+        anywhere.map(wanted(100)).chain(at_lines.map(wanted(OFTEN)))
     }
 
     fn note_state(&mut self, state: &State) {
@@ -129,6 +150,10 @@ pub struct Reached {
     pub written_again: usize,
     /// Refused ones whose numbers were refused alike.
     pub refused_alike: usize,
+    /// Sound states refused by a call for the other policy: by one without a tick,
+    /// and by one with a tick.
+    without_tick: usize,
+    with_tick: usize,
     /// Of every sequence of events.
     pub states: usize,
 }
@@ -142,26 +167,31 @@ impl Reached {
         self.recordings.note_state(&answer.state);
         match (answer.refusal, event_at(bytes, answer.place)) {
             (5, _) => self.recordings.self_links.note_recording_refused(bytes, answer.place),
-            (12, Some(event)) => self.recordings.ends.note_refused(&answer.state, event),
+            (12..=16 | 21..=23, Some(timed)) => self.recordings.note_refused(&answer.state, timed, answer.refusal),
             _ => {}
         }
     }
 
     /// One event given to a saved state.
-    pub fn note_one(&mut self, state: &State, event: Event, answer: &OneAnswer) {
+    pub fn note_one(&mut self, state: &State, timed: Timed, answer: &OneAnswer) {
         self.one_event[usize::from(answer.refusal)] += 1;
-        let reach = &mut self.events;
         if answer.refusal == 19 {
-            if broken_clauses(state) == [Clause::DirectToItself] {
-                reach.self_links.note_state_refused(state);
-            }
-            return;
+            return self.note_state_refused(state);
         }
+        let reach = &mut self.events;
         reach.note_state(state);
         reach.note_table(usize::from(state.tasks), &state.link_list());
         match answer.refusal {
-            0 => reach.note_event(state, event, &answer.state),
-            12 => reach.ends.note_refused(state, event),
+            0 => reach.note_event(state, timed, &answer.state),
+            refusal => reach.note_refused(state, timed, refusal),
+        }
+    }
+
+    fn note_state_refused(&mut self, state: &State) {
+        match broken_clauses(state)[..] {
+            [] if state.policy == BY_DEADLINE => self.without_tick += 1,
+            [] => self.with_tick += 1,
+            [Clause::DirectToItself] => self.events.self_links.note_state_refused(state),
             _ => {}
         }
     }
@@ -171,20 +201,22 @@ impl Reached {
         self.written.note(Some(handover.kind), written.refusal);
         let wide = |record: &&[u32]| matches!(**record, [1, 0x1_0000..=u32::MAX]);
         if handover.kind == RecordingKind::SIXTEEN.number() && written.refusal == 12 {
-            self.wide_sets += usize::from(begun_events(&handover.events).iter().any(wide));
+            let begun = begun_events(RecordingKind::SIXTEEN, &handover.events);
+            self.wide_sets += usize::from(begun.iter().any(wide));
         }
     }
 
     pub fn print(&self) {
         for (kind, refusals, given) in self.read.each(&OF_RECORDINGS, &OF_NO_KIND) {
-            print_refusals(&format!("refusals in recordings of {}:", kind), refusals, given);
+            print_refusals(&format!("refusals in recordings of {}:", kind), refusals, &given);
         }
         println!("{}, longest {} bytes", self.recordings.depth(), self.longest);
         print_refusals("refusals of one event:", &self.one_event, &OF_ONE_EVENT);
         println!("{}", self.events.depth());
+        println!("  of the other policy, without a tick {}, with a tick {}", self.without_tick, self.with_tick);
         print_refusals("refusals of tables:", &self.tables, &OF_TABLES);
         for (kind, refusals, given) in self.written.each(&OF_WRITING, &OF_NO_KIND_WRITTEN) {
-            print_refusals(&format!("refusals of writing {}:", kind), refusals, given);
+            print_refusals(&format!("refusals of writing {}:", kind), refusals, &given);
         }
         println!(
             "  recordings written again {}, refused alike {}, wide sets {}",
@@ -202,16 +234,18 @@ impl Reached {
     pub fn missing(&self) -> Vec<String> {
         let mut missing = Vec::new();
         for (kind, refusals, given) in self.read.each(&OF_RECORDINGS, &OF_NO_KIND) {
-            never_given(&mut missing, &format!("in recordings of {}", kind), refusals, given);
+            never_given(&mut missing, &format!("in recordings of {}", kind), refusals, &given);
         }
         never_given(&mut missing, "of one event", &self.one_event, &OF_ONE_EVENT);
         never_given(&mut missing, "of tables", &self.tables, &OF_TABLES);
         for (kind, refusals, given) in self.written.each(&OF_WRITING, &OF_NO_KIND_WRITTEN) {
-            never_given(&mut missing, &format!("of writing {}", kind), refusals, given);
+            never_given(&mut missing, &format!("of writing {}", kind), refusals, &given);
         }
         at_least(&mut missing, "recordings written again", self.written_again, 100_000);
         at_least(&mut missing, "recordings refused alike in writing", self.refused_alike, 100_000);
         at_least(&mut missing, "handovers refused with a set past two bytes", self.wide_sets, 100);
+        at_least(&mut missing, "sound states refused without a tick", self.without_tick, 100);
+        at_least(&mut missing, "sound states refused with a tick", self.with_tick, 100);
         self.lines.missing(&mut missing);
         for (reach, place) in [(&self.recordings, "recordings"), (&self.events, "saved states")] {
             at_least(&mut missing, &format!("tasks running at once in {}", place), reach.most_running, ROOM.tasks);
@@ -221,7 +255,7 @@ impl Reached {
                 at_least(&mut missing, &format!("{} in {}", what, place), count, wanted);
             }
         }
-        let most_bytes = RecordingKind::THIRTY_TWO.most_bytes();
+        let most_bytes = RecordingKind::DATED.most_bytes();
         at_least(&mut missing, "bytes of a recording", self.longest, most_bytes + 1);
         at_least(&mut missing, "states by every sequence of events", self.states, PUBLISHED_STATES);
         missing

@@ -55,7 +55,7 @@ impl<'a> Run<'a> {
     /// too much.
     fn compare_sizes(&mut self) {
         let (sizes, others) = (Oracle.sizes(), self.subject.sizes());
-        println!("a state has tasks, links, bytes and numbers {:?}", others);
+        println!("a state has tasks, links, bytes, numbers and times {:?}", others);
         if others != sizes {
             let name = self.subject.name();
             self.differ("the sizes of a state", || format!("oracle: {:?}\n{}: {:?}", sizes, name, others));

@@ -1,18 +1,20 @@
 //! Saved states: sound ones from random histories, and spoiled ones.
 
 mod self_links;
+mod times;
 
 use crate::engine::{Engine, FreshEngine, IDLE};
-use crate::format::{Event, Link, Table, DELAYED};
-use crate::nasty::{crowd_of_links, nasty_event};
+use crate::format::{Event, Link, Table, Timed, DELAYED};
+use crate::nasty::{crowd_of_links, nasty_event, nasty_tick};
 use crate::pointers::Pointers;
 use crate::prng::Prng;
-use crate::random_table::{random_table, Size};
+use crate::random_table::{deadlines, random_table, Size};
 use crate::schedule::{deepest_interruption, events_of_last_two, random_events, Schedule};
-use crate::sizes::{Limits, KINDS, MOST_BEHIND, ROOM};
+use crate::sizes::{RecordingKind, KINDS, MOST_BEHIND, MOST_TICK, ROOM};
 use crate::state::{State, ABSENT, MOST_CELLS, MOST_POSITIONS};
 use crate::zero_time::ZeroTime;
 use self_links::self_link_changed;
+use times::times_changed;
 
 /// A state with the history that led to it, as the zero-time run knows it.
 pub struct Saved {
@@ -22,23 +24,25 @@ pub struct Saved {
     pub schedule: Schedule,
 }
 
-/// The limits of a kind of recording: a table within either is lawful in a
-/// state, and tables within the smaller one come up as often as others.
-fn some_limits(prng: &mut Prng) -> Limits {
-    prng.pick(&KINDS).limits
+/// A kind of recording whose tables a state is to have: one within the limits of
+/// any is lawful in a state, and those within the smaller ones come up as often as
+/// others.
+fn some_kind(prng: &mut Prng) -> RecordingKind {
+    prng.pick(&KINDS)
 }
 
 /// One in ten has every slot in use, and a history of the last tasks alone.
 pub fn from_history(prng: &mut Prng) -> Saved {
     if prng.chance(10) {
-        let table = random_table(prng, ROOM, Size::Full);
+        let kind = prng.pick(&[RecordingKind::THIRTY_TWO, RecordingKind::DATED]);
+        let table = random_table(prng, kind, Size::Full);
         let count = prng.below(40);
         let (events, schedule) = events_of_last_two(prng, &table, count);
         return after(table, events, schedule);
     }
     let size = prng.pick(&[Size::Small, Size::Any, Size::Any, Size::Limit, Size::Full]);
-    let limits = some_limits(prng);
-    let table = random_table(prng, limits, size);
+    let kind = some_kind(prng);
+    let table = random_table(prng, kind, size);
     if prng.chance(5) {
         return all_running(table);
     }
@@ -58,7 +62,7 @@ fn all_running(table: Table) -> Saved {
     after(table, events, schedule)
 }
 
-fn after(table: Table, events: Vec<Event>, schedule: Schedule) -> Saved {
+fn after(table: Table, events: Vec<Timed>, schedule: Schedule) -> Saved {
     let mut pointers = Pointers::fresh(&table);
     let mut zero = ZeroTime::fresh(&table);
     for &event in &events {
@@ -68,11 +72,34 @@ fn after(table: Table, events: Vec<Event>, schedule: Schedule) -> Saved {
     Saved { state: pointers.state, zero, table, schedule }
 }
 
-/// An event for a state: half of them are likely to be allowed.
-pub fn event_for(prng: &mut Prng, state: &State, saved: &Saved) -> Event {
-    if prng.chance(50) {
-        return nasty_event(prng, &saved.table, &saved.schedule);
+/// An event for a state: half of them are likely to be allowed. One in twenty is
+/// for a state of the other policy.
+pub fn event_for(prng: &mut Prng, state: &State, saved: &Saved) -> Timed {
+    let timed = if prng.chance(50) {
+        nasty_event(prng, &saved.table, &saved.schedule)
+    } else {
+        likely_event(prng, state, saved)
+    };
+    if !prng.chance(5) {
+        return timed;
     }
+    let last = saved.schedule.last;
+    let tick = if timed.tick.is_some() { None } else { Some(prng.pick(&[0, 0, 1, last, MOST_TICK, u32::MAX])) };
+    Timed { tick, ..timed }
+}
+
+fn likely_event(prng: &mut Prng, state: &State, saved: &Saved) -> Timed {
+    let event = likely_untimed(prng, state, saved);
+    let last = state.last;
+    let tick = match prng.below(4) {
+        0 => nasty_tick(prng, &saved.schedule, event),
+        1 => last.saturating_add(1),
+        _ => last,
+    };
+    Timed { tick: Some(tick).filter(|_| saved.schedule.dated), event }
+}
+
+fn likely_untimed(prng: &mut Prng, state: &State, saved: &Saved) -> Event {
     let top = saved.schedule.top();
     let idle: u32 =
         (0..saved.table.defaults.len()).filter(|t| saved.schedule.phase[*t] == IDLE).fold(0, |set, t| set | 1 << t);
@@ -108,10 +135,14 @@ enum Field {
     StartValue(usize),
     Pointer(usize),
     Mark(usize),
+    Deadline(usize),
+    Since(usize),
+    Last,
+    Policy,
 }
 
 fn fields(tasks: impl Iterator<Item = usize>, links: impl Iterator<Item = usize>) -> impl Iterator<Item = Field> {
-    let counts = [Field::Tasks, Field::Links];
+    let counts = [Field::Tasks, Field::Links, Field::Last, Field::Policy];
     counts.into_iter().chain(tasks.flat_map(fields_of_task)).chain(links.flat_map(fields_of_link))
 }
 
@@ -127,11 +158,20 @@ fn fields_around(state: &State) -> impl Iterator<Item = Field> {
 }
 
 /// Of the positions the first and the last one.
-fn fields_of_task(t: usize) -> [Field; 7] {
+fn fields_of_task(t: usize) -> [Field; 9] {
     let first = t * MOST_POSITIONS;
     let last = first + MOST_POSITIONS - 1;
-    let cells = [Field::Cell(first), Field::Cell(last)];
-    [Field::Default(t), Field::Phase(t), Field::Newest(t), Field::Previous(t), Field::Seen(t), cells[0], cells[1]]
+    [
+        Field::Default(t),
+        Field::Phase(t),
+        Field::Newest(t),
+        Field::Previous(t),
+        Field::Seen(t),
+        Field::Cell(first),
+        Field::Cell(last),
+        Field::Deadline(t),
+        Field::Since(t),
+    ]
 }
 
 fn fields_of_link(l: usize) -> [Field; 6] {
@@ -153,6 +193,10 @@ fn boundary_values(state: &State, field: Field) -> Vec<u32> {
         Field::Kind(_) | Field::Mark(_) => vec![0, 1, 2, 255],
         Field::StartValue(_) => vec![0, 1, 1 << 8, 1 << 16, 1 << 31, u32::MAX],
         Field::Pointer(link) => lines(state.positions(usize::from(state.writer[link])) as u32),
+        Field::Deadline(_) => vec![0, 1, 2, 65_535, 65_536, u32::MAX],
+        Field::Since(_) => vec![0, 1, state.last.saturating_sub(1), state.last, state.last.saturating_add(1), u32::MAX],
+        Field::Last => vec![0, 1, MOST_TICK - 1, MOST_TICK, MOST_TICK + 1, u32::MAX],
+        Field::Policy => vec![0, 1, 2, 256, 257, u32::MAX],
     }
 }
 
@@ -173,6 +217,10 @@ fn set_field(state: &mut State, field: Field, value: u32) {
         Field::StartValue(l) => state.start_value[l] = value,
         Field::Pointer(l) => state.pointer[l] = byte,
         Field::Mark(l) => state.mark[l] = byte,
+        Field::Deadline(t) => state.deadline[t] = value,
+        Field::Since(t) => state.since[t] = value,
+        Field::Last => state.last = value,
+        Field::Policy => state.policy = value,
     }
 }
 
@@ -195,12 +243,13 @@ fn with_field(state: &State, field: Field, value: u32) -> State {
 }
 
 /// Spoiled in many ways: now and then every field in turn, always arrivals and
-/// marks, self links, some fields at once, and states that owe nothing to the
-/// sound one.
+/// marks, self links, times, some fields at once, and states that owe nothing to
+/// the sound one.
 pub fn spoiled(prng: &mut Prng, sound: &State) -> Vec<State> {
     let mut states = if prng.chance(1) { every_field_spoiled(prng, sound) } else { Vec::new() };
     states.extend((0..4).map(|_| arrivals_or_mark_changed(prng, sound)));
     states.extend((0..4).map(|_| self_link_changed(prng, sound)));
+    states.extend((0..6).map(|_| times_changed(prng, sound)));
     states.extend((0..20).map(|_| randomly_spoiled(prng, sound)));
     states.push(any_bytes(prng));
     states.push(crowded(prng));
@@ -255,6 +304,9 @@ fn randomly_spoiled(prng: &mut Prng, sound: &State) -> State {
             Field::StartValue(link),
             Field::Default(task),
             Field::Links,
+            Field::Deadline(task),
+            Field::Since(task),
+            Field::Last,
         ]);
         let value = match field {
             Field::Links => u32::from(sound.links).saturating_sub(1),
@@ -268,19 +320,24 @@ fn randomly_spoiled(prng: &mut Prng, sound: &State) -> State {
     state
 }
 
-/// Task 0 has eight links to readers behind, and perhaps one to itself; a link
-/// of task 1 is turned into its ninth, or the count of links is taken past such
-/// a slot.
+/// The task ahead of all others has eight links to readers behind, and perhaps one
+/// to itself; a link of the next one is turned into its ninth, or the count of
+/// links is taken past such a slot.
 fn crowded(prng: &mut Prng) -> State {
-    let most = some_limits(prng).tasks;
-    let tasks = prng.between(10, most) as u8;
-    let mut links = crowd_of_links(prng, MOST_BEHIND);
-    let at = prng.below(links.len() + 1);
-    let reader = prng.between(9, usize::from(tasks) - 1) as u8;
-    links.insert(at, Link { writer: 1, reader, kind: DELAYED, start_value: prng.word() });
-    let defaults = (0..tasks).map(|_| prng.word()).collect();
-    let mut state = from_history_of(prng, Table { defaults, links }).state;
-    state.writer[at] = prng.pick(&[0, 0, 0, 2]);
+    let kind = some_kind(prng);
+    let tasks = prng.between(10, kind.limits.tasks);
+    let mut table = Table::undated((0..tasks).map(|_| prng.word()).collect(), Vec::new());
+    if kind.dated {
+        table.deadlines = Some(deadlines(prng, tasks));
+    }
+    let in_order = table.order().from_the_first();
+    table.links = crowd_of_links(prng, &in_order, MOST_BEHIND);
+    let at = prng.below(table.links.len() + 1);
+    let [first, second, third] = [0, 1, 2].map(|number: usize| in_order[number] as u8);
+    let reader = prng.pick(&in_order[9..]) as u8;
+    table.links.insert(at, Link { writer: second, reader, kind: DELAYED, start_value: prng.word() });
+    let mut state = from_history_of(prng, table).state;
+    state.writer[at] = prng.pick(&[first, first, first, third]);
     if prng.chance(30) {
         state.links -= 1;
     }
@@ -296,8 +353,10 @@ fn any_bytes(prng: &mut Prng) -> State {
     let mut state = State::single();
     state.tasks = prng.pick(&[0, 1, 2, 3, 16, 17, 32, 33, 255]);
     state.links = prng.pick(&[0, 1, 2, 3, 32, 33, 96, 97, 255]);
+    state.policy = prng.pick(&[0, 0, 1, 1, 2]);
+    state.last = prng.pick(&[0, 0, 3, MOST_TICK, u32::MAX]);
     for field in all_fields() {
-        if prng.chance(60) && field != Field::Tasks && field != Field::Links {
+        if prng.chance(60) && !matches!(field, Field::Tasks | Field::Links | Field::Last | Field::Policy) {
             let value = if prng.chance(80) { prng.below(4) as u32 } else { prng.word() };
             set_field(&mut state, field, value);
         }

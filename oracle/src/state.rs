@@ -2,7 +2,8 @@
 
 use crate::engine::{IDLE, RUNNING};
 use crate::format::{link_faults, link_refusal, Link, Table, DELAYED};
-use crate::sizes::ROOM;
+use crate::order::{urgency, Order};
+use crate::sizes::{MOST_TICK, ROOM};
 
 /// Positions of one task: at most eight readers behind, and two.
 pub const MOST_POSITIONS: usize = 10;
@@ -13,14 +14,21 @@ pub const ABSENT: u8 = 0;
 /// stands how many there were.
 pub const SEEN_TWO: u8 = 2;
 
-/// What a state takes: tasks, links, bytes by task and by link, and numbers.
-pub const SIZES: [usize; 4] = [
+/// The policies: fixed priorities, and the earliest deadline first.
+pub const FIXED: u32 = 0;
+pub const BY_DEADLINE: u32 = 1;
+
+/// What a state takes: tasks, links, bytes by task and by link, numbers, and
+/// times.
+pub const SIZES: [usize; 5] = [
     ROOM.tasks,
     ROOM.links,
     // Phase, newest, previous and arrivals; pointer, mark, writer, reader and kind.
     4 * ROOM.tasks + 5 * ROOM.links,
     // Defaults, start values and positions.
     ROOM.tasks + ROOM.links + MOST_CELLS,
+    // Relative deadlines and arrival ticks; the last tick and the policy.
+    2 * ROOM.tasks + 2,
 ];
 
 /// Position p of task t is at `cells[t * 10 + p - 1]`. Every field may hold
@@ -43,10 +51,17 @@ pub struct State {
     pub pointer: [u8; ROOM.links],
     /// Whether the reader's last arrival settled on the link's start value.
     pub mark: [u8; ROOM.links],
+    /// The relative deadline of each task, 0 with fixed priorities.
+    pub deadline: [u32; ROOM.tasks],
+    /// The arrival tick of each active job, 0 for an idle task.
+    pub since: [u32; ROOM.tasks],
+    /// The tick of the last accepted event, 0 when fresh.
+    pub last: u32,
+    pub policy: u32,
 }
 
 impl State {
-    /// The fresh state of a table that keeps rules 2 to 9 and 20.
+    /// The fresh state of a table that keeps rules 2 to 9, 20 and 24.
     pub fn fresh(table: &Table) -> State {
         let mut state = State {
             tasks: table.defaults.len() as u8,
@@ -63,9 +78,14 @@ impl State {
             start_value: [0; ROOM.links],
             pointer: [ABSENT; ROOM.links],
             mark: [0; ROOM.links],
+            deadline: [0; ROOM.tasks],
+            since: [0; ROOM.tasks],
+            last: 0,
+            policy: if table.deadlines.is_some() { BY_DEADLINE } else { FIXED },
         };
         for (task, &default) in table.defaults.iter().enumerate().take(ROOM.tasks) {
             state.defaults[task] = default;
+            state.deadline[task] = table.deadline(task);
             let first = task * MOST_POSITIONS;
             // Positions past N + 2 hold the default as well.
             state.cells[first..first + MOST_POSITIONS].fill(default);
@@ -83,9 +103,42 @@ impl State {
         }
     }
 
-    /// What an early refusal answers with: one task, default 0, no links.
+    /// What an early refusal answers with, whatever the policy: one task, default
+    /// 0, no links, fixed priorities.
     pub fn single() -> State {
-        State::fresh(&Table { defaults: vec![0], links: Vec::new() })
+        State::fresh(&Table::undated(vec![0], Vec::new()))
+    }
+
+    /// The order of the tasks, by relative deadlines where the policy has them.
+    pub fn order(&self) -> Order {
+        let tasks = usize::from(self.tasks);
+        match self.policy {
+            BY_DEADLINE => Order::by_deadlines(tasks, self.deadline.iter().copied()),
+            _ => Order::of_table(tasks),
+        }
+    }
+
+    /// The least is the job that may run.
+    pub fn urgency(&self, task: usize) -> (u64, u32, usize) {
+        urgency(self.since[task], self.deadline[task], task)
+    }
+
+    /// The job that may run, if any task is active.
+    pub fn top(&self) -> Option<usize> {
+        (0..usize::from(self.tasks)).filter(|task| self.active(*task)).min_by_key(|task| self.urgency(*task))
+    }
+
+    /// Whether a link goes to a reader behind. It must name tasks of the table.
+    pub fn reader_behind(&self, link: usize) -> bool {
+        self.rank(self.writer[link]) < self.rank(self.reader[link])
+    }
+
+    /// A task's place in the order of tasks, without that of all others.
+    fn rank(&self, task: u8) -> (u32, u8) {
+        match self.policy {
+            BY_DEADLINE => (self.deadline[usize::from(task)], task),
+            _ => (0, task),
+        }
     }
 
     pub fn link(&self, number: usize) -> Link {
@@ -106,10 +159,7 @@ impl State {
 
     /// N + 2 of a task. The links must name tasks of the table.
     pub fn positions(&self, task: usize) -> usize {
-        let behind = |number: &usize| {
-            let link = self.link(*number);
-            usize::from(link.writer) == task && link.reader_behind()
-        };
+        let behind = |number: &usize| usize::from(self.writer[*number]) == task && self.reader_behind(*number);
         (0..usize::from(self.links)).filter(behind).count() + 2
     }
 
@@ -140,6 +190,9 @@ pub enum Clause {
     SecondToReader,
     NinthBehind,
     DirectWithStart,
+    NoDeadline,
+    /// A policy that is neither of the two.
+    Policy,
     /// A phase that is none of the three.
     Phase,
     Newest,
@@ -155,9 +208,17 @@ pub enum Clause {
     MarkWithoutPointer,
     MarkAtDirect,
     MarkMissing,
+    // Of ticks, where there are any.
+    LastTick,
+    SinceAfterLast,
+    IdleWithSince,
+    // With fixed priorities there are none, and no relative deadlines.
+    FixedWithDeadline,
+    FixedWithSince,
+    FixedWithLast,
 }
 
-pub const CLAUSES: [Clause; 21] = [
+pub const CLAUSES: [Clause; 29] = [
     Clause::Tasks,
     Clause::Links,
     Clause::NamesNoTask,
@@ -167,6 +228,8 @@ pub const CLAUSES: [Clause; 21] = [
     Clause::SecondToReader,
     Clause::NinthBehind,
     Clause::DirectWithStart,
+    Clause::NoDeadline,
+    Clause::Policy,
     Clause::Phase,
     Clause::Newest,
     Clause::Previous,
@@ -179,6 +242,12 @@ pub const CLAUSES: [Clause; 21] = [
     Clause::MarkWithoutPointer,
     Clause::MarkAtDirect,
     Clause::MarkMissing,
+    Clause::LastTick,
+    Clause::SinceAfterLast,
+    Clause::IdleWithSince,
+    Clause::FixedWithDeadline,
+    Clause::FixedWithSince,
+    Clause::FixedWithLast,
 ];
 
 impl Clause {
@@ -194,13 +263,15 @@ impl Clause {
             Clause::SecondToReader => Some(8),
             Clause::NinthBehind => Some(9),
             Clause::DirectWithStart => Some(20),
+            Clause::NoDeadline => Some(24),
             _ => None,
         }
     }
 }
 
-/// The clauses a state breaks. When the table is broken the rest has no
-/// meaning (there is no N), so the table's clause then stands alone.
+/// The clauses a state breaks. When the policy is none or the table is broken
+/// the rest has no meaning (there is no order of tasks, or no N), so that clause
+/// then stands alone.
 pub fn broken_clauses(state: &State) -> Vec<Clause> {
     match table_clause(state) {
         Some(clause) => vec![clause],
@@ -213,12 +284,23 @@ pub fn sound(state: &State) -> bool {
 }
 
 fn table_clause(state: &State) -> Option<Clause> {
-    let tasks = usize::from(state.tasks);
-    let refusal = match ROOM.refusal(tasks, usize::from(state.links)) {
-        0 => link_faults(tasks, &state.link_list(), link_refusal).next()?,
+    if state.policy > BY_DEADLINE {
+        return Some(Clause::Policy);
+    }
+    let refusal = match ROOM.task_refusal(usize::from(state.tasks)) {
+        0 if has_no_deadline(state) => 24,
+        0 => match ROOM.link_refusal(usize::from(state.links)) {
+            0 => link_faults(state.order(), &state.link_list(), link_refusal).next()?,
+            refusal => refusal,
+        },
         refusal => refusal,
     };
     CLAUSES.iter().copied().find(|clause| clause.table_refusal() == Some(refusal))
+}
+
+/// Whether a task of the table lacks the relative deadline that it must have.
+fn has_no_deadline(state: &State) -> bool {
+    state.policy == BY_DEADLINE && state.deadline[..usize::from(state.tasks)].contains(&0)
 }
 
 fn broken_beyond_table(state: &State) -> Vec<Clause> {
@@ -226,8 +308,9 @@ fn broken_beyond_table(state: &State) -> Vec<Clause> {
     let by_tasks = (0..usize::from(state.tasks)).flat_map(|task| broken_by_task(state, task, positions[task]));
     let of_writer = |number: usize| positions[usize::from(state.writer[number])];
     let by_links = (0..usize::from(state.links)).flat_map(|number| broken_by_link(state, number, of_writer(number)));
+    let by_times = (0..usize::from(state.tasks)).flat_map(|task| broken_by_times(state, task));
     let mut broken = Vec::new();
-    for clause in by_tasks.chain(by_links) {
+    for clause in by_tasks.chain(by_links).chain(by_times).chain(broken_by_last(state)) {
         if !broken.contains(&clause) {
             broken.push(clause);
         }
@@ -255,11 +338,30 @@ fn broken_by_link(state: &State, number: usize, positions: usize) -> impl Iterat
     those_broken([
         (Clause::Pointer, usize::from(pointer) > positions),
         (Clause::ActiveReaderWithout, active && !present),
-        (Clause::IdleReaderWith, !active && link.reader_behind() && present),
+        (Clause::IdleReaderWith, !active && state.reader_behind(number) && present),
         (Clause::Mark, state.mark[number] > 1),
         (Clause::MarkWithoutPointer, marked && !present),
         (Clause::MarkAtDirect, marked && !delayed),
         (Clause::MarkMissing, !marked && present && delayed && state.writer_new(number)),
+    ])
+}
+
+fn broken_by_times(state: &State, task: usize) -> impl Iterator<Item = Clause> {
+    let fixed = state.policy == FIXED;
+    let (active, since) = (state.active(task), state.since[task]);
+    those_broken([
+        (Clause::SinceAfterLast, !fixed && active && since > state.last),
+        (Clause::IdleWithSince, !fixed && !active && since != 0),
+        (Clause::FixedWithDeadline, fixed && state.deadline[task] != 0),
+        (Clause::FixedWithSince, fixed && since != 0),
+    ])
+}
+
+fn broken_by_last(state: &State) -> impl Iterator<Item = Clause> {
+    let fixed = state.policy == FIXED;
+    those_broken([
+        (Clause::LastTick, !fixed && state.last > MOST_TICK),
+        (Clause::FixedWithLast, fixed && state.last != 0),
     ])
 }
 

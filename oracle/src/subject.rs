@@ -3,9 +3,9 @@
 //! behind this trait; the crate `judge` links the proved library behind it.
 
 use crate::engine::{Engine, FreshEngine};
-use crate::format::{replay, Counts, Event, Reading, Table};
+use crate::format::{replay, Counts, Reading, Table, Timed};
 use crate::pointers::{judge, Pointers};
-use crate::state::{sound, State, SIZES};
+use crate::state::{sound, State, BY_DEADLINE, SIZES};
 use crate::tables::LentTable;
 use crate::writing::{write, Handover, Written};
 use crate::zero_time::ZeroTime;
@@ -22,8 +22,8 @@ pub struct Answer<'a> {
     pub rest: &'a [u8],
 }
 
-/// The answer to a table: 0 and its fresh state, or the refusal, 2 to 9 or 20,
-/// and the single task's.
+/// The answer to a table: 0 and its fresh state, or the refusal, 2 to 9, 20 or
+/// 24, and the single task's.
 #[derive(Clone, PartialEq, Eq, Debug)]
 pub struct Made {
     pub refusal: u8,
@@ -41,17 +41,18 @@ pub struct OneAnswer {
 pub trait Subject {
     fn name(&self) -> String;
 
-    /// What a state takes: tasks, links, bytes, numbers.
-    fn sizes(&self) -> [usize; 4];
+    /// What a state takes: tasks, links, bytes, numbers, times.
+    fn sizes(&self) -> [usize; 5];
 
     /// Reads a whole recording with a list lent as it stands.
     fn replay<'a>(&self, bytes: &'a [u8], lent: &[u32]) -> Answer<'a>;
 
-    /// What a table makes that may break rules 2 to 9 and 20.
+    /// What a table makes that may break rules 2 to 9, 20 and 24.
     fn fresh(&self, table: &LentTable) -> Made;
 
-    /// One event given to a state that may hold any bytes.
-    fn one_event(&self, state: &State, event: Event) -> OneAnswer;
+    /// One event given to a state that may hold any bytes, by the call that has a
+    /// tick if the event has one.
+    fn one_event(&self, state: &State, timed: Timed) -> OneAnswer;
 
     /// Writes what is handed over into a buffer lent as it stands.
     fn write(&self, handover: &Handover, buffer: &mut [u8]) -> Written;
@@ -65,7 +66,7 @@ impl Subject for Oracle {
         "oracle".to_string()
     }
 
-    fn sizes(&self) -> [usize; 4] {
+    fn sizes(&self) -> [usize; 5] {
         SIZES
     }
 
@@ -77,10 +78,10 @@ impl Subject for Oracle {
         made_of(table.judged())
     }
 
-    fn one_event(&self, state: &State, event: Event) -> OneAnswer {
-        one_event_with(state, event, judge, |state, event| {
+    fn one_event(&self, state: &State, timed: Timed) -> OneAnswer {
+        one_event_with(state, timed, judge, |state, timed| {
             let mut engine = Pointers { state: *state };
-            let value = engine.apply(event);
+            let value = engine.apply(timed);
             (engine.state, value)
         })
     }
@@ -109,20 +110,26 @@ pub fn answer_of<E>(reading: Reading<'_, E>, state: impl FnOnce(E) -> State) -> 
     }
 }
 
-/// 19 before anything else, then 12 to 16, then the event; every refusal has
-/// the state as lent and the value 0.
+/// 19 before anything else, then what the event earns, then the event; every
+/// refusal has the state as lent and the value 0.
 pub fn one_event_with(
     state: &State,
-    event: Event,
-    judge: impl FnOnce(&State, Event) -> u8,
-    apply: impl FnOnce(&State, Event) -> (State, u32),
+    timed: Timed,
+    judge: impl FnOnce(&State, Timed) -> u8,
+    apply: impl FnOnce(&State, Timed) -> (State, u32),
 ) -> OneAnswer {
-    let refusal = if sound(state) { judge(state, event) } else { 19 };
+    let refusal = if sound(state) && for_the_call(state, timed) { judge(state, timed) } else { 19 };
     if refusal != 0 {
         return OneAnswer { refusal, value: 0, state: *state };
     }
-    let (state, value) = apply(state, event);
+    let (state, value) = apply(state, timed);
     OneAnswer { refusal, value, state }
+}
+
+/// Whether a state has the policy that the call is for: with a tick the earliest
+/// deadline first, without one fixed priorities.
+pub fn for_the_call(state: &State, timed: Timed) -> bool {
+    timed.tick.is_some() == (state.policy == BY_DEADLINE)
 }
 
 /// What the zero-time run says of a recording.
@@ -132,7 +139,7 @@ pub fn zero_time_reading<'a>(bytes: &'a [u8], lent: &[u32]) -> Reading<'a, ZeroT
 
 /// What a whole answer and a zero-time reading disagree on, if anything:
 /// numbers, refusal, place, counts, rest, the phases, and what is remembered
-/// of arrivals.
+/// of arrivals and ticks.
 pub fn disagreement(answer: &Answer, zero: &Reading<'_, ZeroTime>) -> Option<&'static str> {
     if answer.refusal != zero.refusal {
         return Some("refusal");
@@ -154,15 +161,17 @@ pub fn disagreement(answer: &Answer, zero: &Reading<'_, ZeroTime>) -> Option<&'s
             return Some("phases");
         }
         if !remembered_alike(&answer.state, engine) {
-            return Some("arrivals and marks");
+            return Some("arrivals, marks and ticks");
         }
     }
     None
 }
 
-/// Whether a state's arrivals and marks are those of the history that led to
-/// it.
+/// Whether a state's arrivals, marks and ticks are those of the history that led
+/// to it.
 pub fn remembered_alike(state: &State, zero: &ZeroTime) -> bool {
-    (0..usize::from(state.tasks)).all(|task| state.seen[task] == zero.arrivals_up_to_two(task))
+    state.last == zero.last_tick()
+        && (0..usize::from(state.tasks)).all(|task| state.since[task] == zero.since(task))
+        && (0..usize::from(state.tasks)).all(|task| state.seen[task] == zero.arrivals_up_to_two(task))
         && (0..usize::from(state.links)).all(|link| state.mark[link] == u8::from(zero.marked(link)))
 }

@@ -9,10 +9,11 @@ mod reader;
 mod self_links;
 mod soundness;
 mod tables;
+mod times;
 mod writer;
 
 use crate::engine::Engine;
-use crate::format::{replay_by, Event, Rules, Table};
+use crate::format::{replay_by, Event, Rules, Table, Timed};
 use crate::state::State;
 use crate::subject::{answer_of, one_event_with, Answer, Made, OneAnswer, Oracle, Subject};
 use crate::tables::LentTable;
@@ -34,9 +35,10 @@ impl Subject for Wrong {
         format!("{:?}", self.flaw)
     }
 
-    fn sizes(&self) -> [usize; 4] {
+    fn sizes(&self) -> [usize; 5] {
         match self.flaw {
-            Flaw::StatesBySmaller => [16, 32, 224, 208],
+            Flaw::StatesBySmaller => [16, 32, 224, 208, 34],
+            Flaw::DatedRefused => [32, 96, 608, 448, 0],
             _ => Oracle.sizes(),
         }
     }
@@ -52,26 +54,30 @@ impl Subject for Wrong {
     }
 
     fn fresh(&self, table: &LentTable) -> Made {
-        distorted_table(self.flaw, table, Oracle.fresh(table))
+        times::made(self.flaw, table, distorted_table(self.flaw, table, Oracle.fresh(table)))
     }
 
-    fn one_event(&self, state: &State, event: Event) -> OneAnswer {
+    fn one_event(&self, state: &State, timed: Timed) -> OneAnswer {
+        let timed = times::for_any_policy(self.flaw, state, timed);
         match self.flaw {
             flaw if too_mild(flaw, state) => OneAnswer { refusal: 0, value: 0, state: *state },
             flaw if too_strict(flaw, state) => OneAnswer { refusal: 19, value: 0, state: *state },
-            Flaw::TwelveBeforeNineteen if event == Event::Arrival(0) => {
+            Flaw::TwelveBeforeNineteen if timed.event == Event::Arrival(0) => {
                 OneAnswer { refusal: 12, value: 0, state: *state }
             }
-            flaw => one_event_with(
-                state,
-                event,
-                |state, event| WrongEngine::new(flaw, *state).judge(event),
-                |state, event| {
-                    let mut engine = WrongEngine::new(flaw, *state);
-                    let value = engine.apply(event);
-                    (engine.state, value)
-                },
-            ),
+            flaw => {
+                let answer = one_event_with(
+                    state,
+                    timed,
+                    |state, timed| WrongEngine::new(flaw, *state).judge(timed),
+                    |state, timed| {
+                        let mut engine = WrongEngine::new(flaw, *state);
+                        let value = engine.apply(timed);
+                        (engine.state, value)
+                    },
+                );
+                times::answered(flaw, timed, answer)
+            }
         }
     }
 
@@ -85,6 +91,9 @@ fn wrong_fresh(flaw: Flaw, table: &Table) -> State {
     let mut state = ends::fresh(flaw, State::fresh(table));
     if flaw == Flaw::StartHighByteFirst {
         state.start_value = state.start_value.map(u32::swap_bytes);
+    }
+    if flaw == Flaw::DeadlineHighByteFirst {
+        state.deadline = state.deadline.map(|deadline| u32::from((deadline as u16).swap_bytes()));
     }
     state
 }

@@ -6,14 +6,26 @@
 //! before that, the link's start value where there is none. Of a task that
 //! reads its own output, that last arrival is the reader's own, so it reads the
 //! output of its run before.
+//!
+//! Arrivals are taken as they are recorded, whatever their ticks; the writer of a
+//! direct link that arrives with its reader is ahead of it and so comes first.
+
+use std::cmp::Ordering;
 
 use crate::engine::{Engine, FreshEngine, IDLE, RUNNING, WAITING};
-use crate::format::{Event, Table, DIRECT};
+use crate::format::{Event, Table, Timed, DIRECT};
+use crate::order::Order;
+use crate::sizes::MOST_TICK;
+
+/// The order in which refusals of an event are tried.
+const TRIED: [u8; 8] = [12, 22, 21, 13, 14, 15, 16, 23];
 
 #[derive(Clone, Default)]
 struct Life {
     /// The instants (counts of accepted events) of the task's arrivals.
     arrivals: Vec<usize>,
+    /// The tick of its last arrival, where there are ticks.
+    arrival_tick: u32,
     starts: usize,
     /// One value for each finish; the n-th belongs to the n-th arrival.
     outputs: Vec<u32>,
@@ -32,19 +44,25 @@ impl Life {
 #[derive(Clone)]
 pub struct ZeroTime {
     table: Table,
+    order: Order,
     lives: Vec<Life>,
     instant: usize,
+    last_tick: u32,
 }
 
 impl FreshEngine for ZeroTime {
     fn fresh(table: &Table) -> ZeroTime {
-        ZeroTime { table: table.clone(), lives: vec![Life::default(); table.defaults.len()], instant: 0 }
+        let lives = vec![Life::default(); table.defaults.len()];
+        ZeroTime { table: table.clone(), order: table.order(), lives, instant: 0, last_tick: 0 }
     }
 }
 
 impl Engine for ZeroTime {
-    fn judge(&self, event: Event) -> u8 {
+    fn judge(&self, Timed { tick, event }: Timed) -> u8 {
         let mut applying = Vec::with_capacity(5);
+        if let Some(tick) = tick {
+            self.note_tick(tick, event, &mut applying);
+        }
         match event {
             Event::Arrival(set) => self.faults_of_arrival(set, &mut applying),
             Event::Start(task) => self.faults_of_start(usize::from(task), &mut applying),
@@ -54,16 +72,18 @@ impl Engine for ZeroTime {
             },
             Event::Finish(task, _) => self.faults_of_runner(usize::from(task), &mut applying),
         }
-        // All the rows that apply were noted; rising order means the least.
-        applying.into_iter().min().unwrap_or(0)
+        // All the rows that apply were noted; the one tried first is given.
+        TRIED.into_iter().find(|row| applying.contains(row)).unwrap_or(0)
     }
 
-    fn apply(&mut self, event: Event) -> u32 {
+    fn apply(&mut self, Timed { tick, event }: Timed) -> u32 {
         self.instant += 1;
+        self.last_tick = tick.unwrap_or(0);
         match event {
             Event::Arrival(set) => {
                 for task in bits(set) {
                     self.lives[task].arrivals.push(self.instant);
+                    self.lives[task].arrival_tick = self.last_tick;
                 }
             }
             Event::Start(task) => self.lives[usize::from(task)].starts += 1,
@@ -90,6 +110,27 @@ impl Engine for ZeroTime {
 }
 
 impl ZeroTime {
+    fn note_tick(&self, tick: u32, event: Event, applying: &mut Vec<u8>) {
+        if tick > MOST_TICK {
+            applying.push(22);
+        }
+        if tick < self.last_tick {
+            applying.push(21);
+        }
+        if let Event::Finish(task, _) = event {
+            let task = usize::from(task);
+            let late = |life: &Life| life.active() && u64::from(tick) > self.deadline(task);
+            if self.lives.get(task).map_or(false, late) {
+                applying.push(23);
+            }
+        }
+    }
+
+    /// The deadline of a task's last job.
+    fn deadline(&self, task: usize) -> u64 {
+        u64::from(self.lives[task].arrival_tick) + u64::from(self.table.deadline(task))
+    }
+
     fn faults_of_arrival(&self, set: u32, applying: &mut Vec<u8>) {
         if set == 0 {
             applying.push(12);
@@ -121,8 +162,16 @@ impl ZeroTime {
         self.note_more_urgent(task, applying);
     }
 
+    /// Of the jobs that are not over the one with the earliest deadline may run;
+    /// of several the one whose task is ahead of the others'.
     fn note_more_urgent(&self, task: usize, applying: &mut Vec<u8>) {
-        if self.lives.iter().take(task).any(Life::active) {
+        let before = |other: usize| match self.deadline(other).cmp(&self.deadline(task)) {
+            Ordering::Less => true,
+            Ordering::Equal => self.order.ahead(other as u8, task as u8),
+            Ordering::Greater => false,
+        };
+        let mut active = (0..self.lives.len()).filter(|other| self.lives[*other].active());
+        if task < self.lives.len() && active.any(before) {
             applying.push(16);
         }
     }
@@ -152,7 +201,7 @@ impl ZeroTime {
     pub fn marked(&self, number: usize) -> bool {
         let link = self.table.links[number];
         let reader = &self.lives[usize::from(link.reader)];
-        let lasts = reader.active() || !reader.arrivals.is_empty() && !link.reader_behind();
+        let lasts = reader.active() || !reader.arrivals.is_empty() && !link.reader_behind(&self.order);
         link.kind != DIRECT && lasts && self.up_to_readers(number) < 2
     }
 
@@ -175,6 +224,15 @@ impl ZeroTime {
 
     pub fn arrivals_up_to_two(&self, task: usize) -> u8 {
         self.lives[task].arrivals.len().min(2) as u8
+    }
+
+    /// The tick at which a task's job began that is not over, else 0.
+    pub fn since(&self, task: usize) -> u32 {
+        Some(&self.lives[task]).filter(|life| life.active()).map_or(0, |life| life.arrival_tick)
+    }
+
+    pub fn last_tick(&self) -> u32 {
+        self.last_tick
     }
 
     pub fn finishes(&self, task: usize) -> usize {

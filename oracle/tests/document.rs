@@ -4,7 +4,7 @@
 
 use oracle::engine::{Engine, FreshEngine};
 use oracle::example::long_example;
-use oracle::format::{encode, printout, Counts, Event, Link, Recording, Table};
+use oracle::format::{encode, printout, untimed, Counts, Event, Link, Recording, Table};
 use oracle::pointers::Pointers;
 use oracle::printouts::inspected;
 use oracle::sizes::RecordingKind;
@@ -31,8 +31,8 @@ fn link(writer: u8, reader: u8, kind: u8) -> Link {
 }
 
 fn recording(tasks: usize, links: &[Link], events: &[Event]) -> Recording {
-    let table = Table { defaults: vec![0; tasks], links: links.to_vec() };
-    Recording { kind: RecordingKind::SIXTEEN, table, events: events.to_vec() }
+    let table = Table::undated(vec![0; tasks], links.to_vec());
+    Recording { kind: RecordingKind::SIXTEEN, table, events: untimed(events) }
 }
 
 fn verdict_of(tasks: usize, links: &[Link], events: &[Event]) -> (u8, usize) {
@@ -43,7 +43,7 @@ fn verdict_of(tasks: usize, links: &[Link], events: &[Event]) -> (u8, usize) {
 fn example_then(kept: usize, then: &[Event]) -> (u8, usize) {
     let mut changed = long_example();
     changed.events.truncate(kept);
-    changed.events.extend_from_slice(then);
+    changed.events.extend(untimed(then));
     verdict(&encode(&changed))
 }
 
@@ -116,9 +116,9 @@ fn newest_of_task_1_goes_2_1_3() {
     let mut engine = Pointers::fresh(&long_example().table);
     let mut newest = Vec::new();
     let mut previous = Vec::new();
-    for event in long_example().events {
-        engine.apply(event);
-        if let Event::Arrival(set) = event {
+    for timed in long_example().events {
+        engine.apply(timed);
+        if let Event::Arrival(set) = timed.event {
             if set & 2 != 0 {
                 newest.push(engine.state.newest[1]);
             }
@@ -239,7 +239,7 @@ fn a_lent_table_is_judged_count_by_count_and_link_by_link() {
 #[test]
 fn after_the_second_arrival_r2_is_16_and_a3_is_13() {
     let second = 11;
-    assert_eq!(long_example().events[second - 1], Event::Arrival(0b0011));
+    assert_eq!(long_example().events[second - 1], Event::Arrival(0b0011).into());
     let place = EXAMPLE_EVENTS + 21 + 12 + 3;
     assert_eq!(example_then(second, &[Event::Read(2)]), (16, place));
     assert_eq!(example_then(second, &[Event::Arrival(0b1000)]), (13, place));
@@ -321,7 +321,7 @@ fn a_state_that_is_not_sound_is_19_before_anything_else() {
     let spoiled = |spoil: &dyn Fn(&mut State)| {
         let mut state = fresh;
         spoil(&mut state);
-        let answer = Oracle.one_event(&state, Event::Arrival(0));
+        let answer = Oracle.one_event(&state, Event::Arrival(0).into());
         assert_eq!((answer.value, answer.state), (0, state));
         answer.refusal
     };

@@ -2,7 +2,7 @@
 
 use oracle::engine::{Engine, FreshEngine};
 use oracle::example::own_output_example;
-use oracle::format::{encode, Event, Link, Recording, Table};
+use oracle::format::{encode, untimed, Event, Link, Recording, Table};
 use oracle::pointers::Pointers;
 use oracle::reach::Reached;
 use oracle::sizes::RecordingKind;
@@ -12,19 +12,23 @@ use Event::{Arrival as A, Finish as F, Read as R, Start as S};
 #[test]
 fn all_that_was_not_reached_is_named() {
     let missing = Reached::default().missing();
-    // 20 refusals in recordings of either kind, 2 of none, 7 of one event, 10 of tables, 19 of writing either kind, 1 of
-    // none; then recordings written again and refused alike, and wide sets; then the lines: 6 and 4 of a kind, and 4
-    // first bytes; then how deep and how far; and in recordings and saved states 9 items of start values and marks, 9 of
-    // self links, and 11 of the last task and link.
-    assert_eq!(missing.len(), 2 * 20 + 2 + 7 + 10 + 2 * 19 + 1 + 3 + 6 + 4 + 4 + 6 + 2 * (9 + 9 + 11));
+    // 20 refusals in recordings of each kind and 4 more in dated ones, 2 of none, 10 of one event, 11 of tables, 19 of
+    // writing each kind and 4 more of a dated one, 1 of none; then recordings written again and refused alike, and wide
+    // sets; then states of the other policy, either way; then the lines: 6, 4 and 4 of a kind, and 4 first bytes; then
+    // how deep and how far; and in recordings and saved states 9 items of start values and marks, 9 of self links, 11 of
+    // the last task and link, and 14 of ticks.
+    let refusals = 3 * 20 + 4 + 2 + 10 + 11 + 3 * 19 + 4 + 1;
+    assert_eq!(missing.len(), refusals + 3 + 2 + 6 + 4 + 4 + 4 + 6 + 2 * (9 + 9 + 11 + 14));
     let named = [
         "refusal 18 in recordings of 253",
         "refusal 20 in recordings of 254",
+        "refusal 23 in recordings of 255",
         "refusal 2 in recordings of no kind",
         "refusal 19 of one event",
         "refusal 20 of tables",
         "refusal 20 of writing 253",
         "refusal 3 of writing 254",
+        "refusal 24 of writing 255",
         "refusal 2 of writing no kind",
         "20 recordings of 253 refused for links for which a state has room: 0",
         "20 recordings of 254 accepted with the most tasks: 0",
@@ -35,6 +39,9 @@ fn all_that_was_not_reached_is_named() {
         "100 marks gone at a finish in saved states: 0",
         "100 reads by a self link of its start value in recordings: 0",
         "100 direct self links refused after a delayed one in saved states: 0",
+        "20 finishes at the deadline in recordings: 0",
+        "20 ticks refused one below the last in saved states: 0",
+        "100 sound states refused without a tick: 0",
     ];
     assert_all(&missing, &named);
 }
@@ -66,7 +73,7 @@ fn what_self_links_did_is_counted() {
     }
     let own = |task: u8, kind: u8| Link::of([task, task, kind], 0);
     for links in [vec![own(0, 1), own(1, 0)], vec![own(0, 0), own(1, 1)]] {
-        let table = Table { defaults: vec![0; 2], links };
+        let table = Table::undated(vec![0; 2], links);
         let bytes = encode(&Recording { kind: RecordingKind::SIXTEEN, table, events: Vec::new() });
         let answer = Oracle.replay(&bytes, &[]);
         assert_eq!(answer.refusal, 5);
@@ -96,15 +103,15 @@ fn what_self_links_did_is_counted() {
 fn what_the_last_task_and_link_did_is_counted() {
     let mut reached = Reached::default();
     let links = (0..96).map(|number| Link::of([number / 8, 24 + number % 8, 0], 0)).collect();
-    let table = Table { defaults: vec![0; 32], links };
+    let table = Table::undated(vec![0; 32], links);
     let events = [A(1 << 31 | 1 << 11), S(11), F(11, 7), S(31), R(95), F(31, 8)];
     let mut engine = Pointers::fresh(&table);
-    for event in events {
+    for event in untimed(&events) {
         let before = engine.state;
         engine.apply(event);
         reached.recordings.note_event(&before, event, &engine.state);
     }
-    let sixteen = Table { defaults: vec![0; 16], links: Vec::new() };
+    let sixteen = Table::undated(vec![0; 16], Vec::new());
     for (table, event) in [(&table, S(32)), (&table, F(32, 0)), (&table, R(96)), (&sixteen, A(1 << 16))] {
         assert_eq!(note(&mut reached, RecordingKind::THIRTY_TWO, table, event), 12);
     }
@@ -128,7 +135,7 @@ fn what_the_last_task_and_link_did_is_counted() {
 
 /// Notes a recording of one event, which is refused with the answer.
 fn note(reached: &mut Reached, kind: RecordingKind, table: &Table, event: Event) -> u8 {
-    let bytes = encode(&Recording { kind, table: table.clone(), events: vec![event] });
+    let bytes = encode(&Recording { kind, table: table.clone(), events: untimed(&[event]) });
     let answer = Oracle.replay(&bytes, &[]);
     reached.note_recording(&bytes, &answer);
     answer.refusal
@@ -147,12 +154,12 @@ fn either_side_of_the_limits_is_counted_by_kind() {
     let refusals =
         [(smaller, 16), (smaller, 17), (smaller, 32), (smaller, 33), (larger, 17), (larger, 32), (larger, 33)].map(
             |(kind, tasks)| {
-                let table = Table { defaults: vec![0; tasks], links: Vec::new() };
+                let table = Table::undated(vec![0; tasks], Vec::new());
                 note(&mut reached, kind, &table, A(1))
             },
         );
     assert_eq!(refusals, [0, 2, 2, 2, 0, 0, 2]);
-    for first in [0, 252, 255, 255] {
+    for first in [0, 251, 252, 252] {
         reached.note_recording(&[first], &Oracle.replay(&[first], &[]));
     }
     assert_all(
@@ -166,8 +173,8 @@ fn either_side_of_the_limits_is_counted_by_kind() {
             "20 recordings of 254 refused with one task more: 1",
             "20 recordings that begin with 0: 1",
             "20 recordings that begin with 16: 0",
-            "20 recordings that begin with 252: 1",
-            "20 recordings that begin with 255: 2",
+            "20 recordings that begin with 251: 1",
+            "20 recordings that begin with 252: 2",
         ],
     );
 }

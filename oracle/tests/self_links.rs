@@ -5,7 +5,7 @@ mod common;
 
 use common::{delayed, direct, numbers, only_clause_broken, state_after, table, verdict, verdict_in, verdict_on_links};
 use oracle::example::own_output_example;
-use oracle::format::{encode, Event, Link, Recording, Table};
+use oracle::format::{encode, untimed, Event, Link, Recording, Table};
 use oracle::handovers::split;
 use oracle::sizes::RecordingKind;
 use oracle::state::{Clause, State};
@@ -155,6 +155,7 @@ fn the_task_writes_to_others_as_ever() {
 #[test]
 fn the_example_of_two_filters() {
     let Recording { table, events, .. } = own_output_example();
+    let events: Vec<Event> = events.iter().map(|timed| timed.event).collect();
     assert_eq!(numbers(&table, &events), [40, 41, 7, 41]);
 }
 
@@ -294,7 +295,7 @@ fn the_rules_of_tables_hold_in_states() {
 fn a_read_goes_by_the_pointer_and_the_mark() {
     let mut state = state_after(&filter(40), &[&run(0, 0, 41)[..], &run(0, 0, 42), &[A(1), S(0)]].concat());
     let read = |state: &State| {
-        let answer = Oracle.one_event(state, R(0));
+        let answer = Oracle.one_event(state, R(0).into());
         (answer.refusal, answer.value)
     };
     assert_eq!((state.newest[0], state.previous[0], read(&state)), (2, 1, (0, 42)));
@@ -312,7 +313,7 @@ fn a_read_goes_by_the_pointer_and_the_mark() {
 fn the_writer_writes_it_as_the_reader_reads_it() {
     let handover = |defaults: &[u32], links: &[u32], events: &[u32]| Handover {
         kind: 253,
-        defaults: defaults.to_vec(),
+        tasks: defaults.to_vec(),
         links: links.to_vec(),
         events: events.to_vec(),
     };
@@ -349,7 +350,7 @@ fn accepted_ones_written_again_give_the_same_bytes() {
     let two = Recording {
         kind: RecordingKind::SIXTEEN,
         table: table(2, &[delayed(1, 1, u32::MAX), delayed(0, 0, 0)]),
-        events: run(1, 0, 7).to_vec(),
+        events: untimed(&run(1, 0, 7)),
     };
     for recording in [own_output_example(), two] {
         let bytes = encode(&recording);

@@ -20,7 +20,7 @@ fn the_first_byte_names_a_kind() {
     assert_eq!(verdict(&[&SMALLEST[..], &[0]].concat()), (17, 9));
     assert_eq!(verdict(&[]), (1, 0));
     assert_eq!(verdict(&[253]), (1, 1));
-    for first in (0..=255).filter(|first| ![253, 254].contains(first)) {
+    for first in (0..=255).filter(|first| ![253, 254, 255].contains(first)) {
         assert_eq!(verdict(&[first]), (2, 0));
         assert_eq!(verdict(&[&[first], &SMALLEST[1..]].concat()), (2, 0));
         // Before a fault in T.
@@ -161,7 +161,7 @@ fn a_read_by_a_marked_link_gives_the_start_value_whatever_the_arrivals_are() {
     let table = table(2, &[delayed(0, 1, 90)]);
     let mut state = state_after(&table, &[A(2), S(1)]);
     let read = |state: &State| {
-        let answer = Oracle.one_event(state, R(0));
+        let answer = Oracle.one_event(state, R(0).into());
         (answer.refusal, answer.value)
     };
     assert_eq!(read(&state), (0, 90));

@@ -6,8 +6,8 @@ mod common;
 use common::{
     delayed, direct, numbers, numbers_in, only_clause_broken, state_after, table, verdict, verdict_in, verdict_on_links,
 };
-use oracle::format::{encode, Event, Link, Recording, Table};
-use oracle::sizes::{RecordingKind, KINDS};
+use oracle::format::{encode, untimed, Event, Link, Recording, Table, Timed};
+use oracle::sizes::{RecordingKind, UNDATED};
 use oracle::state::{Clause, State};
 use oracle::subject::{disagreement, zero_time_reading, Made, Oracle, Subject};
 use oracle::tables::LentTable;
@@ -30,7 +30,7 @@ fn at_events(tasks: usize) -> usize {
 
 /// The verdict on a recording without links.
 fn verdict_on(kind: RecordingKind, tasks: u32, events: &[Event]) -> (u8, usize) {
-    verdict(&encode(&Recording { kind, table: table(tasks, &[]), events: events.to_vec() }))
+    verdict(&encode(&Recording { kind, table: table(tasks, &[]), events: untimed(events) }))
 }
 
 // ------------------------------------------------------------------- bytes
@@ -43,16 +43,13 @@ fn the_least_recording_begins_with_254() {
     for (cut, place) in places.into_iter().enumerate() {
         assert_eq!(verdict(&LEAST[..cut]), (1, place));
     }
-    assert_eq!(
-        encode(&Recording { kind: LARGER, table: Table { defaults: vec![0], links: vec![] }, events: vec![] }),
-        LEAST
-    );
+    assert_eq!(encode(&Recording { kind: LARGER, table: Table::undated(vec![0], vec![]), events: vec![] }), LEAST);
 }
 
 #[test]
 fn the_first_byte_decides_the_kind_and_any_other_is_2_at_0() {
     let with = |first: u8, after: &[u8]| verdict(&[&[first], after].concat());
-    for first in [0, 1, 16, 32, 252, 255] {
+    for first in [0, 1, 16, 32, 251, 252] {
         assert_eq!(with(first, &LEAST[1..]), (2, 0));
         // Before a fault in T, and before T is missed.
         assert_eq!(with(first, &[0]), (2, 0));
@@ -167,11 +164,11 @@ fn a_link_may_name_task_31_and_none_past_the_table() {
 
 #[test]
 fn e_is_at_most_ten_thousand_of_either_kind() {
-    for kind in KINDS {
+    for kind in UNDATED {
         let events = [A(1), S(0), F(0, 5)];
         let with = |count: usize| {
             let events: Vec<Event> = events.iter().cycle().take(count).copied().collect();
-            let bytes = encode(&Recording { kind, table: table(1, &[]), events });
+            let bytes = encode(&Recording { kind, table: table(1, &[]), events: untimed(&events) });
             (verdict(&bytes), bytes.len())
         };
         let (accepted, length) = with(10_000);
@@ -187,8 +184,8 @@ fn a_table_of_sixteen_tasks_may_stand_in_either_kind() {
     let round = |output: u32| [A(0x8001), S(0), R(0), F(0, output), S(15), R(1), R(2), F(15, output + 1)];
     let events = [round(10), round(20), round(30)].concat();
     assert_eq!(numbers(&sixteen, &events), [90, 10, 7, 11, 20, 11, 21, 30, 21]);
-    let [smaller, larger] = KINDS.map(|kind| {
-        let bytes = encode(&Recording { kind, table: sixteen.clone(), events: events.clone() });
+    let [smaller, larger] = UNDATED.map(|kind| {
+        let bytes = encode(&Recording { kind, table: sixteen.clone(), events: untimed(&events) });
         let answer = Oracle.replay(&bytes, &[0; 9]);
         (bytes.len(), answer.state, answer.counts)
     });
@@ -255,7 +252,7 @@ fn link_95_is_read_and_link_96_is_12() {
     assert_eq!(numbers_in(LARGER, &full, &events), [77, 1010]);
     let refused = |link: u8| {
         let events = [&events[..4], &[R(link)]].concat();
-        let bytes = encode(&Recording { kind: LARGER, table: full.clone(), events });
+        let bytes = encode(&Recording { kind: LARGER, table: full.clone(), events: untimed(&events) });
         let answer = Oracle.replay(&bytes, &[0; 10]);
         assert_eq!(disagreement(&answer, &zero_time_reading(&bytes, &[0; 10])), None);
         (answer.refusal, answer.place)
@@ -303,7 +300,7 @@ fn thirty_two_tasks_may_run_at_once() {
 
 #[test]
 fn arrivals_are_counted_task_by_task() {
-    let bytes = encode(&Recording { kind: LARGER, table: table(32, &[]), events: vec![A(u32::MAX)] });
+    let bytes = encode(&Recording { kind: LARGER, table: table(32, &[]), events: untimed(&[A(u32::MAX)]) });
     let answer = Oracle.replay(&bytes, &[]);
     assert_eq!((answer.refusal, answer.counts.arrivals), (0, 32));
 }
@@ -317,7 +314,7 @@ fn longest(kind: RecordingKind, count: usize) -> Vec<u8> {
     let (tasks, links) = (kind.limits.tasks as u8, kind.limits.links);
     let mut round = vec![A(u32::MAX >> (32 - tasks))];
     round.extend((0..tasks).flat_map(|task| [S(task), F(task, u32::MAX)]));
-    let events = round.into_iter().cycle().take(count).collect();
+    let events = round.into_iter().cycle().take(count).map(Timed::from).collect();
     encode(&Recording { kind, table: table(u32::from(tasks), &crowd(tasks, links)), events })
 }
 
@@ -423,7 +420,7 @@ fn the_last_slots_are_looked_at() {
 #[test]
 fn single_events_know_thirty_two_tasks_and_ninety_six_links() {
     let state = state_after(&table(32, &crowd(32, 96)), &[A(1 << 31), S(31)]);
-    let refusal = |event: Event| Oracle.one_event(&state, event).refusal;
+    let refusal = |event: Event| Oracle.one_event(&state, event.into()).refusal;
     assert_eq!(refusal(A(0x7FFF_FFFF)), 0);
     assert_eq!(refusal(A(u32::MAX)), 13);
     assert_eq!(refusal(A(0)), 12);
@@ -435,6 +432,6 @@ fn single_events_know_thirty_two_tasks_and_ninety_six_links() {
     assert_eq!(refusal(F(31, 0)), 0);
     assert_eq!(refusal(F(32, 0)), 12);
     let of_31 = State::fresh(&table(31, &[]));
-    assert_eq!(Oracle.one_event(&of_31, A(1 << 31)).refusal, 12);
-    assert_eq!(Oracle.one_event(&of_31, A(1 << 30)).refusal, 0);
+    assert_eq!(Oracle.one_event(&of_31, A(1 << 31).into()).refusal, 12);
+    assert_eq!(Oracle.one_event(&of_31, A(1 << 30).into()).refusal, 0);
 }

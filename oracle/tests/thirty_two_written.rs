@@ -16,7 +16,7 @@ fn at_events(tasks: usize) -> usize {
 }
 
 fn handover(kind: u32, tasks: usize, links: &[u32], events: &[u32]) -> Handover {
-    Handover { kind, defaults: vec![0; tasks], links: links.to_vec(), events: events.to_vec() }
+    Handover { kind, tasks: vec![0; tasks], links: links.to_vec(), events: events.to_vec() }
 }
 
 /// The answer, and what it leaves of a buffer with so much room.
@@ -55,7 +55,7 @@ fn the_writer_writes_the_kind_that_it_is_told() {
 
 #[test]
 fn a_kind_that_is_none_is_2_at_0_before_all_else() {
-    for kind in [0, 1, 252, 255, 256 + 253, 256 + 254, 1 << 16 | 253, 1 << 31 | 254, u32::MAX] {
+    for kind in [0, 1, 252, 256, 256 + 253, 256 + 254, 256 + 255, 1 << 16 | 253, 1 << 31 | 254, u32::MAX] {
         for room in [0, 9, 100] {
             let untouched = ((2, 0), vec![0xA5; room]);
             assert_eq!(written(&handover(kind, 1, &[], &[]), room), untouched);

@@ -29,7 +29,7 @@ fn answer(defaults: &[u32], links: &[u32], events: &[u32], room: usize) -> (u8, 
 }
 
 fn handover(defaults: &[u32], links: &[u32], events: &[u32]) -> Handover {
-    Handover { kind: 253, defaults: defaults.to_vec(), links: links.to_vec(), events: events.to_vec() }
+    Handover { kind: 253, tasks: defaults.to_vec(), links: links.to_vec(), events: events.to_vec() }
 }
 
 /// With room for the longest recording.

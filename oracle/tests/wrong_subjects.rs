@@ -3,7 +3,7 @@
 //! tell from the right ones.
 
 use oracle::corpus::{batch, Case, Corpus};
-use oracle::format::Event;
+use oracle::format::Timed;
 use oracle::prng::Prng;
 use oracle::saved::{event_for, from_history, spoiled};
 use oracle::state::State;
@@ -36,7 +36,7 @@ fn drawn<T>(batches: usize, batch: impl FnMut(usize) -> Vec<T>) -> Vec<T> {
     (0..batches).flat_map(batch).collect()
 }
 
-fn saved_states() -> Vec<(State, Event)> {
+fn saved_states() -> Vec<(State, Timed)> {
     let mut prng = Prng::new(1);
     drawn(600, |_| {
         let saved = from_history(&mut prng);
@@ -60,7 +60,7 @@ fn makes_apart(wrong: &Wrong, table: &LentTable) -> bool {
     wrong.fresh(table) != Oracle.fresh(table)
 }
 
-fn answers_apart(wrong: &Wrong, (state, event): &(State, Event)) -> bool {
+fn answers_apart(wrong: &Wrong, (state, event): &(State, Timed)) -> bool {
     wrong.one_event(state, *event) != Oracle.one_event(state, *event)
 }
 
@@ -81,7 +81,7 @@ fn the_saved_states_expose_each_of_them() {
 
 #[test]
 fn other_sizes_of_a_state_show() {
-    assert_eq!(Oracle.sizes(), [32, 96, 608, 448]);
+    assert_eq!(Oracle.sizes(), [32, 96, 608, 448, 66]);
     assert_ne!(Wrong { flaw: Flaw::StatesBySmaller }.sizes(), Oracle.sizes());
     assert_eq!(Wrong { flaw: Flaw::BytePastEnd }.sizes(), Oracle.sizes());
 }

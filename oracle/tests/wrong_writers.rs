@@ -38,9 +38,9 @@ fn without_a_flaw_nothing_is_exposed() {
 
 #[test]
 fn every_refusal_is_reached_but_extra_bytes() {
-    let mut given_refusals = [0; 21];
+    let mut given_refusals = [0; 25];
     handovers().iter().for_each(|lent| given_refusals[usize::from(given(&Oracle, lent).0.refusal)] += 1);
-    let never: Vec<usize> = (0..21).filter(|refusal| given_refusals[*refusal] == 0).collect();
+    let never: Vec<usize> = (0..25).filter(|refusal| given_refusals[*refusal] == 0).collect();
     // 19 is about a lent state, which writing has none of.
     assert_eq!(never, [17, 19]);
 }

@@ -12,7 +12,7 @@ use Rattle.recording_core.specs.Playing.{Playing, coreOf}
 
 -- the recording's reply to the bytes s, with the lent list `out`
 abbrev pub hostReply : List ℕ → List ℕ → Verdict Playing
-hostReply s out = recording (kindIn s) (coreOf stateRoom out) s
+hostReply s out = recording (kindIn s) (coreOf stateRoom (kindIn s .policy) out) s
 
 -- the four counts in their order
 abbrev pub countsIn : Counts → List ℕ

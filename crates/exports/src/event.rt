@@ -3,20 +3,51 @@ ghost use mathlib.Core.Path.{_≡_};
 ghost use mathlib.Core.Logic.{_≢_};
 ghost use Rattle.protocol_state.specs.Give.{reply};
 ghost use Rattle.mailbox_layout.specs.Layout.{stateOf};
-ghost use Rattle.mailbox_call.specs.Calls.{called, callReply};
+ghost use Rattle.mailbox_event.specs.declared.When.the-variants.{Untimed, At};
+ghost use Rattle.mailbox_call.specs.Calls.{requested, requestReply};
+ghost use Rattle.mailbox_call.specs.Replies.{heard};
 use mailbox_call::Asked;
 use mailbox_call::ask;
 use mailbox_call::number_of;
+use mailbox_event::When;
 use mailbox_give::give;
+use mailbox_give::is_for;
 use mailbox_layout::CONTROL;
+use mailbox_layout::TIMES;
 use mailbox_layout::VALUES;
 use mailbox_plan::plan_of;
 use mailbox_sound::is_sound;
 
-// One event given to a state: 19 where the state isn't sound, then 11 for an unknown kind, then 12 to 16, else it is done. A refusal leaves
-// both arrays as they were lent.
+// The answer to what is asked, without a tick or at one. What is no event is answered after 19.
+fn hear(
+    when: When,
+    asked: Asked,
+    number: &mut u32,
+    tasks: usize,
+    links: usize,
+    control: &mut [u8; CONTROL],
+    values: &mut [u32; VALUES],
+    times: &mut [u32; TIMES],
+) -> u8
+    ensures answer { λ r. ⌜ reply (stateOf tasks links (now (control .exit)) (now (values .exit)) (now (times .exit))) r (now (number .exit)) ≡ heard when (stateOf tasks links (now (control .entry)) (now (values .entry)) (now (times .entry))) asked ⌝ }
+    ensures kept { λ r. ⌜ (r ≢ 0 → (now (control .exit) ≡ now (control .entry)) × ((now (values .exit) ≡ now (values .entry)) × (now (times .exit) ≡ now (times .entry)))) ⌝ }
+{
+    let Asked::Known(e) = asked else {
+        *number = 0;
+        let plan = plan_of(links, control, times);
+        let sound = is_sound(&plan, tasks, links, control, values, times);
+        if !(sound & is_for(when, times)) {
+            return 19;
+        }
+        return number_of(asked);
+    };
+    give(when, e, number, tasks, links, control, values, times)
+}
+
+// One event given to a state under fixed priorities: 19 where the state isn't sound or has deadlines, then 11 for an unknown kind, then 12 to
+// 16, else it is done. A refusal leaves the three arrays as they were lent.
 #[no_mangle]
-pub extern "C" fn parnusild_event_32_96(
+pub extern "C" fn parnusild_event_32_96_66(
     kind: u8,
     which: u32,
     value: u32,
@@ -25,18 +56,51 @@ pub extern "C" fn parnusild_event_32_96(
     links: usize,
     control: &mut [u8; CONTROL],
     values: &mut [u32; VALUES],
+    times: &mut [u32; TIMES],
 ) -> u8
-    ensures answer { λ r. ⌜ reply (stateOf tasks links (now (control .exit)) (now (values .exit))) r (now (number .exit)) ≡ callReply (stateOf tasks links (now (control .entry)) (now (values .entry))) (called kind which value) ⌝ }
-    ensures kept { λ r. ⌜ (r ≢ 0 → (now (control .exit) ≡ now (control .entry)) × (now (values .exit) ≡ now (values .entry))) ⌝ }
+    ensures answer { λ r. ⌜ reply (stateOf tasks links (now (control .exit)) (now (values .exit)) (now (times .exit))) r (now (number .exit)) ≡ requestReply Untimed (stateOf tasks links (now (control .entry)) (now (values .entry)) (now (times .entry))) (requested kind which value) ⌝ }
+    ensures kept { λ r. ⌜ (r ≢ 0 → (now (control .exit) ≡ now (control .entry)) × ((now (values .exit) ≡ now (values .entry)) × (now (times .exit) ≡ now (times .entry)))) ⌝ }
 {
-    let call = ask(kind, which, value);
-    let Asked::Known(e) = call else {
-        *number = 0;
-        let plan = plan_of(links, control);
-        if !is_sound(&plan, tasks, links, control, values) {
-            return 19;
-        }
-        return number_of(call);
-    };
-    give(e, number, tasks, links, control, values)
+    let asked = ask(kind, which, value);
+    hear(
+        When::Untimed,
+        asked,
+        number,
+        tasks,
+        links,
+        control,
+        values,
+        times,
+    )
+}
+
+// One event given to a state with deadlines at a tick: 19 where the state isn't sound or is one under fixed priorities, then 11, 12, 22, 21, 13
+// to 16 and 23 in this order, else it is done. No tick is ever made up: a state with deadlines takes no event without one.
+#[no_mangle]
+pub extern "C" fn parnusild_event_at_32_96_66(
+    tick: u32,
+    kind: u8,
+    which: u32,
+    value: u32,
+    number: &mut u32,
+    tasks: usize,
+    links: usize,
+    control: &mut [u8; CONTROL],
+    values: &mut [u32; VALUES],
+    times: &mut [u32; TIMES],
+) -> u8
+    ensures answer { λ r. ⌜ reply (stateOf tasks links (now (control .exit)) (now (values .exit)) (now (times .exit))) r (now (number .exit)) ≡ requestReply (At tick) (stateOf tasks links (now (control .entry)) (now (values .entry)) (now (times .entry))) (requested kind which value) ⌝ }
+    ensures kept { λ r. ⌜ (r ≢ 0 → (now (control .exit) ≡ now (control .entry)) × ((now (values .exit) ≡ now (values .entry)) × (now (times .exit) ≡ now (times .entry)))) ⌝ }
+{
+    let asked = ask(kind, which, value);
+    hear(
+        When::At(tick),
+        asked,
+        number,
+        tasks,
+        links,
+        control,
+        values,
+        times,
+    )
 }

@@ -4,6 +4,7 @@ ghost use Rattle.mailbox.specs.States.{saved};
 ghost use Rattle.mailbox_layout.specs.Layout.{stateOf};
 use mailbox::State;
 use mailbox_layout::CONTROL;
+use mailbox_layout::TIMES;
 use mailbox_layout::VALUES;
 
 // Puts a state into the lent parts.
@@ -13,8 +14,9 @@ pub(crate) fn put_state(
     links: &mut usize,
     control: &mut [u8; CONTROL],
     values: &mut [u32; VALUES],
+    times: &mut [u32; TIMES],
 )
-    ensures { λ _. ⌜ stateOf (now (tasks .exit)) (now (links .exit)) (now (control .exit)) (now (values .exit)) ≡ saved q ⌝ }
+    ensures { λ _. ⌜ stateOf (now (tasks .exit)) (now (links .exit)) (now (control .exit)) (now (values .exit)) (now (times .exit)) ≡ saved q ⌝ }
 {
     *tasks = q.tasks;
     *links = q.links;
@@ -22,4 +24,6 @@ pub(crate) fn put_state(
     *control = kept;
     let kept = q.values;
     *values = kept;
+    let kept = q.times;
+    *times = kept;
 }

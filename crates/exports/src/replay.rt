@@ -4,6 +4,7 @@ ghost use Rattle.mailbox_layout.specs.Layout.{stateOf};
 ghost use Rattle.exports.specs.Replayed.{Replayed};
 use crate::parts::put_state;
 use mailbox_layout::CONTROL;
+use mailbox_layout::TIMES;
 use mailbox_layout::VALUES;
 
 // Arrivals task by task, starts, reads, finishes.
@@ -12,7 +13,7 @@ const COUNTS: usize = 4;
 // The answer to a whole recording: the refusal, its place, the four counts and the state after the last accepted event; the numbers
 // read stand first in the lent list. Each entry of the lent recording is a byte: `bytes` hands that fact on, as the replay's does.
 #[no_mangle]
-pub extern "C" fn parnusild_replay_32_96(
+pub extern "C" fn parnusild_replay_32_96_66(
     bytes: &[u8],
     numbers: &mut [u32],
     place: &mut usize,
@@ -21,8 +22,9 @@ pub extern "C" fn parnusild_replay_32_96(
     links: &mut usize,
     control: &mut [u8; CONTROL],
     values: &mut [u32; VALUES],
+    times: &mut [u32; TIMES],
 ) -> u8
-    ensures answer { λ r. ⌜ Replayed (now (bytes .entry)) (now (numbers .entry)) r (now (place .exit)) (now (counts .exit)) (stateOf (now (tasks .exit)) (now (links .exit)) (now (control .exit)) (now (values .exit))) (now (numbers .exit)) ⌝ }
+    ensures answer { λ r. ⌜ Replayed (now (bytes .entry)) (now (numbers .entry)) r (now (place .exit)) (now (counts .exit)) (stateOf (now (tasks .exit)) (now (links .exit)) (now (control .exit)) (now (values .exit)) (now (times .exit))) (now (numbers .exit)) ⌝ }
     ensures bytes { λ r. ⌜ Bytes (now (bytes .entry)) ⌝ }
 {
     let answer = recording::replay(bytes, numbers);
@@ -33,6 +35,6 @@ pub extern "C" fn parnusild_replay_32_96(
         answer.reads,
         answer.finishes,
     ];
-    put_state(answer.state, tasks, links, control, values);
+    put_state(answer.state, tasks, links, control, values, times);
     answer.refusal
 }

@@ -1,16 +1,18 @@
 -- The calls of hosts are the calls that the demands speak of.
 -- Assumes nothing.
 use mathlib.Core.Path.{_≡_, refl, sym, ap, _∙_}
+use mathlib.Core.Bool.{Bool, true, false}
 use mathlib.Core.List.{List}
 use Prim.Native.Nat.{ℕ, _-_, _≤_}
 use native.Mathlib.Omega.{arith}
-use borrow.Author.Tests.{ne-eqb}
+use borrow.Author.Tests.{eqb-true, eq-eqb, ne-eqb}
+use lib.Dec.{eqb}
 use lib.ListN.{length, drop, length-drop}
 use Rattle.protocol.specs.Event.{Event, arrival, start, read, finish}
 use Rattle.protocol_state.specs.Saved.{Saved, stateRoom, at, aheadIn}
-use Rattle.protocol_state.specs.Sound.{StandsSound, testedSound}
+use Rattle.protocol_state.specs.Sound.{isSound}
 use Rattle.protocol_state.specs.Give.{reply, settled, givenTo}
-use Rattle.protocol_state.proofs.Sound.{says-sound}
+use Rattle.protocol_state.proofs.Sound.{sound-says, says-sound}
 use Rattle.protocol_state.proofs.Give.{unsound, refused}
 use Rattle.mailbox.specs.declared.State.{State}
 use Rattle.exports.specs.Made.{madeAs}
@@ -20,17 +22,21 @@ use Rattle.recording_demands.specs.Rest.{Unread}
 use Rattle.recording_demands.proofs.Rest.{unread}
 use Rattle.recording_write_demands.specs.Ensured.{Writes}
 use Rattle.demands.specs.Calls.{Gives}
-use Rattle.demands.proofs.Demands.{not-sound}
-use Rattle.mailbox_call.specs.Calls.{Call, known, unknown, called, callReply}
-use Rattle.host_demands.specs.Hosts.{HostGives, HostReplays, HostWrites, HostRests, HostAsksNothing, HostTells, HostSays, anArrival, aStart, aRead, aFinish, Holds, hostAnswer, lastOf, Hosts}
+use Rattle.lists.proofs.Bools.{and-left, and-right}
+use Rattle.mailbox_event.specs.Plain.{policyFor}
+use Rattle.mailbox_event.specs.declared.When.{When}
+use Rattle.mailbox_call.specs.Calls.{Request, known, unknown, requested, handedOver, soundWhen, requestReply}
+use Rattle.host_demands.specs.Hosts.{HostGives, HostReplays, HostWrites, HostRests, HostAsksNothing, HostTells, HostSays, anArrival, aStart, aRead, aFinish, Holds, IsFor, hostAnswer, lastOf, Hosts}
 
 host-asks : HostAsksNothing
-host-asks = record { fresh = λ κs lent. tt; event = λ κs lent. tt; replay = λ κs lent. tt; write = λ κs lent. tt; rest = λ κs lent. tt; sizes = λ κs lent. tt }
+host-asks = record { fresh = λ κs lent. tt; fresh-dated = λ κs lent. tt; event = λ κs lent. tt; event-at = λ κs lent. tt; replay = λ κs lent. tt; write = λ κs lent. tt; rest = λ κs lent. tt; sizes = λ κs lent. tt }
 
 host-tells : HostTells
 host-tells = record {
   fresh = λ κs lent r left learnt. learnt;
-  event = λ κs lent r left learnt. (learnt .0, λ n. let k = learnt .1 n in record { control = k .0; values = k .1 });
+  fresh-dated = λ κs lent r left learnt. learnt;
+  event = λ κs lent r left learnt. (learnt .0, λ n. let k = learnt .1 n in record { control = k .0; values = k .1 .0; times = k .1 .1 });
+  event-at = λ κs lent r left learnt. (learnt .0, λ n. let k = learnt .1 n in record { control = k .0; values = k .1 .0; times = k .1 .1 });
   replay = λ κs lent r left learnt. learnt;
   write = λ κs lent r left learnt. learnt;
   rest = λ κs lent n left learnt. learnt;
@@ -38,15 +44,15 @@ host-tells = record {
 }
 
 -- the code's reading of the three numbers
-says-known : {kind which value : ℕ} {e : Event ℕ} → HostSays kind which value e → called kind which value ≡ known e
-unfolding called
+says-known : {kind which value : ℕ} {e : Event ℕ} → HostSays kind which value e → requested kind which value ≡ known e
+unfolding requested
 says-known anArrival = refl
 says-known aStart = refl
 says-known aRead = refl
 says-known aFinish = refl
 
-says-unknown : (kind which value : ℕ) → ((e : Event ℕ) → HostSays kind which value e → ⊥) → called kind which value ≡ unknown
-unfolding called
+says-unknown : (kind which value : ℕ) → ((e : Event ℕ) → HostSays kind which value e → ⊥) → requested kind which value ≡ unknown
+unfolding requested
 says-unknown kind which value none =
     rw (
       ne-eqb kind 1 (λ i. none (arrival which) (rw i anArrival)),
@@ -55,28 +61,35 @@ says-unknown kind which value none =
       ne-eqb kind 4 (λ i. none (finish which value) (rw i aFinish)),
     )
 
--- the answer to a kind that is unknown
-unknown-answer : (q q′ : Saved) (r v : ℕ) → reply q′ r v ≡ settled (testedSound stateRoom q) 11 q q 0
-    → (StandsSound stateRoom q → reply q′ r v ≡ reply q 11 0) × ((StandsSound stateRoom q → ⊥) → reply q′ r v ≡ reply q 19 0)
-unknown-answer q q′ r v e = (
-  λ S. e ∙ refused 11 q q 0 (says-sound (aheadIn q) stateRoom q S) (λ z. omega arith),
-  λ n. e ∙ unsound 11 q q 0 (not-sound q n),
-)
+-- the test of the code says that the state is sound and of the policy
+sound-when : (w : When) (q : Saved) → IsFor w q → soundWhen w q ≡ true
+sound-when w q (S, i) = rw (says-sound (aheadIn q) stateRoom q S, eq-eqb (q .policy) (policyFor w) i)
 
-module _ (q q′ : Saved) (kind which value r v : ℕ) (said : HostGives q kind which value r v q′) where
-  answer-is : {c : Call} → called kind which value ≡ c → reply q′ r v ≡ callReply q c
-  answer-is i = said ∙ ap (λ (c : Call). callReply q c) i
+not-when : (w : When) (q : Saved) → (IsFor w q → ⊥) → soundWhen w q ≡ false
+not-when w q n = go (soundWhen w q) refl
+  where
+    go : (b : Bool) → soundWhen w q ≡ b → soundWhen w q ≡ false
+    go false e = e
+    go true e =
+        absurd (n (sound-says (aheadIn q) stateRoom q (and-left (isSound (aheadIn q) stateRoom q) _ e), eqb-true (q .policy) (policyFor w) (and-right (isSound (aheadIn q) stateRoom q) _ e)))
 
-  event-is : (e : Event ℕ) → HostSays kind which value e → (p p′ : State) → Holds p q → Holds p′ q′ → Gives p e (record { state = p′; answer = record { refusal = r; value = v } })
+module _ (w : When) (q q′ : Saved) (kind which value r v : ℕ) (said : HostGives w q kind which value r v q′) where
+  answer-is : {c : Request} → requested kind which value ≡ c → reply q′ r v ≡ requestReply w q c
+  answer-is i = said ∙ ap (λ (c : Request). requestReply w q c) i
+
+  event-is : (e : Event ℕ) → HostSays kind which value e → (p p′ : State) → Holds p q → Holds p′ q′ →
+      Gives p (handedOver w e) (record { state = p′; answer = record { refusal = r; value = v } })
   event-is e s p p′ h h′ = record {
-    answer = ap (λ (x : Saved). reply x r v) (h′ .same) ∙ answer-is (says-known s) ∙ ap (λ (x : Saved). givenTo stateRoom x e) (sym (h .same));
+    answer = ap (λ (x : Saved). reply x r v) (h′ .same) ∙ answer-is (says-known s) ∙ ap (λ (x : Saved). givenTo stateRoom x (handedOver w e)) (sym (h .same));
     lent = h .whole;
     whole = h′ .whole;
   }
 
-  unknown-is :
-      ((e : Event ℕ) → HostSays kind which value e → ⊥) → (StandsSound stateRoom q → reply q′ r v ≡ reply q 11 0) × ((StandsSound stateRoom q → ⊥) → reply q′ r v ≡ reply q 19 0)
-  unknown-is none = unknown-answer q q′ r v (answer-is (says-unknown kind which value none))
+  -- the answer to a kind that is unknown
+  unknown-is : ((e : Event ℕ) → HostSays kind which value e → ⊥) → (IsFor w q → reply q′ r v ≡ reply q 11 0) × ((IsFor w q → ⊥) → reply q′ r v ≡ reply q 19 0)
+  unknown-is none =
+      let e = answer-is (says-unknown kind which value none) in
+      (λ S. e ∙ refused 11 q q 0 (sound-when w q S) (λ z. omega arith), λ n. e ∙ unsound 11 q q 0 (not-when w q n))
 
 -- the parts of a replay's answer
 replay-is : {s out cs list : List ℕ} {r m : ℕ} {q : Saved} → HostReplays s out r m cs q list → (p : State) → Holds p q → Replays s out (hostAnswer r m cs p) list
@@ -113,7 +126,7 @@ pub hosts : Hosts
 hosts = record {
   asks = host-asks;
   tells = host-tells;
-  fresh = λ T L D W R K B r q said p h. record { answer = ap (madeAs r) (h .same) ∙ said; whole = h .whole };
+  fresh = λ p T L D X W R K B r q said s h. record { answer = ap (madeAs r) (h .same) ∙ said; whole = h .whole };
   event = event-is;
   unknown = unknown-is;
   replay = replay-is;

@@ -20,11 +20,12 @@ use Rattle.recording_event.specs.declared.Found.the-variants as found
 use Rattle.recording_event.specs.declared.Next.{Next}
 use Rattle.recording_event.specs.declared.Next.the-variants as next
 use Rattle.protocol_state.specs.Saved.{Saved}
-use Rattle.protocol_state.specs.Give.{Reply}
+use Rattle.protocol_deadlines.specs.Timed.{Timed, timed}
+use Rattle.protocol_state.specs.Give.{Reply, Call}
 use Rattle.protocol_state.specs.Fresh as fresh
 use Rattle.byte_format.specs.Play.{Verdict}
 use Rattle.mailbox.specs.States.{Gives, Makes}
-use Rattle.mailbox_layout.specs.Layout.{controlOf, valuesOf, fieldsOf}
+use Rattle.mailbox_layout.specs.Layout.{controlOf, valuesOf, timesOf, fieldsOf}
 use Rattle.mailbox.specs.declared.State.{State}
 use Rattle.mailbox.specs.declared.Step.{Step}
 use Rattle.mailbox.specs.declared.Made.{Made}
@@ -53,12 +54,12 @@ event-back (Start t) = refl
 event-back (Read l) = refl
 event-back (Finish t v) = refl
 
-abbrev nextFrom : Got (protocol.Event ℕ) → Next
-nextFrom (got e q) = next.Got (eventFrom e) q
+abbrev nextFrom : Got (Timed ℕ) → Next
+nextFrom (got (timed x e) q) = next.Got x (eventFrom e) q
 nextFrom (stop n) = cond (eqb n 11) next.Unknown next.Ends
 
 next-back : (n : Next) → nextFrom (gotOf n) ≡ n
-next-back (next.Got e q) = ap (λ (x : Event). next.Got x q) (event-back e)
+next-back (next.Got n e q) = ap (λ (x : Event). next.Got n x q) (event-back e)
 next-back next.Unknown = refl
 next-back next.Ends = refl
 
@@ -91,20 +92,20 @@ one-found f g e = sym (found-back f) ∙ ap foundFrom e ∙ found-back g
 
 -- ---- what a state holds fixes it, where its arrays have their lengths
 
-one-step : {q : State} {e : protocol.Event ℕ} {a b : Step} → Gives q e a → Gives q e b → a ≡ b
-one-step {q} {e} {a} {b} x y =
+one-step : {q : State} {c : Call} {a b : Step} → Gives q c a → Gives q c b → a ≡ b
+one-step {q} {c} {a} {b} x y =
     let r = same (x .answer) (y .answer) in
     λ i. record {
       state = saved-same (a .state) (b .state) (x .whole) (y .whole) (ap (λ (s : Reply). s .state) r) i;
       answer = record { refusal = r i .refusal; value = r i .value };
     }
 
-one-made : {T L : ℕ} {D W R K B : List ℕ} (a b : Made) → Makes T L D W R K B a → Makes T L D W R K B b → a ≡ b
+one-made : {p T L : ℕ} {D X W R K B : List ℕ} (a b : Made) → Makes p T L D X W R K B a → Makes p T L D X W R K B b → a ≡ b
 one-made a b x y =
     let m = same (x .answer) (y .answer) in
     λ i. record { refusal = m i .refusal; state = saved-same (a .state) (b .state) (x .whole) (y .whole) (ap (λ (s : fresh.Made). s .state) m) i }
 
-one-table : {x : Verdict Heads} (a b : Table) → HoldsTable x a → HoldsTable x b → a ≡ b
+one-table : {p : ℕ} {x : Verdict Heads} (a b : Table) → HoldsTable p x a → HoldsTable p x b → a ≡ b
 one-table a b x y = λ i. record {
   refusal = same (x .refusal) (y .refusal) i;
   place = same (x .place) (y .place) i;
@@ -112,19 +113,25 @@ one-table a b x y = λ i. record {
   state = saved-same (a .state) (b .state) (x .whole) (y .whole) (same (x .state) (y .state)) i;
 }
 
--- what two arrays hold, without the counts
+-- what the arrays hold, without the counts
 abbrev uncounted : Saved → Saved
-uncounted q = fieldsOf 0 0 (controlOf q) (valuesOf q)
+uncounted q = fieldsOf 0 0 (controlOf q) (valuesOf q) (timesOf q)
 
 -- ---- the theorem
 pub one-answer : OneAnswer
 one-answer = record {
   fresh = λ κs lent a b left left′ x y. one-made a b (x .0) (y .0);
+  fresh-dated = λ κs lent a b left left′ x y. one-made a b (x .0) (y .0);
   arrival = λ κs lent a b left left′ x y. one-step (x .0) (y .0);
+  arrival-at-tick = λ κs lent a b left left′ x y. one-step (x .0) (y .0);
   start = λ κs lent a b left left′ x y. one-step (x .0) (y .0);
+  start-at-tick = λ κs lent a b left left′ x y. one-step (x .0) (y .0);
   read = λ κs lent a b left left′ x y. one-step (x .0) (y .0);
+  read-at-tick = λ κs lent a b left left′ x y. one-step (x .0) (y .0);
   finish = λ κs lent a b left left′ x y. one-step (x .0) (y .0);
+  finish-at-tick = λ κs lent a b left left′ x y. one-step (x .0) (y .0);
   event = λ κs lent a b left left′ x y. one-step (x .0) (y .0);
+  event-at-tick = λ κs lent a b left left′ x y. one-step (x .0) (y .0);
   sound = λ κs lent a b left left′ x y. same x y;
   single = λ κs lent a b left left′ x y. saved-same a b (x .1) (y .1) (same (x .0) (y .0));
   itself = λ κs lent a b left left′ x y. same (x .0) (y .0);
@@ -140,6 +147,10 @@ one-answer = record {
   state-start-value = λ κs lent a b left left′ x y. same x y;
   state-pointer = λ κs lent a b left left′ x y. same x y;
   state-mark = λ κs lent a b left left′ x y. same x y;
+  state-deadline = λ κs lent a b left left′ x y. same x y;
+  state-since = λ κs lent a b left left′ x y. same x y;
+  state-last = λ κs lent a b left left′ x y. same x y;
+  state-policy = λ κs lent a b left left′ x y. same x y;
   replay = λ κs lent a b left left′ x y. let e = reply-parts (x .1 .0) (y .1 .0) (same (x .0) (y .0)) in λ i. (e .0 i, e .1 i);
   rest = λ κs lent a b left left′ x y. same x y;
   read-event = λ κs lent a b left left′ x y. one-next a b (same x y);
@@ -159,7 +170,10 @@ one-answer = record {
   line-of = λ κs lent a b left left′ x y. same x y;
   make-recording = λ κs lent a b left left′ x y. λ i. (same (x .0) (y .0) i, same (x .1) (y .1) i);
   host-fresh = λ κs lent a b left left′ x y. let e = same x y in λ i. (e i .refusal, e i .state);
+  host-fresh-dated = λ κs lent a b left left′ x y. let e = same x y in λ i. (e i .refusal, e i .state);
   host-event = λ κs lent a b left left′ x y. let e = same (x .0) (y .0) in
+      λ i. (e i .refusal, (e i .value, uncounted (e i .state)));
+  host-event-at = λ κs lent a b left left′ x y. let e = same (x .0) (y .0) in
       λ i. (e i .refusal, (e i .value, uncounted (e i .state)));
   host-replay = λ κs lent a b left left′ x y. let p = x .0 in let q = y .0 in
       λ i. (same (p .refusal) (q .refusal) i, (same (p .place) (q .place) i, (same (p .counts) (q .counts) i, (same (p .state) (q .state) i, same (p .list) (q .list) i))));

@@ -25,16 +25,28 @@ use Rattle.recording_walk.specs.declared.Walker.{Walker}
 use Rattle.host_demands.specs.Hosts.{stateWith, stateIn}
 use Rattle.mailbox.proofs.State.fresh.Kinds as of-fresh
 use Rattle.mailbox.proofs.State.fresh.Reads as on-fresh
+use Rattle.mailbox.proofs.State.fresh_dated.Kinds as of-fresh-dated
+use Rattle.mailbox.proofs.State.fresh_dated.Reads as on-fresh-dated
 use Rattle.mailbox.proofs.State.arrival.Kinds as of-arrival
 use Rattle.mailbox.proofs.State.arrival.Reads as on-arrival
+use Rattle.mailbox.proofs.State.arrival_at.Kinds as of-arrival-at-tick
+use Rattle.mailbox.proofs.State.arrival_at.Reads as on-arrival-at-tick
 use Rattle.mailbox.proofs.State.start.Kinds as of-start
 use Rattle.mailbox.proofs.State.start.Reads as on-start
+use Rattle.mailbox.proofs.State.start_at.Kinds as of-start-at-tick
+use Rattle.mailbox.proofs.State.start_at.Reads as on-start-at-tick
 use Rattle.mailbox.proofs.State.read.Kinds as of-read
 use Rattle.mailbox.proofs.State.read.Reads as on-read
+use Rattle.mailbox.proofs.State.read_at.Kinds as of-read-at-tick
+use Rattle.mailbox.proofs.State.read_at.Reads as on-read-at-tick
 use Rattle.mailbox.proofs.State.finish.Kinds as of-finish
 use Rattle.mailbox.proofs.State.finish.Reads as on-finish
+use Rattle.mailbox.proofs.State.finish_at.Kinds as of-finish-at-tick
+use Rattle.mailbox.proofs.State.finish_at.Reads as on-finish-at-tick
 use Rattle.mailbox.proofs.State.event.Kinds as of-event
 use Rattle.mailbox.proofs.State.event.Reads as on-event
+use Rattle.mailbox.proofs.State.event_at.Kinds as of-event-at-tick
+use Rattle.mailbox.proofs.State.event_at.Reads as on-event-at-tick
 use Rattle.mailbox.proofs.State.sound.Kinds as of-sound
 use Rattle.mailbox.proofs.State.sound.Reads as on-sound
 use Rattle.mailbox.proofs.State.single.Kinds as of-single
@@ -63,6 +75,14 @@ use Rattle.mailbox.proofs.State.pointer.Kinds as of-state-pointer
 use Rattle.mailbox.proofs.State.pointer.Reads as on-state-pointer
 use Rattle.mailbox.proofs.State.mark.Kinds as of-state-mark
 use Rattle.mailbox.proofs.State.mark.Reads as on-state-mark
+use Rattle.mailbox.proofs.State.deadline.Kinds as of-state-deadline
+use Rattle.mailbox.proofs.State.deadline.Reads as on-state-deadline
+use Rattle.mailbox.proofs.State.since.Kinds as of-state-since
+use Rattle.mailbox.proofs.State.since.Reads as on-state-since
+use Rattle.mailbox.proofs.State.last.Kinds as of-state-last
+use Rattle.mailbox.proofs.State.last.Reads as on-state-last
+use Rattle.mailbox.proofs.State.policy.Kinds as of-state-policy
+use Rattle.mailbox.proofs.State.policy.Reads as on-state-policy
 use Rattle.mailbox.proofs.State.itself.Kinds as of-itself
 use Rattle.mailbox.proofs.State.itself.Reads as on-itself
 use Rattle.recording.proofs.replay.Kinds as of-replay
@@ -95,16 +115,20 @@ use Rattle.recording_text.proofs.line_of.Kinds as of-line-of
 use Rattle.recording_text.proofs.line_of.Reads as on-line-of
 use Rattle.recording_make.proofs.make_recording.Kinds as of-make-recording
 use Rattle.recording_make.proofs.make_recording.Reads as on-make-recording
-use Rattle.exports.proofs.fresh.parnusild_fresh_32_96.Kinds as of-host-fresh
-use Rattle.exports.proofs.fresh.parnusild_fresh_32_96.Reads as on-host-fresh
-use Rattle.exports.proofs.event.parnusild_event_32_96.Kinds as of-host-event
-use Rattle.exports.proofs.event.parnusild_event_32_96.Reads as on-host-event
-use Rattle.exports.proofs.replay.parnusild_replay_32_96.Kinds as of-host-replay
-use Rattle.exports.proofs.replay.parnusild_replay_32_96.Reads as on-host-replay
-use Rattle.exports.proofs.write.parnusild_write_32_96.Kinds as of-host-write
-use Rattle.exports.proofs.write.parnusild_write_32_96.Reads as on-host-write
-use Rattle.exports.proofs.rest.parnusild_rest_32_96.Kinds as of-host-rest
-use Rattle.exports.proofs.rest.parnusild_rest_32_96.Reads as on-host-rest
+use Rattle.exports.proofs.fresh.parnusild_fresh_32_96_66.Kinds as of-host-fresh
+use Rattle.exports.proofs.fresh.parnusild_fresh_32_96_66.Reads as on-host-fresh
+use Rattle.exports.proofs.fresh.parnusild_fresh_dated_32_96_66.Kinds as of-host-fresh-dated
+use Rattle.exports.proofs.fresh.parnusild_fresh_dated_32_96_66.Reads as on-host-fresh-dated
+use Rattle.exports.proofs.event.parnusild_event_32_96_66.Kinds as of-host-event
+use Rattle.exports.proofs.event.parnusild_event_32_96_66.Reads as on-host-event
+use Rattle.exports.proofs.event.parnusild_event_at_32_96_66.Kinds as of-host-event-at
+use Rattle.exports.proofs.event.parnusild_event_at_32_96_66.Reads as on-host-event-at
+use Rattle.exports.proofs.replay.parnusild_replay_32_96_66.Kinds as of-host-replay
+use Rattle.exports.proofs.replay.parnusild_replay_32_96_66.Reads as on-host-replay
+use Rattle.exports.proofs.write.parnusild_write_32_96_66.Kinds as of-host-write
+use Rattle.exports.proofs.write.parnusild_write_32_96_66.Reads as on-host-write
+use Rattle.exports.proofs.rest.parnusild_rest_32_96_66.Kinds as of-host-rest
+use Rattle.exports.proofs.rest.parnusild_rest_32_96_66.Reads as on-host-rest
 use Rattle.exports.proofs.sizes.parnusild_sizes.Kinds as of-host-sizes
 use Rattle.exports.proofs.sizes.parnusild_sizes.Reads as on-host-sizes
 use Rattle.one_answer.specs.Walker.{WalksFrom, WalksTo, WalksLeft}
@@ -116,13 +140,19 @@ One n ps r Learnt Seen sees = (κs : Lfts n) (lent : Dens κs ps) (a b : resT r 
     Learnt κs lent a left → Learnt κs lent b left′ → sees κs a left ≡ sees κs b left′
 
 pub record OneAnswer : Type 0 where
-  -- `mailbox`: `State::fresh`, `arrival`, `start`, `read`, `finish`, `event`, `sound`, `single`, `itself`, and the accessors of a state's fields
+  -- `mailbox`: `State::fresh`, `fresh_dated`, `arrival`, `start`, `read`, `finish`, `event`, each of these at a tick, `sound`, `single`, `itself`, and the accessors of a state's fields
   pub fresh : One 0 of-fresh.ps of-fresh.r on-fresh.Learnt Made (λ κs m left. m)
+  pub fresh-dated : One 0 of-fresh-dated.ps of-fresh-dated.r on-fresh-dated.Learnt Made (λ κs m left. m)
   pub arrival : One 0 of-arrival.ps of-arrival.r on-arrival.Learnt Step (λ κs s left. s)
+  pub arrival-at-tick : One 0 of-arrival-at-tick.ps of-arrival-at-tick.r on-arrival-at-tick.Learnt Step (λ κs s left. s)
   pub start : One 0 of-start.ps of-start.r on-start.Learnt Step (λ κs s left. s)
+  pub start-at-tick : One 0 of-start-at-tick.ps of-start-at-tick.r on-start-at-tick.Learnt Step (λ κs s left. s)
   pub read : One 0 of-read.ps of-read.r on-read.Learnt Step (λ κs s left. s)
+  pub read-at-tick : One 0 of-read-at-tick.ps of-read-at-tick.r on-read-at-tick.Learnt Step (λ κs s left. s)
   pub finish : One 0 of-finish.ps of-finish.r on-finish.Learnt Step (λ κs s left. s)
+  pub finish-at-tick : One 0 of-finish-at-tick.ps of-finish-at-tick.r on-finish-at-tick.Learnt Step (λ κs s left. s)
   pub event : One 0 of-event.ps of-event.r on-event.Learnt Step (λ κs s left. s)
+  pub event-at-tick : One 0 of-event-at-tick.ps of-event-at-tick.r on-event-at-tick.Learnt Step (λ κs s left. s)
   pub sound : One 0 of-sound.ps of-sound.r on-sound.Learnt Bool (λ κs b left. b)
   pub single : One 0 of-single.ps of-single.r on-single.Learnt State (λ κs q left. q)
   pub itself : One 0 of-itself.ps of-itself.r on-itself.Learnt State (λ κs q left. q)
@@ -138,6 +168,10 @@ pub record OneAnswer : Type 0 where
   pub state-start-value : One 0 of-state-start-value.ps of-state-start-value.r on-state-start-value.Learnt ℕ (λ κs n left. n)
   pub state-pointer : One 0 of-state-pointer.ps of-state-pointer.r on-state-pointer.Learnt ℕ (λ κs n left. n)
   pub state-mark : One 0 of-state-mark.ps of-state-mark.r on-state-mark.Learnt ℕ (λ κs n left. n)
+  pub state-deadline : One 0 of-state-deadline.ps of-state-deadline.r on-state-deadline.Learnt ℕ (λ κs n left. n)
+  pub state-since : One 0 of-state-since.ps of-state-since.r on-state-since.Learnt ℕ (λ κs n left. n)
+  pub state-last : One 0 of-state-last.ps of-state-last.r on-state-last.Learnt ℕ (λ κs n left. n)
+  pub state-policy : One 0 of-state-policy.ps of-state-policy.r on-state-policy.Learnt ℕ (λ κs n left. n)
   -- `recording`: the answer, and the lent list; a part of the recording by its bytes
   pub replay : One 2 of-replay.ps of-replay.r on-replay.Learnt (Answer × List ℕ) (λ κs a left. (a, now (left .1 .0)))
   pub rest : One 1 of-rest.ps of-rest.r on-rest.Learnt (List ℕ) (λ κs part left. now part)
@@ -165,9 +199,11 @@ pub record OneAnswer : Type 0 where
   -- `recording_make`: the answer, and the lent buffer
   pub make-recording : One 2 of-make-recording.ps of-make-recording.r on-make-recording.Learnt (make.Made × List ℕ) (λ κs a left. (a, now (left .1 .0)))
   -- what hosts link: the refusal, and all that is lent to be changed; of a state, what its arrays hold
-  pub host-fresh : One 9 of-host-fresh.ps of-host-fresh.r on-host-fresh.Learnt (ℕ × Saved) (λ κs r left. (r, stateIn (left .1 .1 .1 .1 .1 .1 .1)))
-  pub host-event : One 3 of-host-event.ps of-host-event.r on-host-event.Learnt (ℕ × (ℕ × Saved)) (λ κs r left. (r, (now (left .1 .1 .1 .0), stateWith 0 0 (left .1 .1 .1 .1 .1 .1))))
-  pub host-replay : One 8 of-host-replay.ps of-host-replay.r on-host-replay.Learnt (ℕ × (ℕ × (List ℕ × (Saved × List ℕ)))) (λ κs r left. (r, (now (left .1 .1 .0), (now (left .1 .1 .1 .0), (stateIn (left .1 .1 .1 .1), now (left .1 .0))))))
+  pub host-fresh : One 10 of-host-fresh.ps of-host-fresh.r on-host-fresh.Learnt (ℕ × Saved) (λ κs r left. (r, stateIn (left .1 .1 .1 .1 .1 .1 .1)))
+  pub host-fresh-dated : One 11 of-host-fresh-dated.ps of-host-fresh-dated.r on-host-fresh-dated.Learnt (ℕ × Saved) (λ κs r left. (r, stateIn (left .1 .1 .1 .1 .1 .1 .1 .1)))
+  pub host-event : One 4 of-host-event.ps of-host-event.r on-host-event.Learnt (ℕ × (ℕ × Saved)) (λ κs r left. (r, (now (left .1 .1 .1 .0), stateWith 0 0 (left .1 .1 .1 .1 .1 .1))))
+  pub host-event-at : One 4 of-host-event-at.ps of-host-event-at.r on-host-event-at.Learnt (ℕ × (ℕ × Saved)) (λ κs r left. (r, (now (left .1 .1 .1 .1 .0), stateWith 0 0 (left .1 .1 .1 .1 .1 .1 .1))))
+  pub host-replay : One 9 of-host-replay.ps of-host-replay.r on-host-replay.Learnt (ℕ × (ℕ × (List ℕ × (Saved × List ℕ)))) (λ κs r left. (r, (now (left .1 .1 .0), (now (left .1 .1 .1 .0), (stateIn (left .1 .1 .1 .1), now (left .1 .0))))))
   pub host-write : One 5 of-host-write.ps of-host-write.r on-host-write.Learnt (ℕ × (ℕ × List ℕ)) (λ κs r left. (r, (now (left .1 .1 .1 .1 .1 .0), now (left .1 .1 .1 .1 .0))))
   pub host-rest : One 1 of-host-rest.ps of-host-rest.r on-host-rest.Learnt ℕ (λ κs n left. n)
   pub host-sizes : One 1 of-host-sizes.ps of-host-sizes.r on-host-sizes.Learnt (List ℕ) (λ κs u left. now (left .0))

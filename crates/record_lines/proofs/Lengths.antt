@@ -10,13 +10,13 @@ use Rattle.record_lines.specs.Words.{text-line, text-unknown, text-no-nu
 use Rattle.record_lines.specs.Lines.{reason, faultLine, refusedLine, tooLongLine}
 
 -- the words of a reason
-reason-long : (fault : ℕ) → length (reason fault) ≤ 50
+reason-long : (fault : ℕ) → length (reason fault) ≤ 84
 unfolding reason
 reason-long fault = go (eqb fault 1) (eqb fault 2) (eqb fault 3) (eqb fault 4) (eqb fault 5) (eqb fault 6)
   where
     go :
         (a b c d e f : Bool) →
-        length (cond a text-unknown (cond b text-no-number (cond c text-too-large (cond d text-too-few (cond e text-too-many (cond f text-kind text-no-reason)))))) ≤ 50
+        length (cond a text-unknown (cond b text-no-number (cond c text-too-large (cond d text-too-few (cond e text-too-many (cond f text-kind text-no-reason)))))) ≤ 84
     go true b c d e f = omega arith
     go false true c d e f = omega arith
     go false false true d e f = omega arith
@@ -25,11 +25,11 @@ reason-long fault = go (eqb fault 1) (eqb fault 2) (eqb fault 3) (eqb fault 4) (
     go false false false false false true = omega arith
     go false false false false false false = omega arith
 
-pub fault-fits : (line fault : ℕ) → length (faultLine line fault) ≤ 320
-fault-fits line fault = fits 320 (word text-line (numeral line (piece (reason fault) (reason-long fault) end))) (omega arith)
+pub fault-fits : (line fault : ℕ) → length (faultLine line fault) ≤ 384
+fault-fits line fault = fits 384 (word text-line (numeral line (piece (reason fault) (reason-long fault) end))) (omega arith)
 
-pub refused-fits : (line refusal place : ℕ) → length (refusedLine line refusal place) ≤ 320
-refused-fits line refusal place = fits 320 (word text-line (numeral line (word text-refused (numeral refusal (word text-at (numeral place end)))))) (omega arith)
+pub refused-fits : (line refusal place : ℕ) → length (refusedLine line refusal place) ≤ 384
+refused-fits line refusal place = fits 384 (word text-line (numeral line (word text-refused (numeral refusal (word text-at (numeral place end)))))) (omega arith)
 
-pub too-long-fits : length tooLongLine ≤ 320
-too-long-fits = fits 320 (word text-too-long end) (omega arith)
+pub too-long-fits : length tooLongLine ≤ 384
+too-long-fits = fits 384 (word text-too-long end) (omega arith)

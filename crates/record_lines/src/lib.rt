@@ -9,7 +9,9 @@ fn with_reason(line: Line, fault: u8) -> Line
     ensures { λ r. ⌜ shown r ≡ joined (shown line) (reason fault) ⌝ }
 {
     match fault {
-        1 => line.text(b": the first word is none of K, T, L, A, S, R and F"),
+        1 => line.text(
+            b": the first word is none of K, T, L, A, S, R and F, or with 255 an event has no tick",
+        ),
         2 => line.text(b": not a number"),
         3 => line.text(b": a number above 4294967295"),
         4 => line.text(b": too few numbers"),

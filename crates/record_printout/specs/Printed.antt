@@ -8,9 +8,9 @@ use lib.ListN.{length}
 use Rattle.recording_make.specs.Made.{madeOf}
 use Rattle.recording_make.specs.declared.Made.{Made}
 
--- the room for a recording: the bytes of the longest, one of the wide kind
+-- the room for a recording: the bytes of the longest, one of the dated kind
 abbrev pub longest : ℕ
-longest = 60805
+longest = 60869
 
 -- how many bytes a recording has that was made, 0 where there is none
 abbrev pub lengthMade : Made → ℕ

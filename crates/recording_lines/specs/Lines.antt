@@ -18,6 +18,7 @@ use Rattle.recording_lines.specs.Words.{
   text-had-2,
   text-had-unknown,
   text-idle,
+  text-last,
   text-link,
   text-mark,
   text-mark-unknown,
@@ -30,10 +31,12 @@ use Rattle.recording_lines.specs.Words.{
   text-refused,
   text-rest,
   text-running,
+  text-since,
   text-unknown,
   text-task,
   text-waiting,
 }
+use Rattle.recording_lines.specs.declared.Task.{Task}
 
 -- a space and a number for each
 unfoldable pub numbers : List ℕ → List ℕ
@@ -60,6 +63,10 @@ placeLine = named text-place
 abbrev pub restLine : ℕ → List ℕ
 restLine = named text-rest
 
+-- `last N`
+abbrev pub lastLine : ℕ → List ℕ
+lastLine = named text-last
+
 -- `read L V`
 abbrev pub readLine : ℕ → ℕ → List ℕ
 readLine link value = lineOf (text-read ∷ number link ∷ number value ∷ [])
@@ -80,11 +87,15 @@ phase p = cond (eqb p 1) text-waiting (cond (eqb p 2) text-running (cond (eqb p 
 unfoldable pub hadWord : ℕ → List ℕ
 hadWord a = cond (eqb a 0) text-had-0 (cond (eqb a 1) text-had-1 (cond (eqb a 2) text-had-2 text-had-unknown))
 
--- `task T PHASE newest P previous P cells V V .. had A`, with ten cells at most
-abbrev pub taskLine : ℕ → ℕ → ℕ → ℕ → List ℕ → ℕ → List ℕ
-taskLine t p newest previous cells seen =
+-- ` since N`, of a task that is not idle in a table with deadlines; else nothing
+unfoldable pub sinceWord : ℕ → ℕ → ℕ → List ℕ
+sinceWord policy p tick = cond (eqb policy 0) [] (cond (eqb p 0) [] (text-since ++ number tick))
+
+-- `task T PHASE newest P previous P cells V V .. had A`, with ten cells at most; with deadlines and not idle, `since N` behind it
+abbrev pub taskLine : Task → List ℕ → List ℕ
+taskLine t cells =
     lineOf
-    (text-task ∷ number t ∷ phase p ∷ text-newest ∷ number newest ∷ text-previous ∷ number previous ∷ text-cells ∷ numbers (take 10 cells) ∷ hadWord seen ∷ [])
+    (text-task ∷ number (t .number) ∷ phase (t .phase) ∷ text-newest ∷ number (t .newest) ∷ text-previous ∷ number (t .previous) ∷ text-cells ∷ numbers (take 10 cells) ∷ hadWord (t .seen) ∷ sinceWord (t .policy) (t .phase) (t .since) ∷ [])
 
 -- a pointer, of which 0 is absent
 unfoldable pub pointer : ℕ → List ℕ

@@ -35,6 +35,10 @@ text-rest = 114 ∷ 101 ∷ 115 ∷ 116 ∷ []
 abbrev pub text-counts : List ℕ
 text-counts = 99 ∷ 111 ∷ 117 ∷ 110 ∷ 116 ∷ 115 ∷ []
 
+-- `last`
+abbrev pub text-last : List ℕ
+text-last = 108 ∷ 97 ∷ 115 ∷ 116 ∷ []
+
 -- `task`
 abbrev pub text-task : List ℕ
 text-task = 116 ∷ 97 ∷ 115 ∷ 107 ∷ []
@@ -94,6 +98,10 @@ text-had-2 = 32 ∷ 104 ∷ 97 ∷ 100 ∷ 32 ∷ 50 ∷ []
 -- a space and `had unknown`
 abbrev pub text-had-unknown : List ℕ
 text-had-unknown = 32 ∷ 104 ∷ 97 ∷ 100 ∷ 32 ∷ 117 ∷ 110 ∷ 107 ∷ 110 ∷ 111 ∷ 119 ∷ 110 ∷ []
+
+-- a space and `since`
+abbrev pub text-since : List ℕ
+text-since = 32 ∷ 115 ∷ 105 ∷ 110 ∷ 99 ∷ 101 ∷ []
 
 -- a space and `mark`
 abbrev pub text-mark : List ℕ

@@ -3,13 +3,25 @@ ghost use mathlib.Core.Path.{_≡_};
 ghost use Prim.Native.Nat.{_≤_};
 ghost use lib.ListN.{length, take};
 ghost use Rattle.text_line.specs.Shown.{shown, joined, Put};
-ghost use Rattle.recording_lines.specs.Lines.{numbers, phase, hadWord, pointer, mark, named, readLine, acceptedLine, refusedLine, refusalLine, placeLine, restLine, countsLine, taskLine, linkLine};
+ghost use Rattle.recording_lines.specs.Lines.{numbers, phase, hadWord, sinceWord, pointer, mark, named, readLine, acceptedLine, refusedLine, refusalLine, placeLine, restLine, countsLine, lastLine, taskLine, linkLine};
 use lists::few;
 use text_line::Line;
 use text_line::ROOM;
 
 // Room for the longest line, a task with ten cells.
 pub const LINE: usize = ROOM;
+
+// What is printed of a task beside its cells: its number, its phase, the positions, what is seen of its arrivals, the policy of its table
+// (0: fixed priorities, which keep no ticks) and its arrival tick.
+pub struct Task {
+    pub number: usize,
+    pub phase: u8,
+    pub newest: u8,
+    pub previous: u8,
+    pub seen: u8,
+    pub policy: u32,
+    pub since: u32,
+}
 
 // A word and a number: their line.
 fn put_named(word: &[u8], n: u64, out: &mut [u8]) -> usize
@@ -90,6 +102,13 @@ pub fn put_counts(
     line.put(out)
 }
 
+// Of inspect: the last tick.
+pub fn put_last(tick: u32, out: &mut [u8]) -> usize
+    ensures { λ r. ⌜ Put (lastLine tick) (now (out .entry)) r (now (out .exit)) ⌝ }
+{
+    put_named(b"last", tick as u64, out)
+}
+
 // A line with a phase's word more. What is no phase has a word of its own.
 fn with_phase(line: Line, code: u8) -> Line
     ensures { λ r. ⌜ shown r ≡ joined (shown line) (phase code) ⌝ }
@@ -143,26 +162,32 @@ fn with_had(line: Line, seen: u8) -> Line
     line.text(b" had unknown")
 }
 
-// Of inspect: a task, with as many cells as it is handed, ten at most.
-pub fn put_task(
-    task: usize,
-    code: u8,
-    newest: u8,
-    previous: u8,
-    cells: &[u32],
-    seen: u8,
-    out: &mut [u8],
-) -> usize
-    ensures { λ r. ⌜ Put (taskLine task code newest previous (now (cells .entry)) seen) (now (out .entry)) r (now (out .exit)) ⌝ }
+// A line with a task's arrival tick more, if it is active and its table has deadlines: nothing else keeps one.
+fn with_since(line: Line, policy: u32, code: u8, tick: u32) -> Line
+    ensures { λ r. ⌜ shown r ≡ joined (shown line) (sinceWord policy code tick) ⌝ }
 {
-    let named = Line::empty().text(b"task").number(task as u64);
-    let placed = with_phase(named, code)
+    if policy == 0 {
+        return line;
+    }
+    if code == 0 {
+        return line;
+    }
+    line.text(b" since").number(tick as u64)
+}
+
+// Of inspect: a task, with as many cells as it is handed, ten at most.
+pub fn put_task(task: Task, cells: &[u32], out: &mut [u8]) -> usize
+    ensures { λ r. ⌜ Put (taskLine task (now (cells .entry))) (now (out .entry)) r (now (out .exit)) ⌝ }
+{
+    let named = Line::empty().text(b"task").number(task.number as u64);
+    let placed = with_phase(named, task.phase)
         .text(b" newest")
-        .number(newest as u64)
+        .number(task.newest as u64)
         .text(b" previous")
-        .number(previous as u64);
+        .number(task.previous as u64);
     let filled = with_cells(placed.text(b" cells"), cells);
-    let line = with_had(filled, seen);
+    let had = with_had(filled, task.seen);
+    let line = with_since(had, task.policy, task.phase, task.since);
     line.put(out)
 }
 

@@ -13,23 +13,30 @@ use mailbox_base::numbers::TASKS;
 use mailbox_event::Event;
 use mailbox_free::table::PLAN;
 use mailbox_layout::CONTROL;
+use mailbox_layout::LAST;
 use mailbox_layout::MARK;
 use mailbox_layout::NEWEST;
 use mailbox_layout::PHASE;
 use mailbox_layout::POINTER;
+use mailbox_layout::POLICY;
 use mailbox_layout::PREVIOUS;
 use mailbox_layout::SEEN;
+use mailbox_layout::SINCE;
+use mailbox_layout::TIMES;
 use mailbox_layout::VALUES;
 use mailbox_layout::cells_in;
 use mailbox_layout::control_at;
+use mailbox_layout::time_at;
 use mailbox_plan::plan_of;
 use mailbox_rules::links::readers_behind;
 use recording::replay;
 use recording::rest;
 use recording_event::Next;
 use recording_lines::LINE;
+use recording_lines::Task;
 use recording_lines::put_accepted;
 use recording_lines::put_counts;
+use recording_lines::put_last;
 use recording_lines::put_link;
 use recording_lines::put_place;
 use recording_lines::put_read;
@@ -88,7 +95,7 @@ fn print_reads(s: &[u8], at: usize, events: usize, list: &[u32]) {
     let mut i: usize = 0;
     while i < events {
         let next = event_at(s, p);
-        let Next::Got(e, after) = next else {
+        let Next::Got(_, e, after) = next else {
             break;
         };
         done = print_event(e, list, done);
@@ -133,28 +140,37 @@ fn print_task(
     links: usize,
     control: &[u8; CONTROL],
     values: &[u32; VALUES],
+    times: &[u32; TIMES],
 ) {
     let t = task as usize;
     let mut line = [0u8; LINE];
     let behind = readers_behind(plan, control, links, t);
     let own = part(cells_in(values), t * POSITIONS, behind + 2);
-    let phase = control_at(control, PHASE, t);
-    let newest = control_at(control, NEWEST, t);
-    let previous = control_at(control, PREVIOUS, t);
-    let seen = control_at(control, SEEN, t);
-    show(
-        put_task(t, phase, newest, previous, own, seen, &mut line),
-        &line,
-    );
+    let shown = Task {
+        number: t,
+        phase: control_at(control, PHASE, t),
+        newest: control_at(control, NEWEST, t),
+        previous: control_at(control, PREVIOUS, t),
+        seen: control_at(control, SEEN, t),
+        policy: time_at(times, POLICY, 0),
+        since: time_at(times, SINCE, t),
+    };
+    show(put_task(shown, own, &mut line), &line);
 }
 
 // Writes a line for each task. Here and below a count, never more than there is room for, is held to the room all the same.
-fn print_tasks(tasks: usize, links: usize, control: &[u8; CONTROL], values: &[u32; VALUES]) {
-    let plan = plan_of(links, control);
+fn print_tasks(
+    tasks: usize,
+    links: usize,
+    control: &[u8; CONTROL],
+    values: &[u32; VALUES],
+    times: &[u32; TIMES],
+) {
+    let plan = plan_of(links, control, times);
     let end = few(tasks, TASKS);
     let mut t: usize = 0;
     while t < end {
-        print_task(&plan, t as u8, links, control, values);
+        print_task(&plan, t as u8, links, control, values, times);
         t += 1;
     }
 }
@@ -179,11 +195,21 @@ fn print_links(links: usize, control: &[u8; CONTROL]) {
     }
 }
 
-// Writes a state: its tasks, then its links.
+// Writes the last tick, where there are deadlines: under fixed priorities no tick is kept.
+fn print_last_tick(times: &[u32; TIMES]) {
+    if time_at(times, POLICY, 0) != 0 {
+        let mut line = [0u8; LINE];
+        show(put_last(time_at(times, LAST, 0), &mut line), &line);
+    }
+}
+
+// Writes a state: its last tick, its tasks, then its links.
 fn print_state(q: State) {
     let control = q.control;
     let values = q.values;
-    print_tasks(q.tasks, q.links, &control, &values);
+    let times = q.times;
+    print_last_tick(&times);
+    print_tasks(q.tasks, q.links, &control, &values, &times);
     print_links(q.links, &control);
 }
 

@@ -42,11 +42,11 @@ value-long unit b h = go (large b)
         fits 100 (numeral (n / 1000000) (word text-point (piece (sixDigits n) (six-long n) named))) (omega arith)
 
 -- a setting's line
-pub setting-fits : (kind v : List ℕ) (i b : ℕ) → length kind ≤ 8 → length v ≤ 100 → length (settingLine kind i v b) ≤ 320
+pub setting-fits : (kind v : List ℕ) (i b : ℕ) → length kind ≤ 8 → length v ≤ 100 → length (settingLine kind i v b) ≤ 384
 setting-fits kind v i b h g =
     let bits = word text-bits (piece (hexOf b) (hexadecimal-long 16 b) end) in
-    fits 320 (word text-setting (numeral i (piece kind h (piece v g bits)))) (omega arith)
+    fits 384 (word text-setting (numeral i (piece kind h (piece v g bits)))) (omega arith)
 
 -- the last line
-pub migrated-fits : (n : ℕ) → length (migratedLine n) ≤ 320
-migrated-fits n = fits 320 (word text-migrated (numeral n end)) (omega arith)
+pub migrated-fits : (n : ℕ) → length (migratedLine n) ≤ 384
+migrated-fits n = fits 384 (word text-migrated (numeral n end)) (omega arith)

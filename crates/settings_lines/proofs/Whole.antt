@@ -13,7 +13,7 @@ use Rattle.settings_lines.specs.Lines.{settingLine}
 
 -- the start of a setting's line, its value and its end are the line, where it fits
 pub setting-whole :
-    (kind v : List ℕ) (i b : ℕ) {s line old new : List ℕ} {r : ℕ} → length (settingLine kind i v b) ≤ 320 → s ≡ joined [] (text-setting ++ (number i ++ kind)) → line ≡ joined s v →
+    (kind v : List ℕ) (i b : ℕ) {s line old new : List ℕ} {r : ℕ} → length (settingLine kind i v b) ≤ 384 → s ≡ joined [] (text-setting ++ (number i ++ kind)) → line ≡ joined s v →
     Put (joined line (lineOf (text-bits ∷ hexOf b ∷ []))) old r new → Put (settingLine kind i v b) old r new
 setting-whole kind v i b {line = line} h e f p =
     let end = lineOf (text-bits ∷ hexOf b ∷ []) in

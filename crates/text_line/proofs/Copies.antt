@@ -32,17 +32,17 @@ take-least n l = go (leb n (length l)) refl
 
 -- as much of a text as has room was copied behind the first bytes of a line: what is there then
 pub copied :
-    (bytes text : List ℕ) (size : ℕ) {at n : ℕ} {new : List ℕ} → length bytes ≡ 320 → at ≡ min size 320 → n ≡ min (320 - at) (length text) → new ≡ paste bytes at text n →
+    (bytes text : List ℕ) (size : ℕ) {at n : ℕ} {new : List ℕ} → length bytes ≡ 384 → at ≡ min size 384 → n ≡ min (384 - at) (length text) → new ≡ paste bytes at text n →
     take (at + n) new ≡ joined (take size bytes) text
 unfolding joined
 copied bytes text size {at} {n} {new} long a b e =
     let s : take at bytes ≡ take size bytes = rw (a, ← long) (take-least size bytes) in
     let l : length (take at bytes) ≡ at = length-take-le at bytes (omega arith) in
-    let t : take n text ≡ take (320 - at) text = rw b (take-least (320 - at) text) in
-    let r : 320 ≡ length (take at bytes) + (320 - at) = omega arith in
+    let t : take n text ≡ take (384 - at) text = rw b (take-least (384 - at) text) in
+    let r : 384 ≡ length (take at bytes) + (384 - at) = omega arith in
     let p : take (at + n) new ≡ take at bytes ++ take n text = rw e (take-paste bytes at text n (omega arith) (omega arith)) in
-    let q : take 320 (take at bytes ++ text) ≡ take at bytes ++ take (320 - at) text =
-    ap (λ (k : ℕ). take k (take at bytes ++ text)) r ∙ take-append-add (take at bytes) text (320 - at) in
+    let q : take 384 (take at bytes ++ text) ≡ take at bytes ++ take (384 - at) text =
+    ap (λ (k : ℕ). take k (take at bytes ++ text)) r ∙ take-append-add (take at bytes) text (384 - at) in
     p ∙ rw (t, ← s) (sym q)
 
 -- a line that was copied to the start of a buffer where it has room
@@ -61,7 +61,7 @@ copied-where-fits line old text r {s} {new} e l f g = go (leb (length line) (len
 
 -- a line of so many bytes, copied so
 pub ended :
-    (bytes : List ℕ) (size : ℕ) {line old new : List ℕ} {r s : ℕ} → length bytes ≡ 320 → r ≡ min size 320 → take size bytes ≡ line → s ≡ fit r (length old) → new ≡ paste old 0 bytes s →
+    (bytes : List ℕ) (size : ℕ) {line old new : List ℕ} {r s : ℕ} → length bytes ≡ 384 → r ≡ min size 384 → take size bytes ≡ line → s ≡ fit r (length old) → new ≡ paste old 0 bytes s →
     Put line old s new
 ended bytes size {line} {old} {new} {r} long a e f g =
     let t : take r bytes ≡ line = rw (a, ← long) (take-least size bytes) ∙ e in

@@ -11,15 +11,15 @@ use Rattle.text_line.specs.declared.Line.{Line}
 
 -- a line with nothing in it
 abbrev pub emptyLine : Line
-emptyLine = record { bytes = replicate 320 0; size = 0 }
+emptyLine = record { bytes = replicate 384 0; size = 0 }
 
 -- how many bytes are there
 abbrev pub filled : Line → ℕ
-filled l = min (l .size) 320
+filled l = min (l .size) 384
 
 -- for how many bytes of a text there is room behind them
 abbrev pub roomFor : Line → List ℕ → ℕ
-roomFor l text = min (320 - filled l) (length text)
+roomFor l text = min (384 - filled l) (length text)
 
 -- a line with a text more: as much of it as has room goes behind what is there
 abbrev pub withText : Line → List ℕ → Line
@@ -31,7 +31,7 @@ shown l = take (l .size) (l .bytes)
 
 -- a line with one piece more: what no longer fits its room is cut off
 unfoldable pub joined : List ℕ → List ℕ → List ℕ
-joined line piece = take 320 (line ++ piece)
+joined line piece = take 384 (line ++ piece)
 
 -- the line feed
 abbrev pub feed : List ℕ

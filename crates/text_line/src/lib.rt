@@ -10,7 +10,7 @@ use libc::STDOUT_FILENO;
 use lists::few;
 
 // The room of a line, its line feed among it.
-pub const ROOM: usize = 320;
+pub const ROOM: usize = 384;
 
 // A line: its first `size` bytes are there.
 pub struct Line {

@@ -13,6 +13,8 @@ pub const TASKS: usize = 32;
 pub const LINKS: usize = 96;
 /// A recording has at most so many events.
 pub const EVENTS: usize = 10_000;
+/// A dated one at most so many.
+pub const DATED_EVENTS: usize = 6_000;
 /// A task has N + 2 positions, N at most 8.
 pub const POSITIONS: usize = 10;
 /// The positions of all tasks.
@@ -21,17 +23,31 @@ pub const CELLS: usize = TASKS * POSITIONS;
 pub const CONTROL: usize = 4 * TASKS + 5 * LINKS;
 /// So many numbers in a state's values.
 pub const VALUES: usize = TASKS + LINKS + CELLS;
+/// So many numbers in a state's times.
+pub const TIMES: usize = 2 * TASKS + 2;
 /// So many sizes does a library have.
-pub const SIZES: usize = 4;
-/// No recording has more bytes: the first one and the three counts, 4 for each task, 7 for each link, and 6 for each event, a finish.
-pub const RECORDING: usize = 5 + 4 * TASKS + 7 * LINKS + 6 * EVENTS;
+pub const SIZES: usize = 5;
+/// No recording has more bytes, and a dated one may have so many: the first one and the three counts, 6 for each task, 7 for each link, and 10 for
+/// each event, a finish.
+pub const RECORDING: usize = 5 + 6 * TASKS + 7 * LINKS + 10 * DATED_EVENTS;
+/// The last tick there is; a later one is refusal 22.
+pub const LAST_TICK: u32 = 4_000_000_000;
 
 /// The kind of recording that has at most 16 tasks and 32 links, by its first byte; the set of an arrival has 2 bytes.
 pub const BASE_KIND: u32 = 253;
-/// The one that has at most 32 tasks and 96 links; the set of an arrival has 4 bytes. Any other first byte is refusal 2, at place 0.
+/// The one that has at most 32 tasks and 96 links; the set of an arrival has 4 bytes.
 pub const WIDE_KIND: u32 = 254;
+/// The one that is as that, with a relative deadline for each task and a tick for each event, and has at most 6,000 events. Any other first byte is
+/// refusal 2, at place 0.
+pub const DATED_KIND: u32 = 255;
 
-/// A table. Tasks are numbered from 0 and the earlier one is more urgent; slots past the counts are not looked at.
+/// The policy of fixed priorities: of the active tasks the earliest in the table may run.
+pub const FIXED: u32 = 0;
+/// That by deadlines: the one whose arrival tick and relative deadline make the least, and of several the one that is ahead.
+pub const BY_DEADLINE: u32 = 1;
+
+/// A table. Tasks are numbered from 0. One is ahead of another if it is earlier in the table, or, where they have relative deadlines, if its own is
+/// smaller, and earlier in the table where they are alike. Slots past the counts are not looked at.
 #[derive(Clone, Debug, PartialEq, Eq)]
 pub struct Table {
     pub tasks: usize,
@@ -75,9 +91,24 @@ pub struct Values {
     pub cells: [u32; CELLS],
 }
 
+/// The times of a state, in the library's own order. With fixed priorities all of them are 0, the policy too.
+#[derive(Clone, Debug, PartialEq, Eq)]
+#[repr(C)]
+pub struct Times {
+    /// each task's relative deadline, 1 to 65535
+    pub deadline: [u32; TASKS],
+    /// the arrival tick of an active task; 0 for an idle one
+    pub since: [u32; TASKS],
+    /// the tick of the last accepted event; 0 at first
+    pub last: u32,
+    /// `FIXED` or `BY_DEADLINE`
+    pub policy: u32,
+}
+
 // Each struct is lent as one array. With gaps in it, this does not compile.
 const _: () = assert!(size_of::<Control>() == CONTROL);
 const _: () = assert!(size_of::<Values>() == VALUES * size_of::<u32>());
+const _: () = assert!(size_of::<Times>() == TIMES * size_of::<u32>());
 
 /// All that a station has to keep between events. Slots past the counts are never touched by an event.
 #[derive(Clone, Debug, PartialEq, Eq)]
@@ -86,6 +117,7 @@ pub struct State {
     pub links: usize,
     pub control: Control,
     pub values: Values,
+    pub times: Times,
 }
 
 /// An event: the arrival of a set (bit t is task t), the start of a task, the read by a link, the finish of a task with a value.
@@ -140,6 +172,32 @@ impl Values {
     }
 }
 
+impl Times {
+    /// All of it as the library takes it, likewise.
+    fn lent(&mut self) -> *mut [u32; TIMES] {
+        (self as *mut Times).cast()
+    }
+}
+
+/// An event as three numbers: its kind, the set, task or link, and the value of a finish.
+fn in_numbers(event: Event) -> (u8, u32, u32) {
+    match event {
+        Event::Arrival(set) => (1, set, 0),
+        Event::Start(task) => (2, task, 0),
+        Event::Read(link) => (3, link, 0),
+        Event::Finish(task, value) => (4, task, value),
+    }
+}
+
+/// The number of an event that is not refused.
+fn answered((refusal, number): (u8, u32)) -> Result<u32, u8> {
+    if refusal == 0 {
+        Ok(number)
+    } else {
+        Err(refusal)
+    }
+}
+
 impl State {
     /// Room for a state; a call fills it.
     fn room() -> State {
@@ -158,13 +216,14 @@ impl State {
                 kind: [0; LINKS],
             },
             values: Values { defaults: [0; TASKS], start_value: [0; LINKS], cells: [0; CELLS] },
+            times: Times { deadline: [0; TASKS], since: [0; TASKS], last: 0, policy: 0 },
         }
     }
 
-    /// The fresh state of a table, or the refusal that the table earns, 2 to 9 or 20, and the fresh state of a single task.
+    /// The fresh state of a table, of fixed priorities, or the refusal that the table earns, 2 to 9 or 20, and the fresh state of a single task.
     pub fn fresh(table: &Table) -> Made {
         let mut state = State::room();
-        // SAFETY: each reference is valid, to an array as long as the header says; control and values are lent whole, and either struct
+        // SAFETY: each reference is valid, to an array as long as the header says; control, values and times are lent whole, and each struct
         // is the array that its pointer says, in size, alignment and elements. None overlap, since they are to different fields, and the
         // state is this function's own.
         let refusal = unsafe {
@@ -180,32 +239,56 @@ impl State {
                 &mut state.links,
                 state.control.lent(),
                 state.values.lent(),
+                state.times.lent(),
             )
         };
         Made { refusal, state }
     }
 
-    /// One event given to the state: the number of an accepted read, 0 for another accepted event, or the refusal: 19, else 12 to 16.
-    /// A refusal leaves the state as it was lent.
-    pub fn event(&mut self, event: Event) -> Result<u32, u8> {
-        let (refusal, number) = match event {
-            Event::Arrival(set) => self.call(1, set, 0),
-            Event::Start(task) => self.call(2, task, 0),
-            Event::Read(link) => self.call(3, link, 0),
-            Event::Finish(task, value) => self.call(4, task, value),
+    /// The fresh state of a table and its tasks' relative deadlines, by deadlines, or the refusal that the table earns: 2, then 24 a relative
+    /// deadline of 0, then 3 to 9 or 20; and the fresh state of a single task, of fixed priorities.
+    pub fn fresh_dated(table: &Table, deadlines: &[u16; TASKS]) -> Made {
+        let mut state = State::room();
+        // SAFETY: as in `fresh`; the relative deadlines are only read.
+        let refusal = unsafe {
+            calls::fresh_dated(
+                table.tasks,
+                table.links,
+                &table.defaults,
+                deadlines,
+                &table.writer,
+                &table.reader,
+                &table.kind,
+                &table.start_value,
+                &mut state.tasks,
+                &mut state.links,
+                state.control.lent(),
+                state.values.lent(),
+                state.times.lent(),
+            )
         };
-        if refusal == 0 {
-            Ok(number)
-        } else {
-            Err(refusal)
-        }
+        Made { refusal, state }
+    }
+
+    /// One event given to a state of fixed priorities: the number of an accepted read, 0 for another accepted event, or the refusal: 19 for a state
+    /// that isn't sound or is by deadlines, else 12 to 16. A refusal leaves the state as it was lent.
+    pub fn event(&mut self, event: Event) -> Result<u32, u8> {
+        let (kind, which, value) = in_numbers(event);
+        answered(self.call(kind, which, value))
+    }
+
+    /// One event given at a tick to a state by deadlines; one of fixed priorities is 19. After 12 come 22 a tick too large and 21 one below the last;
+    /// then 13 to 16; then 23, a finish after its deadline.
+    pub fn event_at(&mut self, tick: u32, event: Event) -> Result<u32, u8> {
+        let (kind, which, value) = in_numbers(event);
+        answered(self.call_at(tick, kind, which, value))
     }
 
     /// An event as three numbers, for a host that has no `Event`: the refusal, 11 for a kind outside 1 to 4, and the number.
     pub fn call(&mut self, kind: u8, which: u32, value: u32) -> (u8, u32) {
         // Not 0, so that a test sees that the call sets it.
         let mut number = u32::MAX;
-        // SAFETY: control and values are lent whole, and either struct is the array that its pointer says, in size, alignment and
+        // SAFETY: control, values and times are lent whole, and each struct is the array that its pointer says, in size, alignment and
         // elements. Nothing overlaps, since they are different fields, and the number is this function's own.
         let refusal = unsafe {
             calls::event(
@@ -217,20 +300,42 @@ impl State {
                 self.links,
                 self.control.lent(),
                 self.values.lent(),
+                self.times.lent(),
+            )
+        };
+        (refusal, number)
+    }
+
+    /// The same at a tick.
+    pub fn call_at(&mut self, tick: u32, kind: u8, which: u32, value: u32) -> (u8, u32) {
+        let mut number = u32::MAX;
+        // SAFETY: as in `call`.
+        let refusal = unsafe {
+            calls::event_at(
+                tick,
+                kind,
+                which,
+                value,
+                &mut number,
+                self.tasks,
+                self.links,
+                self.control.lent(),
+                self.values.lent(),
+                self.times.lent(),
             )
         };
         (refusal, number)
     }
 }
 
-/// The answer to a whole recording of either kind. The list's first entries become the numbers read, the rest is untouched.
+/// The answer to a whole recording of any kind. The list's first entries become the numbers read, the rest is untouched.
 pub fn replay(bytes: &[u8], numbers: &mut [u32]) -> Answer {
     let mut state = State::room();
     let mut place = usize::MAX;
     let mut counts = [usize::MAX; 4];
     // SAFETY: each slice passes with its own length, and its pointer is not null even where it is empty. The list is lent to this function
-    // alone, so it overlaps nothing; the rest are different fields and arrays of its own, as long as the header says. Control and values
-    // are lent whole, and either struct is the array that its pointer says, in size, alignment and elements.
+    // alone, so it overlaps nothing; the rest are different fields and arrays of its own, as long as the header says. Control, values and
+    // times are lent whole, and each struct is the array that its pointer says, in size, alignment and elements.
     let refusal = unsafe {
         calls::replay(
             bytes.as_ptr(),
@@ -243,6 +348,7 @@ pub fn replay(bytes: &[u8], numbers: &mut [u32]) -> Answer {
             &mut state.links,
             state.control.lent(),
             state.values.lent(),
+            state.times.lent(),
         )
     };
     let [arrivals, starts, reads, finishes] = counts;
@@ -250,7 +356,7 @@ pub fn replay(bytes: &[u8], numbers: &mut [u32]) -> Answer {
 }
 
 /// The sizes of the library: how many tasks and how many links a state has room for, how many bytes its control has, and how many numbers its
-/// values have. They are `TASKS`, `LINKS`, `CONTROL` and `VALUES`, or it is not the library that this host was built for.
+/// values and its times have. They are `TASKS`, `LINKS`, `CONTROL`, `VALUES` and `TIMES`, or it is not the library that this host was built for.
 pub fn sizes() -> [usize; SIZES] {
     let mut sizes = [usize::MAX; SIZES];
     // SAFETY: the array is this function's own, and as long as the header says.
@@ -265,16 +371,16 @@ pub fn rest<'a>(bytes: &'a [u8], answer: &Answer) -> &'a [u8] {
     &bytes[bytes.len() - left..]
 }
 
-/// Writes a recording of a kind, `BASE_KIND` or `WIDE_KIND`, into the buffer. `defaults` has the default of each task; `links` writer, reader,
-/// kind and start value of each link; `events` the kind of each event and what it has: 1 and a set, 2 and a task, 3 and a link, 4, a task and a
-/// value. What is written `replay` accepts, with room for the numbers, as the same table, links and events.
+/// Writes a recording of a kind, `BASE_KIND`, `WIDE_KIND` or `DATED_KIND`, into the buffer. `tasks` has the default of each task, with `DATED_KIND`
+/// its default and its relative deadline; `links` writer, reader, kind and start value of each link; `events` the kind of each event, with
+/// `DATED_KIND` its tick, and what it has: 1 and a set, 2 and a task, 3 and a link, 4, a task and a value. What is written `replay` accepts, with room for the numbers, as the same table, links and events.
 ///
-/// Refusals are the reader's, by the kind's limits, at the place where it would find the fault; a kind that is neither of the two is 2 at 0.
-/// No number is cut to its field: a task 256 is not in the table, nor is with `BASE_KIND` a task above 15 in a set. A link or event whose
-/// numbers are not all there counts, and is refusal 1; an unknown kind of event counts, is 11, and nothing after it is looked at. Last comes
+/// Refusals are the reader's, by the kind's limits, at the place where it would find the fault; a kind that is none of the three is 2 at 0.
+/// No number is cut to its field: a task 256 is not in the table, nor is with `BASE_KIND` a task above 15 in a set, and a relative deadline above
+/// 65,535 is 24, as 0 is. A task, link or event whose numbers are not all there counts, and is refusal 1; an unknown kind of event counts, is 11, and nothing after it is looked at. Last comes
 /// 18, a buffer too short, with the length of the whole recording as its place. A refusal touches no byte of the buffer, and an acceptance
 /// none past those written.
-pub fn write(kind: u32, defaults: &[u32], links: &[u32], events: &[u32], bytes: &mut [u8]) -> Written {
+pub fn write(kind: u32, tasks: &[u32], links: &[u32], events: &[u32], bytes: &mut [u8]) -> Written {
     let mut place = usize::MAX;
     // SAFETY: each slice passes with its own length, and its pointer is not null even where it is empty. The buffer is lent to this
     // function alone, so it overlaps nothing, and the place is its own. The other three are only read, so that it does no harm where a
@@ -282,8 +388,8 @@ pub fn write(kind: u32, defaults: &[u32], links: &[u32], events: &[u32], bytes: 
     let refusal = unsafe {
         calls::write(
             kind,
-            defaults.as_ptr(),
-            defaults.len(),
+            tasks.as_ptr(),
+            tasks.len(),
             links.as_ptr(),
             links.len(),
             events.as_ptr(),

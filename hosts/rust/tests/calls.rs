@@ -1,7 +1,8 @@
-//! Each call of the library from Rust, in both kinds of recording: the long example, edge sizes, limits, refusals and what they leave; what is
+//! Each call of the library from Rust, in both kinds of recording with fixed priorities (tests/dated.rs has the third): the long example, edge sizes, limits, refusals and what they leave; what is
 //! written, and read again.
 use parnusild::{
-    replay, rest, write, Answer, Event, State, Table, Written, BASE_KIND, LINKS, RECORDING, TASKS, WIDE_KIND,
+    replay, rest, write, Answer, Event, State, Table, Written, BASE_KIND, DATED_KIND, LINKS, RECORDING, TASKS,
+    WIDE_KIND,
 };
 use Event::{Arrival, Finish, Read, Start};
 
@@ -196,10 +197,11 @@ fn early(bytes: &[u8]) -> (u8, usize) {
 #[test]
 fn first_bytes() {
     assert_eq!(early(&[]), (1, 0));
-    for first in (0..=255).filter(|&first| !KINDS.contains(&u32::from(first))) {
+    let known = [BASE_KIND, WIDE_KIND, DATED_KIND];
+    for first in (0..=255).filter(|&first| !known.contains(&u32::from(first))) {
         assert_eq!(early(&[first, 1, 0, 0, 0, 0, 0, 0, 0]), (2, 0));
     }
-    for kind in KINDS {
+    for kind in known {
         assert_eq!(early(&[kind as u8]), (1, 1));
     }
 }
@@ -597,7 +599,7 @@ fn every_task_reads_its_own_last_output() {
 #[test]
 fn unsound_states() {
     let good = State::fresh(&example_table()).state;
-    let spoils: [fn(&mut State); 10] = [
+    let spoils: [fn(&mut State); 15] = [
         |s| s.tasks = 0,
         |s| s.tasks = 33,
         |s| s.tasks = usize::MAX,
@@ -608,6 +610,11 @@ fn unsound_states() {
         |s| s.control.previous[1] = 5,
         |s| s.control.pointer[2] = 1,
         |s| s.control.kind[0] = 0,
+        |s| s.times.deadline[0] = 1,
+        |s| s.times.since[3] = 1,
+        |s| s.times.last = 1,
+        |s| s.times.policy = 1,
+        |s| s.times.policy = 2,
     ];
     for spoil in spoils {
         let mut s = good.clone();
@@ -716,7 +723,7 @@ fn tables() {
 
 #[test]
 fn a_fresh_state() {
-    let State { tasks, links, control, values } = State::fresh(&example_table()).state;
+    let State { tasks, links, control, values, times } = State::fresh(&example_table()).state;
     assert_eq!((tasks, links), (4, 3));
     assert_eq!(values.defaults[..6], [0, 100, 0, 0, 0, 0], "past the tasks stands 0");
     assert_eq!((control.phase, control.newest, control.previous), ([0; TASKS], [1; TASKS], [1; TASKS]));
@@ -729,6 +736,7 @@ fn a_fresh_state() {
         (vec![1, 1, 1, 0], vec![0, 2, 3, 0], vec![1, 0, 0, 0])
     );
     assert_eq!(control.pointer, [0; LINKS]);
+    assert_eq!((times.deadline, times.since, times.last, times.policy), ([0; TASKS], [0; TASKS], 0, 0));
 }
 
 /// A table's defaults and links as they are handed over, and events.
@@ -788,7 +796,7 @@ fn a_link_to_itself_is_written_and_replayed() {
 #[test]
 fn kinds_that_there_are_not() {
     let (defaults, links, events) = numbers(&example_table(), &EVENTS);
-    let next_to_a_kind = [252, 255, 256 + BASE_KIND, 256 + WIDE_KIND, BASE_KIND << 8, WIDE_KIND << 24];
+    let next_to_a_kind = [252, 256 + BASE_KIND, 256 + WIDE_KIND, 256 + DATED_KIND, BASE_KIND << 8, WIDE_KIND << 24];
     for kind in next_to_a_kind.into_iter().chain([0, 1, 256, u32::MAX]) {
         assert_eq!(written(kind, &defaults, &links, &events, 171), (2, 0, vec![]));
         assert_eq!(written(kind, &[], &[9], &[0], 0), (2, 0, vec![]));
@@ -967,15 +975,14 @@ fn the_limits_of_the_kind_that_is_told() {
     assert_eq!(refused_in(BASE_KIND, &[0; 16], &[0; 129], &[]), (3, 66));
 }
 
-/// The longest recording of either kind, of which all events are finishes: it is read up to the first, since no task runs.
+/// The longest recording of either kind with fixed priorities, of which all events are finishes: it is read up to the first, since no task runs.
 #[test]
 fn the_longest_recordings() {
-    for (kind, tasks, links, size, first) in
-        [(BASE_KIND, 16, 32, 60_293, 293), (WIDE_KIND, TASKS, LINKS, RECORDING, 805)]
+    for (kind, tasks, links, size, first) in [(BASE_KIND, 16, 32, 60_293, 293), (WIDE_KIND, TASKS, LINKS, 60_805, 805)]
     {
         let bytes = record(kind, &rings(tasks, links), &[Finish(0, 1); 10_000]);
         let a = replay(&bytes, &mut []);
         assert_eq!((bytes.len(), a.refusal, a.place, rest(&bytes, &a).len()), (size, 15, first, 60_000));
     }
-    assert_eq!(RECORDING, 60_805);
+    assert_eq!(RECORDING, 60_869, "a dated one");
 }

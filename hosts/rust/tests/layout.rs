@@ -1,6 +1,8 @@
-//! Where the named fields of a state stand in the two arrays that the library is lent: by their offsets, by what the library puts into
+//! Where the named fields of a state stand in the three arrays that the library is lent: by their offsets, by what the library puts into
 //! each of them, and by what it takes from each of them; and how large the library takes a state to be.
-use parnusild::{sizes, Control, Event, State, Table, Values, CELLS, CONTROL, LINKS, POSITIONS, TASKS, VALUES};
+use parnusild::{
+    sizes, Control, Event, State, Table, Times, Values, CELLS, CONTROL, LINKS, POSITIONS, TASKS, TIMES, VALUES,
+};
 use std::array::from_fn;
 use std::mem::size_of;
 use Event::{Arrival, Finish, Read, Start};
@@ -14,7 +16,7 @@ fn region<S, E, const LENGTH: usize>(whole: &S, field: &[E; LENGTH]) -> (usize, 
 /// The numbers are those of the proved layout, crates/mailbox_layout/src/lib.rt.
 #[test]
 fn each_field_stands_where_the_layout_has_its_region() {
-    let State { control, values, .. } = amid_a_round();
+    let State { control, values, times, .. } = amid_a_round();
     assert_eq!(region(&control, &control.phase), (0, 32));
     assert_eq!(region(&control, &control.newest), (32, 32));
     assert_eq!(region(&control, &control.previous), (64, 32));
@@ -29,12 +31,17 @@ fn each_field_stands_where_the_layout_has_its_region() {
     assert_eq!(region(&values, &values.start_value), (32, 96));
     assert_eq!(region(&values, &values.cells), (128, 320));
     assert_eq!((VALUES, size_of::<Values>()), (448, 4 * 448));
+    assert_eq!(region(&times, &times.deadline), (0, 32));
+    assert_eq!(region(&times, &times.since), (32, 32));
+    assert_eq!(region(&times, std::array::from_ref(&times.last)), (64, 1));
+    assert_eq!(region(&times, std::array::from_ref(&times.policy)), (65, 1));
+    assert_eq!((TIMES, size_of::<Times>()), (66, 4 * 66));
 }
 
 #[test]
 fn the_library_has_the_sizes_of_the_host() {
-    assert_eq!(sizes(), [32, 96, 608, 448]);
-    assert_eq!(sizes(), [TASKS, LINKS, CONTROL, VALUES]);
+    assert_eq!(sizes(), [32, 96, 608, 448, 66]);
+    assert_eq!(sizes(), [TASKS, LINKS, CONTROL, VALUES, TIMES]);
 }
 
 /// As many tasks and links as there can be, so that no slot of a region is left out: each task writes to the next one, then each to the one
@@ -251,4 +258,54 @@ fn an_event_leaves_the_defaults_where_the_host_has_them() {
         other_defaults(&mut expected);
         assert_eq!(changed(reader_runs(), other_defaults, event), (answer, expected));
     }
+}
+
+/// As many tasks as there can be, with relative deadlines that rise with the table from 10 on.
+fn full_table_dated() -> State {
+    State::fresh_dated(&full_table(), &from_fn(|t| 10 + t as u16)).state
+}
+
+/// Task 0 has run from 100 to 102; then each other one has arrived, task t at 102 and t; and task 1 runs from 133 on, when it is late.
+fn dated_amid_a_round() -> State {
+    let mut state = full_table_dated();
+    let first = [(100, Arrival(1)), (101, Start(0)), (102, Finish(0, 500))];
+    let others = (1..32).map(|t| (102 + t, Arrival(1 << t)));
+    for (tick, event) in first.into_iter().chain(others).chain([(133, Start(1))]) {
+        assert_eq!(state.event_at(tick, event), Ok(0), "{:?} at {}", event, tick);
+    }
+    state
+}
+
+#[test]
+fn the_library_puts_each_time_where_the_host_has_it() {
+    let fresh = full_table_dated().times;
+    let deadline: [u32; TASKS] = from_fn(|t| 10 + t as u32);
+    assert_eq!(fresh, Times { deadline, since: [0; TASKS], last: 0, policy: 1 });
+    let since: [u32; TASKS] = from_fn(|t| if t == 0 { 0 } else { 102 + t as u32 });
+    assert_eq!(dated_amid_a_round().times, Times { deadline, since, last: 133, policy: 1 });
+    let fixed = Times { deadline: [0; TASKS], since: [0; TASKS], last: 0, policy: 0 };
+    assert_eq!(amid_a_round().times, fixed);
+}
+
+#[test]
+fn an_event_takes_each_time_from_where_the_host_has_it() {
+    let given = |change: fn(&mut State), tick: u32, event: Event| {
+        let mut state = dated_amid_a_round();
+        change(&mut state);
+        state.event_at(tick, event)
+    };
+    assert_eq!(given(|_| (), 133, Finish(1, 9)), Err(23), "task 1 is due at 114");
+    assert_eq!(given(|s| s.times.since[1] = 133, 133, Finish(1, 9)), Err(16), "task 1 is due at 144, task 2 at 116");
+    assert_eq!(given(|s| s.times.since[31] = 50, 133, Start(31)), Ok(0), "task 31 is due at 91");
+    let with_deadline = |s: &mut State| {
+        s.times.since[31] = 50;
+        s.times.deadline[31] = 70;
+    };
+    assert_eq!(given(with_deadline, 133, Start(31)), Err(16), "task 31 is due at 120");
+    assert_eq!(given(|s| s.times.last = 134, 133, Arrival(1)), Err(21));
+    assert_eq!(given(|s| s.times.last = 134, 134, Arrival(1)), Ok(0));
+    assert_eq!(given(|s| s.times.policy = 0, 133, Arrival(1)), Err(19));
+    assert_eq!(given(|s| s.times.deadline[31] = 0, 133, Arrival(1)), Err(19));
+    assert_eq!(given(|s| s.times.since[31] = 134, 133, Arrival(1)), Err(19));
+    assert_eq!(given(|s| s.times.since[0] = 1, 133, Arrival(1)), Err(19), "task 0 is idle");
 }

@@ -26,7 +26,7 @@ pub fn competing_events(prng: &mut Prng) -> Case {
         last.push(prng.byte());
     }
     bytes.extend_from_slice(&last);
-    let events_at = place_of_event_count(&recording.table);
+    let events_at = place_of_event_count(recording.kind, &recording.table);
     let more = prng.pick(&[0, 1, 1, 1, 1, 1, 2, 3]);
     let count = (recording.events.len() + more) as u16;
     bytes[events_at..events_at + 2].copy_from_slice(&count.to_le_bytes());
@@ -36,7 +36,12 @@ pub fn competing_events(prng: &mut Prng) -> Case {
 
 pub fn competing_links(prng: &mut Prng) -> Case {
     let kind = prng.pick(&KINDS);
-    let mut bytes = encode_table(kind, &competing_table(prng, kind.limits));
+    let mut table = competing_table(prng, kind);
+    if let Some(deadlines) = table.deadlines.as_mut().filter(|_| prng.chance(20)) {
+        let task = prng.below(deadlines.len());
+        deadlines[task] = 0;
+    }
+    let mut bytes = encode_table(kind, &table);
     if prng.chance(80) {
         bytes.extend_from_slice(&[0, 0]);
     } else {

@@ -16,7 +16,7 @@ pub fn small_or_example(prng: &mut Prng, number: usize) -> Rc<Recording> {
         return Rc::new(example);
     }
     let kind = prng.pick(&KINDS);
-    let table = random_table(prng, kind.limits, Size::Small);
+    let table = random_table(prng, kind, Size::Small);
     let count = prng.between(6, 14);
     let (events, _) = random_events(prng, &table, count);
     Rc::new(Recording { kind, table, events })
@@ -43,14 +43,14 @@ fn with_byte(bytes: &[u8], place: usize, value: u8) -> Vec<u8> {
     changed
 }
 
-/// Large tables, and each 16th recording with up to 10,000 events.
+/// Large tables, and each 16th recording with as many events as there may be.
 pub fn random_damage(prng: &mut Prng, number: usize) -> Case {
     let most = if number % 16 == 0 { MOST_EVENTS } else { 300 };
     let (recording, _) = random_recording(prng, Size::Limit, most);
     let mut bytes = encode(&recording);
     // Faults in the events show more than faults in the table, and a fault in
     // the table hides what follows: three in four fall after E.
-    let events_at = place_of_event_count(&recording.table) + 2;
+    let events_at = place_of_event_count(recording.kind, &recording.table) + 2;
     for _ in 0..prng.between(1, 3) {
         let from = if prng.chance(75) { events_at.min(bytes.len()) } else { 0 };
         damage(prng, &mut bytes, from);
@@ -93,13 +93,13 @@ pub fn extra_bytes(prng: &mut Prng, number: usize) -> Case {
 pub fn counts_changed(prng: &mut Prng) -> Case {
     let (recording, _) = random_recording(prng, Size::Any, 40);
     let mut bytes = encode(&recording);
-    let links_at = place_of_link_count(recording.table.defaults.len());
-    let events_at = place_of_event_count(&recording.table);
+    let links_at = place_of_link_count(recording.kind, recording.table.defaults.len());
+    let events_at = place_of_event_count(recording.kind, &recording.table);
     match prng.below(4) {
         0 if prng.chance(30) => {
             bytes.remove(0);
         }
-        0 => bytes[0] = near(prng, bytes[0], &[0, 1, 16, 125, 252, 253, 254, 255]),
+        0 => bytes[0] = near(prng, bytes[0], &[0, 1, 16, 125, 251, 252, 253, 254, 255]),
         1 => bytes[1] = near(prng, bytes[1], &[0, 1, 15, 16, 17, 31, 32, 33, 255]),
         2 => bytes[links_at] = near(prng, bytes[links_at], &[0, 1, 31, 32, 33, 95, 96, 97, 255]),
         _ => {
@@ -122,7 +122,7 @@ fn changed_event_count(prng: &mut Prng, count: u16) -> u16 {
     match prng.below(5) {
         0 => count.wrapping_add(1),
         1 => count.wrapping_sub(1),
-        2 => prng.pick(&[0, 9_999, 10_000, 10_001, 10_240, 39_999, u16::MAX]),
+        2 => prng.pick(&[0, 5_999, 6_000, 6_001, 9_999, 10_000, 10_001, 10_240, 39_999, u16::MAX]),
         3 => prng.below(usize::from(count) + 1) as u16,
         _ => prng.byte() as u16 * 256 + count % 256,
     }
@@ -134,7 +134,7 @@ pub fn short_list(prng: &mut Prng) -> Case {
     let room = prng.below(reads(&recording) + 2);
     let mut bytes = encode(&recording);
     if prng.chance(20) {
-        let from = place_of_event_count(&recording.table) + 2;
+        let from = place_of_event_count(recording.kind, &recording.table) + 2;
         damage(prng, &mut bytes, from);
     }
     Case::other(bytes, room)

@@ -1,22 +1,26 @@
-//! Recordings of one kind given as the other.
+//! Recordings of one kind given as another.
 
 use super::Case;
 use crate::format::{encode, Recording};
 use crate::prng::Prng;
-use crate::random_table::Size;
+use crate::random_table::{deadlines, Size};
 use crate::schedule::{random_recording, reads};
 use crate::sizes::{RecordingKind, KINDS};
 
-/// A possible recording of one kind, written as the other: so that its counts
-/// may be past the limits, and its sets have bits for which there is no room. Or
-/// only its first byte is the other's, so that its sets are too narrow, or too
-/// wide.
+/// A possible recording of one kind, written as another: so that its counts may
+/// be past the limits, and its sets have bits for which there is no room; as a
+/// dated one it has relative deadlines, or now and then none, and ticks that are
+/// 0, and as another one its tasks may be in another order. Or only its first byte
+/// is the other's, so that its fields are too narrow, or too wide.
 pub fn other_kind(prng: &mut Prng) -> Case {
     let size = prng.pick(&[Size::Small, Size::Any, Size::Limit, Size::Full]);
-    let (recording, _) = random_recording(prng, size, 30);
+    let (mut recording, _) = random_recording(prng, size, 30);
     let room = reads(&recording) + prng.below(2);
-    let kind = the_other(recording.kind);
+    let kind = another(prng, recording.kind);
     if prng.chance(60) {
+        if kind.dated && prng.chance(90) {
+            recording.table.deadlines = Some(deadlines(prng, recording.table.defaults.len()));
+        }
         return Case::other(encode(&Recording { kind, ..recording }), room);
     }
     let mut bytes = encode(&recording);
@@ -24,6 +28,7 @@ pub fn other_kind(prng: &mut Prng) -> Case {
     Case::other(bytes, room)
 }
 
-fn the_other(kind: RecordingKind) -> RecordingKind {
-    KINDS[usize::from(kind == KINDS[0])]
+fn another(prng: &mut Prng, kind: RecordingKind) -> RecordingKind {
+    let others: Vec<RecordingKind> = KINDS.into_iter().filter(|other| *other != kind).collect();
+    prng.pick(&others)
 }

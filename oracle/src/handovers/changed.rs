@@ -7,7 +7,7 @@ use crate::format::Recording;
 use crate::prng::Prng;
 use crate::random_table::{random_table, Size};
 use crate::schedule::random_events;
-use crate::sizes::KINDS;
+use crate::sizes::{KINDS, MOST_TICK};
 use crate::writing::Handover;
 
 pub fn small_or_example(prng: &mut Prng, number: usize) -> Handover {
@@ -15,7 +15,7 @@ pub fn small_or_example(prng: &mut Prng, number: usize) -> Handover {
         return Handover::of(&example);
     }
     let kind = prng.pick(&KINDS);
-    let table = random_table(prng, kind.limits, Size::Small);
+    let table = random_table(prng, kind, Size::Small);
     let count = prng.between(4, 12);
     let (events, _) = random_events(prng, &table, count);
     Handover::of(&Recording { kind, table, events })
@@ -42,7 +42,8 @@ pub fn every_cut(whole: &Handover) -> Vec<Lent> {
 /// Each number in turn replaced by those near it and near every limit, and by
 /// those that would be it again if they were cut to a field.
 pub fn every_number(whole: &Handover) -> Vec<Lent> {
-    let fixed = [0, 1, 2, 3, 4, 5, 16, 17, 31, 32, 33, 95, 96, 97, 255, 256, 257, 65_535, 65_536, u32::MAX];
+    let small = [0, 1, 2, 3, 4, 5, 16, 17, 31, 32, 33, 95, 96, 97, 255, 256, 257, 65_535, 65_536];
+    let fixed = [&small[..], &[MOST_TICK, MOST_TICK + 1, u32::MAX]].concat();
     let mut changed = Vec::new();
     for slice in 0..3 {
         for place in 0..part(&mut whole.clone(), slice).len() {
@@ -63,10 +64,10 @@ pub fn every_room(whole: &Handover) -> Vec<Lent> {
     (0..=whole.length() + 3).map(|room| Lent { handover: whole.clone(), room }).collect()
 }
 
-/// The defaults, the links or the events.
+/// The tasks, the links or the events.
 fn part(handover: &mut Handover, slice: usize) -> &mut Vec<u32> {
     match slice {
-        0 => &mut handover.defaults,
+        0 => &mut handover.tasks,
         1 => &mut handover.links,
         _ => &mut handover.events,
     }

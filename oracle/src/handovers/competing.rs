@@ -10,12 +10,19 @@ use crate::schedule::random_recording;
 use crate::sizes::KINDS;
 use crate::writing::Handover;
 
-/// Links that break several rules, then perhaps a cut inside the last link, a
-/// number too large for a byte, and events.
+/// Links that break several rules, then perhaps another default or relative
+/// deadline, or one left out, a cut inside the last link, a number too large for a
+/// byte, and events.
 pub fn competing_links(prng: &mut Prng) -> Handover {
     let kind = prng.pick(&KINDS);
-    let table = competing_table(prng, kind.limits);
+    let table = competing_table(prng, kind);
     let mut handover = Handover::of(&Recording { kind, table, events: Vec::new() });
+    if prng.chance(20) {
+        let place = prng.below(handover.tasks.len());
+        handover.tasks[place] = prng.pick(&[0, 0, 1, 65_535, 65_536, 65_537, 1 << 31, u32::MAX]);
+    } else if prng.chance(10) {
+        handover.tasks.pop();
+    }
     let length = handover.links.len();
     if prng.chance(15) {
         handover.links.truncate(length - prng.between(1, 3));
@@ -40,7 +47,11 @@ pub fn competing_events(prng: &mut Prng) -> Handover {
     match prng.below(8) {
         0 => last[0] = prng.pick(&[0, 5, 6, 255, 256, 257, 258, 259, 260, u32::MAX]),
         1 => last.truncate(prng.between(1, last.len() - 1)),
-        2 | 3 => last[1] = widened(prng, last[1]),
+        2 => last[1] = widened(prng, last[1]),
+        3 => {
+            let place = last.len() - prng.pick(&[1, 1, 2]);
+            last[place] = widened(prng, last[place]);
+        }
         _ => {}
     }
     if prng.chance(20) {
@@ -63,5 +74,5 @@ pub fn soup(prng: &mut Prng) -> Handover {
         let length = prng.below(most + 1);
         (0..length).map(|_| if small { prng.below(5) as u32 } else { prng.word() >> prng.below(32) }).collect()
     };
-    Handover { kind, defaults: slice(5), links: slice(9), events: slice(20) }
+    Handover { kind, tasks: slice(5), links: slice(9), events: slice(20) }
 }

@@ -7,10 +7,13 @@ use crate::writing::Handover;
 
 /// Numbers of no kind: near those of a kind, and those that would be one, cut to
 /// a byte or to two.
-pub const OF_NO_KIND: [u32; 11] =
-    [0, 1, 252, 255, 256 + 253, 256 + 254, 1 << 16 | 253, 1 << 16 | 254, 1 << 31 | 253, 1 << 31 | 254, u32::MAX];
+#[rustfmt::skip]
+pub const OF_NO_KIND: [u32; 13] = [
+    0, 1, 251, 252, 256, 256 + 253, 256 + 254, 256 + 255, 1 << 16 | 253, 1 << 16 | 255, 1 << 31 | 254, 1 << 31 | 255,
+    u32::MAX,
+];
 
-/// The kind that was handed over, as a rule; else either, or none.
+/// The kind that was handed over, as a rule; else any, or none.
 pub fn some_kind(prng: &mut Prng, kind: u32) -> u32 {
     match prng.below(10) {
         0 => prng.pick(&OF_NO_KIND),

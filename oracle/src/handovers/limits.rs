@@ -1,17 +1,19 @@
 //! Counts at their limits, and those that a byte or two can't hold; sets,
-//! tasks and links at the end of a table, and past it; each for either kind of
-//! recording, and some for no kind.
+//! tasks and links at the end of a table, and past it; each for each kind of
+//! recording, and some for no kind. For a dated one all have one relative deadline
+//! and one tick: `dated` has the others.
 
+use super::dated::{self, with_one_tick};
 use super::kinds::OF_NO_KIND;
 use super::Lent;
-use crate::sizes::{all_of, Limits, RecordingKind, KINDS, MOST_BEHIND, MOST_EVENTS, ROOM};
+use crate::sizes::{all_of, Limits, RecordingKind, KINDS, MOST_BEHIND, ROOM};
 use crate::writing::{Handover, LINK_NUMBERS};
 
 pub fn limits() -> Vec<Lent> {
     let few = of_few_events();
-    let many: Vec<Handover> = KINDS.into_iter().flat_map(of_many_events).collect();
+    let many: Vec<Handover> = KINDS.into_iter().flat_map(of_many_events).map(with_one_tick).collect();
     let lent = few.iter().chain(&many).flat_map(|handover| [0, 1, -1].map(|more| handover.clone().lent(more)));
-    let large = KINDS.into_iter().flat_map(large_event_counts).map(|handover| handover.lent(0));
+    let large = KINDS.into_iter().flat_map(large_event_counts).map(|handover| with_one_tick(handover).lent(0));
     lent.chain(large).collect()
 }
 
@@ -29,7 +31,7 @@ pub fn of_few_events() -> Vec<Handover> {
         let some = [1, 8, 9, 31, 32, 33, 64, 95, 96].into_iter().filter(|links| *links <= kind.limits.links);
         handovers.extend(some.flat_map(|links| named_links(kind, links)));
     }
-    handovers
+    handovers.into_iter().map(with_one_tick).chain(dated::limits()).collect()
 }
 
 fn of_many_events(kind: RecordingKind) -> Vec<Handover> {
@@ -42,7 +44,7 @@ fn of_no_kind() -> Vec<Handover> {
     let each = OF_NO_KIND.into_iter().flat_map(|kind| {
         let with = |tasks: usize, links: &[u32], events: &[u32]| Handover {
             kind,
-            defaults: vec![9; tasks],
+            tasks: vec![9; tasks],
             links: links.to_vec(),
             events: events.to_vec(),
         };
@@ -64,7 +66,7 @@ fn task_counts(kind: RecordingKind) -> Vec<Handover> {
     let counts = (0..=ROOM.tasks + 2).chain([255, 256, 257, 272, 273, 288, 289, 65_536, 65_537]);
     let with = |tasks: usize, links: Vec<u32>, events: Vec<u32>| Handover {
         kind: kind.number(),
-        defaults: vec![9; tasks],
+        tasks: vec![9; tasks],
         links,
         events,
     };
@@ -105,7 +107,7 @@ fn link(limits: Limits, number: usize) -> [u32; LINK_NUMBERS] {
 
 /// As many tasks as there may be.
 fn of_most_tasks(kind: RecordingKind, links: Vec<u32>) -> Handover {
-    Handover { kind: kind.number(), defaults: vec![6; kind.limits.tasks], links, events: Vec::new() }
+    Handover { kind: kind.number(), tasks: vec![6; kind.limits.tasks], links, events: Vec::new() }
 }
 
 /// A writer with more than nine tasks behind it, and some ahead of it.
@@ -200,7 +202,8 @@ fn all_read_themselves(kind: RecordingKind) -> Vec<Handover> {
 
 /// Counts of events with the last one whole, of an unknown kind, or begun.
 fn event_counts(kind: RecordingKind) -> Vec<Handover> {
-    let counts = [0, 1, MOST_EVENTS - 1, MOST_EVENTS, MOST_EVENTS + 1];
+    let most = kind.most_events;
+    let counts = [0, 1, most - 1, most, most + 1, 6_000, 6_001, 10_000, 10_001];
     let ends: [&[u32]; 7] = [&[], &[0], &[5, 1], &[257, 1], &[2], &[4, 1], &[4]];
     let mut slices = Vec::new();
     for count in counts {
@@ -208,32 +211,32 @@ fn event_counts(kind: RecordingKind) -> Vec<Handover> {
     }
     // What is after an unknown kind doesn't count; an event at fault does, and
     // so does all that is after it.
-    slices.push([&[0][..], &events(MOST_EVENTS + 1)].concat());
-    slices.push([&[1, 1, 7][..], &events(MOST_EVENTS + 1)].concat());
-    slices.push([&[2, 9][..], &events(MOST_EVENTS - 1)].concat());
-    slices.push([&[2, 9][..], &events(MOST_EVENTS)].concat());
+    slices.push([&[0][..], &events(most + 1)].concat());
+    slices.push([&[1, 1, 7][..], &events(most + 1)].concat());
+    slices.push([&[2, 9][..], &events(most - 1)].concat());
+    slices.push([&[2, 9][..], &events(most)].concat());
     let mut handovers: Vec<Handover> = slices.into_iter().map(|slice| two(kind, vec![0, 1, 0, 0], slice)).collect();
     // A fault in the links, or a link that was begun, comes before the events.
     for links in [vec![0, 1, 2, 0], vec![0, 1, 0, 0, 1], vec![0, 0, 0, 0], vec![0, 1, 0, 1]] {
-        handovers.push(two(kind, links, events(MOST_EVENTS + 1)));
+        handovers.push(two(kind, links, events(most + 1)));
     }
-    handovers.push(Handover { defaults: Vec::new(), ..two(kind, Vec::new(), events(MOST_EVENTS + 1)) });
+    handovers.push(Handover { tasks: Vec::new(), ..two(kind, Vec::new(), events(most + 1)) });
     handovers
 }
 
 /// The most bytes that can be accepted, and faults in the last event of so
-/// many: a task that the other kind has no room for, one that has not arrived,
+/// many: a task that a smaller kind has no room for, one that has not arrived,
 /// an unknown kind, and numbers that are not all there.
 fn longest(kind: RecordingKind) -> Vec<Handover> {
-    let tasks = kind.limits.tasks as u32;
+    let (tasks, most) = (kind.limits.tasks as u32, kind.most_events);
     let mut round = vec![vec![1, all_of(kind.limits.tasks)]];
     round.extend((0..tasks).flat_map(|task| [vec![2, task], vec![4, task, task << 24]]));
     let events = |count: usize| round.iter().cycle().take(count).flatten().copied().collect::<Vec<u32>>();
     let links: Vec<u32> = (0..kind.limits.links).flat_map(|number| link(kind.limits, number)).collect();
     let with = |events| Handover { events, ..of_most_tasks(kind, links.clone()) };
     let ends: [&[u32]; 5] = [&[1, 1 << 16], &[2, tasks - 1], &[9], &[3], &[4, tasks - 1]];
-    let mut handovers = vec![with(events(MOST_EVENTS))];
-    handovers.extend(ends.map(|end| with([&events(MOST_EVENTS - 1)[..], end].concat())));
+    let mut handovers = vec![with(events(most))];
+    handovers.extend(ends.map(|end| with([&events(most - 1)[..], end].concat())));
     handovers
 }
 
@@ -256,7 +259,7 @@ fn named_tasks(kind: RecordingKind, tasks: u32) -> Vec<Handover> {
         events.push(vec![1, last, 2, task]);
         events.push(vec![1, last, 2, tasks - 1, 4, task, 5]);
     }
-    let with = |events| Handover { kind: kind.number(), defaults: vec![1; tasks as usize], links: Vec::new(), events };
+    let with = |events| Handover { kind: kind.number(), tasks: vec![1; tasks as usize], links: Vec::new(), events };
     events.into_iter().map(with).collect()
 }
 
@@ -281,7 +284,7 @@ fn around(count: u32) -> Vec<u32> {
 }
 
 fn two(kind: RecordingKind, links: Vec<u32>, events: Vec<u32>) -> Handover {
-    Handover { kind: kind.number(), defaults: vec![3, 4], links, events }
+    Handover { kind: kind.number(), tasks: vec![3, 4], links, events }
 }
 
 /// The first events of a round that goes on for ever.

@@ -1,8 +1,8 @@
 //! The bytes of a recording taken apart into what a station would hand over.
 
 use crate::format::{number, Fault};
-use crate::sizes::{RecordingKind, MOST_EVENTS};
-use crate::writing::{begun_events, Handover, LINK_NUMBERS};
+use crate::sizes::RecordingKind;
+use crate::writing::{begun_events, event_numbers, task_numbers, Handover, LINK_NUMBERS};
 
 /// The numbers in the bytes, as far as they go. What the bytes end inside of
 /// is left out, and so are bytes after the last event. Where there is no first
@@ -10,28 +10,30 @@ use crate::writing::{begun_events, Handover, LINK_NUMBERS};
 /// smaller one.
 pub fn split(bytes: &[u8]) -> Handover {
     let mut rest = Rest { bytes };
-    let kind = rest.number(1).unwrap_or(0);
-    let set = [RecordingKind::of_number(kind).unwrap_or(RecordingKind::SIXTEEN).set_bytes];
-    let mut handover = Handover { kind, defaults: Vec::new(), links: Vec::new(), events: Vec::new() };
+    let first = rest.number(1).unwrap_or(0);
+    let mut handover = Handover { kind: first, tasks: Vec::new(), links: Vec::new(), events: Vec::new() };
+    let kind = handover.kind_or_smaller();
     let tasks = rest.number(1).unwrap_or(0);
-    handover.defaults.extend((0..tasks).map_while(|_| rest.number(4)));
+    let fields = [4, 2].into_iter().take(task_numbers(kind)).cycle().take(task_numbers(kind) * tasks as usize);
+    handover.tasks.extend(fields.map_while(|length| rest.number(length)));
     let links = rest.number(1).unwrap_or(0);
     let fields = [1, 1, 1, 4].into_iter().cycle().take(LINK_NUMBERS * links as usize);
     handover.links.extend(fields.map_while(|length| rest.number(length)));
     let events = rest.number(2).unwrap_or(0);
     for _ in 0..events {
-        let kind = match rest.number(1) {
-            Some(kind) => kind,
+        let event_kind = match rest.number(1) {
+            Some(event_kind) => event_kind,
             None => break,
         };
-        handover.events.push(kind);
-        let fields: &[usize] = match kind {
-            1 => &set,
-            2 | 3 => &[1],
-            4 => &[1, 4],
+        handover.events.push(event_kind);
+        let fields = match event_kind {
+            1 => vec![kind.set_bytes],
+            2 | 3 => vec![1],
+            4 => vec![1, 4],
             _ => break,
         };
-        handover.events.extend(fields.iter().map_while(|length| rest.number(*length)));
+        let tick = Some(4).filter(|_| kind.dated);
+        handover.events.extend(tick.into_iter().chain(fields).map_while(|length| rest.number(length)));
     }
     handover
 }
@@ -59,21 +61,27 @@ impl Rest<'_> {
 /// a count above what is there: there is no count but that of the numbers. Nor
 /// can extra bytes, and no list is lent.
 pub fn arises_in_writing(handover: &Handover, fault: Fault) -> bool {
-    let limits = match RecordingKind::of_number(handover.kind) {
-        Some(kind) => kind.limits,
+    let kind = match RecordingKind::of_number(handover.kind) {
+        Some(kind) => kind,
         None => return fault.refusal == 2,
     };
-    let events = || begun_events(&handover.events);
+    let events = || begun_events(kind, &handover.events);
+    let tasks = handover.tasks.chunks(task_numbers(kind));
+    let cut_inside = |numbers: &[u32], of_each: usize| numbers.len() % of_each != 0;
     match fault.refusal {
-        1 => handover.links.len() % LINK_NUMBERS != 0 || events().last().map_or(false, |last| unfinished(last)),
-        2 => limits.task_refusal(handover.defaults.len()) == 2,
-        3 => limits.link_refusal(handover.links.chunks(LINK_NUMBERS).len()) == 3,
-        10 => events().len() > MOST_EVENTS,
+        1 => {
+            cut_inside(&handover.tasks, task_numbers(kind))
+                || cut_inside(&handover.links, LINK_NUMBERS)
+                || events().last().map_or(false, |last| unfinished(kind, last))
+        }
+        2 => kind.limits.task_refusal(tasks.len()) == 2,
+        3 => kind.limits.link_refusal(handover.links.chunks(LINK_NUMBERS).len()) == 3,
+        10 => events().len() > kind.most_events,
         17 | 18 => false,
         _ => true,
     }
 }
 
-fn unfinished(record: &[u32]) -> bool {
-    matches!(*record, [1..=4] | [4, _])
+fn unfinished(kind: RecordingKind, record: &[u32]) -> bool {
+    event_numbers(kind, record[0]).map_or(false, |length| record.len() < length)
 }

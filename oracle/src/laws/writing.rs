@@ -4,21 +4,37 @@
 use crate::format::Counts;
 use crate::handovers::split;
 use crate::sizes::MOST_EVENTS;
+use crate::state::State;
 use crate::subject::{Oracle, Subject};
 use crate::writing::{begun_events, Handover, Written};
 
 /// The bytes that stand for a handover, nothing judged. A count or number that
 /// is too large for its field is the largest there, which is outside of every
-/// table too, and no kind of recording either; such a set is the empty one. The
-/// bytes end inside what the numbers end inside of, and after an unknown kind.
+/// table too; such a set is the empty one, such a relative deadline is none, and
+/// such a kind of recording is 0. The bytes end inside what the numbers end inside
+/// of, and after an unknown kind.
 pub fn stand_in(handover: &Handover) -> Vec<u8> {
     let byte = |number: u32| number.min(255) as u8;
-    let mut bytes = vec![byte(handover.kind), handover.defaults.len().min(255) as u8];
-    let four = |number: u32| [0, 8, 16, 24].map(|shift| (number >> shift & 255) as u8);
-    bytes.extend(handover.defaults.iter().flat_map(|default| four(*default)));
-    let numbers = handover.links.len();
-    bytes.push((numbers / 4 + (numbers % 4 > 0) as usize).min(255) as u8);
-    for (number, &handed) in handover.links.iter().enumerate() {
+    let dated = handover.kind == 255;
+    let of_each = if dated { 2 } else { 1 };
+    let tasks = &handover.tasks;
+    let kind = u8::try_from(handover.kind).unwrap_or(0);
+    let mut bytes = vec![kind, begun(tasks, of_each).min(255) as u8];
+    for (number, &handed) in tasks.iter().enumerate() {
+        // The second number of a task is its relative deadline; one that has no
+        // room is refused as 0 is.
+        if number % of_each == 1 {
+            bytes.extend(u16::try_from(handed).unwrap_or(0).to_le_bytes());
+        } else {
+            bytes.extend(four(handed));
+        }
+    }
+    if tasks.len() % of_each > 0 {
+        return bytes;
+    }
+    let links = &handover.links;
+    bytes.push(begun(links, 4).min(255) as u8);
+    for (number, &handed) in links.iter().enumerate() {
         // The fourth number of a link is its start value.
         if number % 4 == 3 {
             bytes.extend(four(handed));
@@ -26,38 +42,62 @@ pub fn stand_in(handover: &Handover) -> Vec<u8> {
             bytes.push(byte(handed));
         }
     }
-    if numbers % 4 > 0 {
+    if links.len() % 4 > 0 {
         return bytes;
     }
     let set = |set: u32| match handover.kind {
-        254 => four(set).to_vec(),
+        254 | 255 => four(set).to_vec(),
         _ => u16::try_from(set).unwrap_or(0).to_le_bytes().to_vec(),
     };
-    let (events, records) = stand_in_events(&handover.events, byte, set);
+    let (events, records) = stand_in_events(&handover.events, dated, byte, set);
     bytes.extend([(events.min(65_535) % 256) as u8, (events.min(65_535) / 256) as u8]);
     bytes.extend(records);
     bytes
 }
 
+fn four(number: u32) -> [u8; 4] {
+    [0, 8, 16, 24].map(|shift| (number >> shift & 255) as u8)
+}
+
+/// How many there are of so many numbers each, the last one perhaps not whole.
+fn begun(numbers: &[u32], of_each: usize) -> usize {
+    numbers.len() / of_each + usize::from(numbers.len() % of_each > 0)
+}
+
 /// How many events were begun, and their bytes.
-fn stand_in_events(numbers: &[u32], byte: impl Fn(u32) -> u8, set: impl Fn(u32) -> Vec<u8>) -> (usize, Vec<u8>) {
+fn stand_in_events(
+    numbers: &[u32],
+    dated: bool,
+    byte: impl Fn(u32) -> u8,
+    set: impl Fn(u32) -> Vec<u8>,
+) -> (usize, Vec<u8>) {
     let mut bytes = Vec::new();
     let mut events = 0;
-    let mut at = 0;
-    while at < numbers.len() {
+    let mut rest = numbers;
+    while let Some((kind, after)) = rest.split_first() {
         events += 1;
-        bytes.push(byte(numbers[at]));
-        match (numbers[at], numbers.get(at + 1), numbers.get(at + 2)) {
-            (1, Some(named), _) => bytes.extend(set(*named)),
-            (2 | 3, Some(which), _) => bytes.push(byte(*which)),
-            (4, Some(task), Some(value)) => {
+        bytes.push(byte(*kind));
+        if !(1..=4).contains(kind) {
+            break;
+        }
+        let (ticks, after) = after.split_at(usize::from(dated).min(after.len()));
+        bytes.extend(ticks.iter().flat_map(|tick| four(*tick)));
+        rest = match (kind, after) {
+            (1, [named, after @ ..]) => {
+                bytes.extend(set(*named));
+                after
+            }
+            (2 | 3, [which, after @ ..]) => {
+                bytes.push(byte(*which));
+                after
+            }
+            (4, [task, value, after @ ..]) => {
                 bytes.push(byte(*task));
-                bytes.extend(value.to_le_bytes());
-                at += 1;
+                bytes.extend(four(*value));
+                after
             }
             _ => break,
-        }
-        at += 2;
+        };
     }
     (events, bytes)
 }
@@ -98,13 +138,12 @@ pub fn read_back_law_broken(subject: &dyn Subject, handover: &Handover, written:
     if (read.refusal, read.place) != (0, written.len()) {
         return Some("what is written is accepted");
     }
-    if read.counts != counts_of(&handover.events) {
+    if read.counts != counts_of(handover) {
         return Some("what is written is read with the counts of the events");
     }
-    let tasks = handover.defaults.len();
     let links = handover.links.len() / 4;
     let state = &read.state;
-    let same_tasks = usize::from(state.tasks) == tasks && state.defaults[..tasks] == handover.defaults[..];
+    let same_tasks = tasks_of(state) == handover.tasks && state.policy == u32::from(handover.kind == 255);
     let ends = |l: usize| [state.writer[l], state.reader[l], state.kind[l]].map(u32::from);
     let same_links = usize::from(state.links) == links
         && handover
@@ -119,11 +158,18 @@ pub fn read_back_law_broken(subject: &dyn Subject, handover: &Handover, written:
     }
 }
 
-fn counts_of(events: &[u32]) -> Counts {
+/// The numbers that a station would hand over for the tasks of a state.
+fn tasks_of(state: &State) -> Vec<u32> {
+    let dated = state.policy == 1;
+    let task = |t: usize| [Some(state.defaults[t]), Some(state.deadline[t]).filter(|_| dated)].into_iter().flatten();
+    (0..usize::from(state.tasks)).flat_map(task).collect()
+}
+
+fn counts_of(handover: &Handover) -> Counts {
     let mut counts = Counts::default();
-    for record in begun_events(events) {
+    for record in begun_events(handover.kind_or_smaller(), &handover.events) {
         match record[0] {
-            1 => counts.arrivals += record[1].count_ones(),
+            1 => counts.arrivals += record[record.len() - 1].count_ones(),
             2 => counts.starts += 1,
             3 => counts.reads += 1,
             _ => counts.finishes += 1,

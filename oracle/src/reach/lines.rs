@@ -28,7 +28,7 @@ pub struct Lines {
 
 /// First bytes that are near those of a kind, and that of recordings without
 /// one: T, which is as often small.
-const OF_NO_KIND: [u8; 4] = [0, 16, 252, 255];
+const OF_NO_KIND: [u8; 4] = [0, 16, 251, 252];
 
 impl Lines {
     pub fn note(&mut self, bytes: &[u8], answer: &Answer) {
@@ -62,7 +62,7 @@ impl Line {
     fn note(&mut self, kind: RecordingKind, bytes: &[u8], answer: &Answer) {
         let byte = |place: usize| bytes.get(place).map_or(0, |byte| usize::from(*byte));
         let tasks = byte(1);
-        let links = byte(place_of_link_count(tasks));
+        let links = byte(place_of_link_count(kind, tasks));
         match answer.refusal {
             0 => {
                 self.most_tasks += usize::from(tasks == kind.limits.tasks);

@@ -1,7 +1,7 @@
 //! What became of self links, by which a task reads its own last output.
 
 use crate::format::{link_refusal, place_of_link_count, Event, Link, LINK_BYTES};
-use crate::sizes::KINDS;
+use crate::sizes::{RecordingKind, UNDATED};
 use crate::state::{State, ABSENT};
 
 #[derive(Default)]
@@ -16,8 +16,9 @@ pub struct SelfLinks {
     /// At a finish: pointers that stayed, and marks.
     pointer_kept: usize,
     mark_kept: usize,
-    /// Tables of the most tasks of a kind that all have one.
-    of_all_tasks: [usize; KINDS.len()],
+    /// Tables of the most tasks of a kind that all have one, be there relative
+    /// deadlines or not.
+    of_all_tasks: [usize; UNDATED.len()],
     /// Direct ones refused after a delayed one.
     direct_refused: usize,
 }
@@ -56,14 +57,15 @@ impl SelfLinks {
     /// The tasks and links of a recording or of a sound state.
     pub fn note_table(&mut self, tasks: usize, links: &[Link]) {
         let all = links.iter().filter(|link| link.to_itself()).count() == tasks;
-        for (kind, count) in KINDS.iter().zip(&mut self.of_all_tasks) {
+        for (kind, count) in UNDATED.iter().zip(&mut self.of_all_tasks) {
             *count += usize::from(all && tasks == kind.limits.tasks);
         }
     }
 
     /// A recording that was refused with 5, at the place of the link.
     pub fn note_recording_refused(&mut self, bytes: &[u8], place: usize) {
-        let first = place_of_link_count(usize::from(bytes[1])) + 1;
+        let kind = RecordingKind::of_number(u32::from(bytes[0])).expect("its links were judged");
+        let first = place_of_link_count(kind, usize::from(bytes[1])) + 1;
         let earlier: Vec<Link> = bytes[first..place].chunks(LINK_BYTES).map(Link::of_record).collect();
         self.note_direct_refused(&earlier);
     }
@@ -71,7 +73,7 @@ impl SelfLinks {
     /// A state that is not sound, because of rule 5.
     pub fn note_state_refused(&mut self, state: &State) {
         let links = state.link_list();
-        let at_fault = |link: &usize| link_refusal(usize::from(state.tasks), &links[..*link], links[*link]) == 5;
+        let at_fault = |link: &usize| link_refusal(&state.order(), &links[..*link], links[*link]) == 5;
         if let Some(link) = (0..links.len()).find(at_fault) {
             self.note_direct_refused(&links[..link]);
         }

@@ -8,7 +8,7 @@ use crate::format::Fault;
 use crate::handovers::{arises_in_writing, batch, every_short, limits, split, Lent};
 use crate::laws;
 use crate::prng::Prng;
-use crate::sizes::KINDS;
+use crate::sizes::{RecordingKind, UNDATED};
 use crate::subject::{Answer, Oracle, Subject};
 use crate::tables::LentTable;
 use crate::writing::{Handover, Written};
@@ -92,15 +92,17 @@ impl Run<'_> {
     }
 
     /// A table by itself earns in writing what it earns by itself, unless its
-    /// counts are past the limits of the kind, of which there are two in turn.
+    /// counts are past the limits of the kind; without relative deadlines there are
+    /// two kinds, in turn.
     pub fn take_table_handover(&mut self, table: &LentTable, refusal: u8) {
-        let kind = KINDS[self.tables % KINDS.len()];
+        let undated = UNDATED[self.tables % UNDATED.len()];
+        let kind = if table.deadlines.is_some() { RecordingKind::DATED } else { undated };
         if let Some(handover) = table.handed_over(kind) {
             let lent = lent_buffer(self.handovers, handover.length());
             let (answer, _) = self.take_handover(&handover, &lent);
             let wanted = match kind.limits.refusal(table.tasks, table.links) {
-                0 => refusal,
-                past => past,
+                past if past != 0 && !kind.dated => past,
+                _ => refusal,
             };
             if answer.refusal != wanted {
                 self.differ("a table earns the same refusal in writing", || format!("{:?}\n{:?}", table, answer));

@@ -73,10 +73,10 @@ impl Run<'_> {
         let reach = &mut self.reached.recordings;
         reach.note_table(recording.table.defaults.len(), &recording.table.links);
         let mut engine = Pointers::fresh(&recording.table);
-        for &event in &recording.events {
+        for &timed in &recording.events {
             let before = engine.state;
-            engine.apply(event);
-            reach.note_event(&before, event, &engine.state);
+            engine.apply(timed);
+            reach.note_event(&before, timed, &engine.state);
         }
     }
 

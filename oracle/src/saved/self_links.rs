@@ -44,8 +44,7 @@ pub fn self_link_changed(prng: &mut Prng, sound: &State) -> State {
 /// urgent active task, which may read next.
 fn some_self_link(prng: &mut Prng, state: &State) -> Option<usize> {
     let links: Vec<usize> = state.self_links_of(u32::MAX).collect();
-    let top = (0..usize::from(state.tasks)).find(|task| state.active(*task));
-    match top.and_then(|top| state.self_links_of(1 << top).next()) {
+    match state.top().and_then(|top| state.self_links_of(1 << top).next()) {
         Some(link) if prng.chance(50) => Some(link),
         _ if links.is_empty() => None,
         _ => Some(prng.pick(&links)),

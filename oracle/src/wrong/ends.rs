@@ -4,7 +4,7 @@
 use super::Flaw;
 use crate::engine::RUNNING;
 use crate::format::Event;
-use crate::pointers::judge;
+use crate::pointers::judge_phases;
 use crate::sizes::{RecordingKind, ROOM};
 use crate::state::{sound, State, MOST_POSITIONS, SEEN_TWO};
 
@@ -15,8 +15,8 @@ const LAST_LINK: usize = ROOM.links - 1;
 pub fn judged(flaw: Flaw, state: &State, event: Event, right: u8) -> u8 {
     match (flaw, event) {
         _ if refused(flaw, usize::from(state.tasks), event) => 12,
-        (Flaw::WideSetCut, Event::Arrival(_)) => judge(state, cut(flaw, event)),
-        (Flaw::OnlySixteenBlock, _) if right == 16 && !(0..16).any(|task| state.active(task)) => 0,
+        (Flaw::WideSetCut, Event::Arrival(_)) => judge_phases(state, cut(flaw, event)),
+        (Flaw::OnlySixteenBlock, _) if right == 16 && !state.top().map_or(false, |top| top < 16) => 0,
         _ => right,
     }
 }
@@ -131,5 +131,6 @@ fn with_last_task_mended(state: &State) -> State {
     mended.previous[LAST_TASK] = 1;
     mended.phase[LAST_TASK] = state.phase[LAST_TASK].min(RUNNING);
     mended.seen[LAST_TASK] = state.seen[LAST_TASK].clamp(1, SEEN_TWO);
+    mended.since[LAST_TASK] = 0;
     mended
 }

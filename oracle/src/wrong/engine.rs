@@ -1,8 +1,8 @@
 //! An engine with a flaw: the right one's parts, put together wrongly.
 
-use super::{ends, marks, self_links, Flaw};
+use super::{ends, marks, self_links, times, Flaw};
 use crate::engine::{Engine, IDLE, RUNNING};
-use crate::format::Event;
+use crate::format::{Event, Timed};
 use crate::pointers as right;
 use crate::state::{State, ABSENT};
 
@@ -79,6 +79,7 @@ impl WrongEngine {
         state.cells[cell] = value;
         match self.flaw {
             Flaw::KeptAtFinish => {}
+            Flaw::FreedByTable => times::free_by_table(state, task),
             Flaw::AllFreedAtFinish => {
                 for number in
                     (0..usize::from(state.links)).filter(|l| usize::from(state.reader[*l]) == task).collect::<Vec<_>>()
@@ -95,10 +96,6 @@ impl WrongEngine {
         state.phase[task] = IDLE;
     }
 
-    fn blocked(&self, task: usize) -> bool {
-        (0..task).any(|earlier| self.state.active(earlier))
-    }
-
     fn runner(&self, event: Event) -> Option<usize> {
         match event {
             Event::Arrival(_) => None,
@@ -109,37 +106,54 @@ impl WrongEngine {
     }
 }
 
-impl Engine for WrongEngine {
-    fn judge(&self, event: Event) -> u8 {
-        let refusal = right::judge(&self.state, event);
+impl WrongEngine {
+    /// 0, or the one of 12 to 16 that is given.
+    fn judge_phases(&self, event: Event) -> u8 {
+        let blocked = |task: usize| times::blocked(self.flaw, &self.state, task);
+        let refusal = match (right::judge_phases(&self.state, event), self.runner(event)) {
+            (0 | 16, Some(task)) => 16 * u8::from(blocked(task)),
+            (refusal, _) => refusal,
+        };
         match (self.flaw, event) {
             (Flaw::AnyoneMayRun, _) if refusal == 16 => 0,
             (Flaw::OnlyRunningBlock, _) if refusal == 16 => {
                 let runner = self.runner(event).unwrap_or(0);
-                let running = (0..runner).any(|task| self.state.phase[task] == RUNNING);
-                if running {
-                    16
-                } else {
-                    0
-                }
+                let more_urgent = |other: usize| self.state.urgency(other) < self.state.urgency(runner);
+                let running = |other: usize| self.state.phase[other] == RUNNING;
+                16 * u8::from((0..usize::from(self.state.tasks)).any(|other| running(other) && more_urgent(other)))
             }
             (Flaw::SixteenFirst, _) if refusal == 14 || refusal == 15 => match self.runner(event) {
-                Some(task) if self.blocked(task) => 16,
+                Some(task) if blocked(task) => 16,
                 _ => refusal,
             },
             (Flaw::ThirteenBeforeTwelve, Event::Arrival(set)) if right::has_active(&self.state, set) => 13,
             _ => ends::judged(self.flaw, &self.state, event, refusal),
         }
     }
+}
 
-    fn apply(&mut self, event: Event) -> u32 {
-        match ends::cut(self.flaw, event) {
+impl Engine for WrongEngine {
+    fn judge(&self, timed: Timed) -> u8 {
+        let timed = times::taken(self.flaw, timed);
+        let phases = self.judge_phases(timed.event);
+        times::judged(self.flaw, &self.state, timed, phases, self.runner(timed.event))
+    }
+
+    fn apply(&mut self, timed: Timed) -> u32 {
+        let Timed { tick, event } = times::taken(self.flaw, timed);
+        let before = self.state;
+        let event = ends::cut(self.flaw, event);
+        let mut number = 0;
+        match event {
             Event::Arrival(set) => self.arrival(set),
             Event::Start(task) => self.start(usize::from(task)),
-            Event::Read(link) => return self.read(usize::from(link)),
+            Event::Read(link) => number = self.read(usize::from(link)),
             Event::Finish(task, value) => self.finish(usize::from(task), value),
         }
-        0
+        if let Some(tick) = tick {
+            times::after(self.flaw, &before, &mut self.state, tick, event);
+        }
+        number
     }
 
     fn phase(&self, task: usize) -> u8 {
@@ -151,15 +165,20 @@ fn wrong_search(flaw: Flaw, state: &State, task: usize) -> u8 {
     let previous = state.previous[task];
     let protects =
         |number: usize| flaw != Flaw::OnlyRunningProtected || state.phase[usize::from(state.reader[number])] == RUNNING;
+    let order = state.order();
     let ahead = |position: u8| {
         (0..usize::from(state.links)).any(|l| {
             let link = state.link(l);
-            usize::from(link.writer) == task && link.reader_ahead() && state.pointer[l] == position
+            usize::from(link.writer) == task && link.reader_ahead(&order) && state.pointer[l] == position
         })
+    };
+    let behind = |position: u8| match flaw {
+        Flaw::ProtectedByTable => times::pointed_at_by_table(state, task, position),
+        _ => right::pointed_at(state, task, position, protects),
     };
     let free = |position: &u8| {
         (*position != previous || flaw == Flaw::PreviousNotSearched)
-            && !right::pointed_at(state, task, *position, protects)
+            && !behind(*position)
             && !(flaw == Flaw::AheadProtectedToo && ahead(*position))
             && !self_links::protects(flaw, state, task, *position)
     };

@@ -53,17 +53,86 @@ pub enum Flaw {
     LastTaskNotAsked,
     LastLinkNotAsked,
     StatesBySmaller,
+    // About ticks and deadlines: the order of jobs,
+    TiesByTable,
+    TiesFromTheEnd,
+    OrderByArrival,
+    SixteenByTasks,
+    SixteenByTable,
+    SumIn32Bits,
+    // the order of tasks,
+    LinksByTable,
+    SevenByTable,
+    NineByTable,
+    AheadFromTheEnd,
+    ProtectedByTable,
+    FreedByTable,
+    // either side of the last tick, of the limit and of the deadline,
+    SameTickRefused,
+    OneBelowAccepted,
+    LimitRefused,
+    PastLimitAccepted,
+    AtDeadlineRefused,
+    OneLateAccepted,
+    LateRunRefused,
+    // the order of refusals,
+    TickBeforeTwelve,
+    TickAfterPhases,
+    TickLast,
+    LateBeforeSixteen,
+    TwentyFourAfterThree,
+    TwentyFourAfterLinks,
+    // what the state keeps,
+    LastByArrivals,
+    LastNotByReads,
+    LastByRefused,
+    SinceKept,
+    SinceNotSet,
+    SinceAtStart,
+    PolicyNotSet,
+    EarlyPolicyKept,
+    DeadlinesPastKept,
+    // what is asked of a state, and which state a call is for,
+    SincePastAsked,
+    DeadlinePastAsked,
+    DeadlineOfTwoBytes,
+    LastAboveArrivals,
+    WithoutTickAccepted,
+    WithTickAccepted,
+    // and the bytes, read and written.
+    TickHighByteFirst,
+    DeadlineHighByteFirst,
+    DeadlineInItsField,
+    NoDeadlineTwo,
+    TickBeforeKind,
+    TickAfterFields,
+    TickAfterFirst,
+    TickLeftOut,
+    DeadlineBeforeDefault,
+    DeadlineCut,
+    DeadlineLowered,
+    UnfinishedTaskNotCounted,
+    UnfinishedTaskDropped,
+    LargerByteForDated,
     // About kinds of recordings, in the reader and in the writer; the smaller one
-    // is that of 253.
+    // is that of 253, and the larger one that of 254.
     SmallerByRoom,
     LargerBySmaller,
+    DatedBySmaller,
     SmallerSetsOfFour,
     LargerSetsOfTwo,
+    DatedSetsOfTwo,
+    DatedByTenThousand,
+    LargerBySixThousand,
+    DatedAsLarger,
+    LargerAsDated,
     SmallerRefused,
     LargerRefused,
+    DatedRefused,
     KindsSwapped,
     UnknownAsSmaller,
     UnknownAsLarger,
+    UnknownAsDated,
     AllAsSmaller,
     NextKindTaken,
     KindCut,
@@ -266,26 +335,89 @@ const OF_FRESH_ENDS: [Flaw; 2] = [Flaw::LastTaskNotFilled, Flaw::LastLinkLeftOut
 
 /// The errors about kinds of recordings, which both recordings and handovers must
 /// expose.
-const OF_KINDS: [Flaw; 11] = [
+const OF_KINDS: [Flaw; 19] = [
     Flaw::SmallerByRoom,
     Flaw::LargerBySmaller,
+    Flaw::DatedBySmaller,
     Flaw::SmallerSetsOfFour,
     Flaw::LargerSetsOfTwo,
+    Flaw::DatedSetsOfTwo,
+    Flaw::DatedByTenThousand,
+    Flaw::LargerBySixThousand,
+    Flaw::DatedAsLarger,
+    Flaw::LargerAsDated,
     Flaw::SmallerRefused,
     Flaw::LargerRefused,
+    Flaw::DatedRefused,
     Flaw::KindsSwapped,
     Flaw::UnknownAsSmaller,
     Flaw::UnknownAsLarger,
+    Flaw::UnknownAsDated,
     Flaw::AllAsSmaller,
     Flaw::NextKindTaken,
 ];
+
+/// The errors about the order of tasks in the rules of a table, which recordings,
+/// tables, saved states and handovers must expose.
+const OF_ORDER_RULES: [Flaw; 4] = [Flaw::LinksByTable, Flaw::SevenByTable, Flaw::NineByTable, Flaw::AheadFromTheEnd];
+
+/// The errors about ticks and deadlines in the judgement of an event, which
+/// recordings, saved states and handovers must expose. That 22 comes before 21 can
+/// not show: no tick is past the limit and below the last one.
+const OF_TICKS: [Flaw; 16] = [
+    Flaw::TiesByTable,
+    Flaw::TiesFromTheEnd,
+    Flaw::OrderByArrival,
+    Flaw::SixteenByTasks,
+    Flaw::SixteenByTable,
+    Flaw::SameTickRefused,
+    Flaw::OneBelowAccepted,
+    Flaw::LimitRefused,
+    Flaw::PastLimitAccepted,
+    Flaw::AtDeadlineRefused,
+    Flaw::OneLateAccepted,
+    Flaw::LateRunRefused,
+    Flaw::TickBeforeTwelve,
+    Flaw::TickAfterPhases,
+    Flaw::TickLast,
+    Flaw::LateBeforeSixteen,
+];
+
+/// Those in what an event does, which both recordings and saved states must
+/// expose.
+const OF_JOBS: [Flaw; 8] = [
+    Flaw::ProtectedByTable,
+    Flaw::FreedByTable,
+    Flaw::LastByArrivals,
+    Flaw::LastNotByReads,
+    Flaw::LastByRefused,
+    Flaw::SinceKept,
+    Flaw::SinceNotSet,
+    Flaw::SinceAtStart,
+];
+
+/// Those that saved states alone can expose.
+const OF_SAVED_TIMES: [Flaw; 7] = [
+    Flaw::SumIn32Bits,
+    Flaw::SincePastAsked,
+    Flaw::DeadlinePastAsked,
+    Flaw::DeadlineOfTwoBytes,
+    Flaw::LastAboveArrivals,
+    Flaw::WithoutTickAccepted,
+    Flaw::WithTickAccepted,
+];
+
+/// Those in the bytes that both recordings and handovers must expose.
+const OF_DATED_BYTES: [Flaw; 4] =
+    [Flaw::TickHighByteFirst, Flaw::DeadlineHighByteFirst, Flaw::DeadlineInItsField, Flaw::NoDeadlineTwo];
 
 /// The errors the corpus of whole recordings must expose.
 pub fn in_recordings() -> Vec<Flaw> {
     let of_self_links = OF_SELF_LINK_RULES.iter().chain(&OF_SELF_LINKS);
     let of_ends = OF_ENDS.iter().chain(&OF_FRESH_ENDS);
+    let of_times = OF_ORDER_RULES.iter().chain(&OF_TICKS).chain(&OF_JOBS).chain(&OF_DATED_BYTES);
     let all = IN_RECORDINGS.iter().chain(&OF_START_VALUES).chain(of_self_links).chain(of_ends).chain(&OF_KINDS);
-    all.copied().collect()
+    all.chain(of_times).chain(&[Flaw::EarlyPolicyKept]).copied().collect()
 }
 
 const IN_RECORDINGS: [Flaw; 34] = [
@@ -340,6 +472,9 @@ pub fn in_tables() -> Vec<Flaw> {
     ];
     flaws.extend(OF_FRESH_ENDS);
     flaws.extend(OF_SELF_LINK_RULES);
+    flaws.extend(OF_ORDER_RULES);
+    flaws.extend([Flaw::PolicyNotSet, Flaw::EarlyPolicyKept, Flaw::DeadlinesPastKept, Flaw::DeadlinePastAsked]);
+    flaws.extend([Flaw::TwentyFourAfterThree, Flaw::TwentyFourAfterLinks, Flaw::DeadlineHighByteFirst]);
     let table_rules = CLAUSES.iter().filter(|clause| clause.table_refusal().is_some());
     flaws.extend(table_rules.map(|clause| Flaw::Unsound(*clause)));
     flaws
@@ -356,6 +491,10 @@ pub fn in_saved_states() -> Vec<Flaw> {
     flaws.extend(OF_SAVED_SELF_LINKS);
     flaws.extend(OF_ENDS);
     flaws.extend([Flaw::LastTaskNotAsked, Flaw::LastLinkNotAsked, Flaw::StatesBySmaller]);
+    flaws.extend(OF_ORDER_RULES);
+    flaws.extend(OF_TICKS);
+    flaws.extend(OF_JOBS);
+    flaws.extend(OF_SAVED_TIMES);
     // Which rule a table breaks does not show: each is 19.
     let one_for_another = [Flaw::SelfDirectSeven, Flaw::SelfUnknownKindFive];
     flaws.extend(OF_SELF_LINK_RULES.iter().filter(|flaw| !one_for_another.contains(flaw)));
@@ -386,6 +525,13 @@ pub fn in_handovers() -> Vec<Flaw> {
     ];
     flaws.extend(OF_KINDS);
     flaws.extend(OF_SELF_LINK_RULES);
-    flaws.extend((4..=9).chain(12..=16).chain([20]).map(Untried));
+    flaws.extend(OF_ORDER_RULES);
+    flaws.extend(OF_TICKS);
+    flaws.extend(OF_DATED_BYTES);
+    flaws.extend([
+        TickBeforeKind, TickAfterFields, TickAfterFirst, TickLeftOut, DeadlineBeforeDefault, DeadlineCut,
+        DeadlineLowered, UnfinishedTaskNotCounted, UnfinishedTaskDropped, LargerByteForDated,
+    ]);
+    flaws.extend((4..=9).chain(12..=16).chain(20..=24).map(Untried));
     flaws
 }

@@ -5,7 +5,7 @@ use crate::engine::{Engine, IDLE, RUNNING};
 use crate::format::{event_at, place_of_link_count, Event, Table, Walker, LINK_BYTES};
 use crate::pointers as right;
 use crate::sizes::RecordingKind;
-use crate::state::State;
+use crate::state::{State, BY_DEADLINE};
 use crate::subject::{Answer, Oracle, Subject};
 
 /// The answer of a reader that takes a recording of no kind as one from before
@@ -29,6 +29,15 @@ pub fn distorted<'a>(flaw: Flaw, bytes: &'a [u8], mut answer: Answer<'a>) -> Ans
     let part = || part_of(bytes, place);
     match flaw {
         Flaw::RefusedEffectKept if (12..=16).contains(&refusal) => keep_effect(bytes, &mut answer),
+        Flaw::LastByRefused if matches!(refusal, 12..=16 | 18 | 21..=23) => {
+            let tick = event_at(bytes, place).and_then(|timed| timed.tick);
+            answer.state.last = tick.unwrap_or(0);
+        }
+        Flaw::EarlyPolicyKept if bytes.first() == Some(&255) && part() != Part::Events => {
+            answer.state.policy = BY_DEADLINE;
+        }
+        Flaw::DeadlineInItsField if refusal == 24 => (0..4).for_each(|_| shift_place(&mut answer)),
+        Flaw::NoDeadlineTwo if refusal == 24 => answer.refusal = 2,
         Flaw::EighteenBeforeFifteen if (15..=16).contains(&refusal) => room_first(bytes, &mut answer),
         Flaw::PlaceInsideEvent if refusal != 0 && refusal != 17 && part() == Part::Events => shift_place(&mut answer),
         Flaw::PlaceInsideLink if matches!(refusal, 5..=9 | 20) => shift_place(&mut answer),
@@ -88,7 +97,8 @@ fn event_count_reached(bytes: &[u8], place: usize) -> bool {
 }
 
 fn table_before(bytes: &[u8]) -> Table {
-    let links_at = place_of_link_count(usize::from(bytes[1]));
+    let kind = RecordingKind::of_number(u32::from(bytes[0])).expect("it got as far as E");
+    let links_at = place_of_link_count(kind, usize::from(bytes[1]));
     let links = usize::from(bytes[links_at]);
     let mut whole = bytes[..links_at + 1 + LINK_BYTES * links].to_vec();
     whole.extend_from_slice(&[0, 0]);
@@ -104,13 +114,13 @@ fn shift_place(answer: &mut Answer) {
 
 fn keep_effect(bytes: &[u8], answer: &mut Answer) {
     let state = &mut answer.state;
-    match event_at(bytes, answer.place) {
+    match event_at(bytes, answer.place).map(|timed| timed.event) {
         Some(Event::Arrival(set)) => {
             // As an arrival that moves each task before it meets the fault.
             let fine =
                 right::tasks_of(set, state).filter(|task| !state.active(*task)).fold(0, |set, task| set | 1 << task);
             let mut engine = right::Pointers { state: *state };
-            engine.apply(Event::Arrival(fine));
+            engine.apply(Event::Arrival(fine).into());
             *state = engine.state;
         }
         Some(Event::Start(task)) if task < state.tasks => state.phase[usize::from(task)] = RUNNING,
@@ -135,8 +145,8 @@ fn arrivals(bytes: &[u8], place: usize, count: fn(u32) -> u32) -> u32 {
     };
     while walker.place() < place {
         match walker.look_at_event(kind) {
-            Ok((event, length)) => {
-                if let Event::Arrival(set) = event {
+            Ok((timed, length)) => {
+                if let Event::Arrival(set) = timed.event {
                     arrivals += count(set);
                 }
                 walker.pass(length);

@@ -2,6 +2,7 @@
 
 use super::Flaw;
 use crate::format::{link_refusal, Link, LinkRule, DELAYED};
+use crate::order::Order;
 use crate::pointers::settles_on_start;
 use crate::sizes::MOST_BEHIND;
 use crate::state::{State, ABSENT};
@@ -12,18 +13,18 @@ pub fn rule(flaw: Flaw) -> Option<LinkRule> {
         Flaw::SelfCountedBehind => counted_behind,
         Flaw::SelfAsNinth => as_ninth,
         Flaw::SelfDirectAccepted => direct_accepted,
-        Flaw::SelfDirectSeven => |tasks, earlier, link| instead(tasks, earlier, link, 5, 7),
+        Flaw::SelfDirectSeven => |order, earlier, link| instead(order, earlier, link, 5, 7),
         Flaw::SelfDelayedRefused => delayed_refused,
-        Flaw::SelfUnknownKindFive => |tasks, earlier, link| instead(tasks, earlier, link, 6, 5),
-        Flaw::SelfTwice => |tasks, earlier, link| instead(tasks, earlier, link, 8, 0),
+        Flaw::SelfUnknownKindFive => |order, earlier, link| instead(order, earlier, link, 6, 5),
+        Flaw::SelfTwice => |order, earlier, link| instead(order, earlier, link, 8, 0),
         _ => return None,
     };
     Some(rule)
 }
 
 /// One refusal of a self link for another.
-fn instead(tasks: usize, earlier: &[Link], link: Link, right: u8, wrong: u8) -> u8 {
-    match link_refusal(tasks, earlier, link) {
+fn instead(order: &Order, earlier: &[Link], link: Link, right: u8, wrong: u8) -> u8 {
+    match link_refusal(order, earlier, link) {
         refusal if refusal == right && link.to_itself() => wrong,
         refusal => refusal,
     }
@@ -34,25 +35,25 @@ fn eight(earlier: &[Link], writer: u8, counts: impl Fn(&Link) -> bool) -> bool {
 }
 
 /// An earlier self link takes the place of one to a reader behind.
-fn counted_behind(tasks: usize, earlier: &[Link], link: Link) -> u8 {
-    match link_refusal(tasks, earlier, link) {
-        0 | 20 if link.reader_behind() && eight(earlier, link.writer, |other| !other.reader_ahead()) => 9,
+fn counted_behind(order: &Order, earlier: &[Link], link: Link) -> u8 {
+    match link_refusal(order, earlier, link) {
+        0 | 20 if link.reader_behind(order) && eight(earlier, link.writer, |other| !other.reader_ahead(order)) => 9,
         refusal => refusal,
     }
 }
 
 /// A self link after eight to readers behind is taken for the ninth.
-fn as_ninth(tasks: usize, earlier: &[Link], link: Link) -> u8 {
-    match link_refusal(tasks, earlier, link) {
-        0 if link.to_itself() && eight(earlier, link.writer, Link::reader_behind) => 9,
+fn as_ninth(order: &Order, earlier: &[Link], link: Link) -> u8 {
+    match link_refusal(order, earlier, link) {
+        0 if link.to_itself() && eight(earlier, link.writer, |other| other.reader_behind(order)) => 9,
         refusal => refusal,
     }
 }
 
 /// A direct self link is left to the rules after 5.
-fn direct_accepted(tasks: usize, earlier: &[Link], link: Link) -> u8 {
-    match link_refusal(tasks, earlier, link) {
-        5 => match link_refusal(tasks, earlier, Link { kind: DELAYED, ..link }) {
+fn direct_accepted(order: &Order, earlier: &[Link], link: Link) -> u8 {
+    match link_refusal(order, earlier, link) {
+        5 => match link_refusal(order, earlier, Link { kind: DELAYED, ..link }) {
             0 if link.start_value != 0 => 20,
             refusal => refusal,
         },
@@ -61,8 +62,8 @@ fn direct_accepted(tasks: usize, earlier: &[Link], link: Link) -> u8 {
 }
 
 /// Rule 5 as it was.
-fn delayed_refused(tasks: usize, earlier: &[Link], link: Link) -> u8 {
-    match link_refusal(tasks, earlier, link) {
+fn delayed_refused(order: &Order, earlier: &[Link], link: Link) -> u8 {
+    match link_refusal(order, earlier, link) {
         0 | 8 if link.to_itself() => 5,
         refusal => refusal,
     }

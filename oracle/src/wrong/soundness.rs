@@ -1,7 +1,7 @@
 //! Soundness judged with a flaw: too little asked of a state, or too much.
 
 use super::tables::link_rule;
-use super::{ends, Flaw};
+use super::{ends, times, Flaw};
 use crate::format::{link_faults, DELAYED};
 use crate::state::{broken_clauses, sound, Clause, State, ABSENT, SEEN_TWO};
 
@@ -35,7 +35,8 @@ pub fn too_strict(flaw: Flaw, state: &State) -> bool {
         },
         Flaw::StatesBySmaller => |_, state| ends::past_smaller(state),
         Flaw::SelfCountedBehind | Flaw::SelfAsNinth | Flaw::SelfDelayedRefused => fault_by_rule,
-        _ => return false,
+        Flaw::LinksByTable | Flaw::SevenByTable | Flaw::NineByTable | Flaw::AheadFromTheEnd => fault_by_rule,
+        _ => times::too_strict,
     };
     sound(state) && refuses(flaw, state)
 }
@@ -61,7 +62,7 @@ fn broken_in_links(state: &State) -> bool {
 
 /// Whether a link is at fault by the flaw's rule.
 fn fault_by_rule(flaw: Flaw, state: &State) -> bool {
-    link_faults(usize::from(state.tasks), &state.link_list(), link_rule(flaw)).next().is_some()
+    link_faults(state.order(), &state.link_list(), link_rule(flaw)).next().is_some()
 }
 
 /// The state with a pointer and a mark at each self link that every sound state

@@ -1,10 +1,12 @@
-//! What the tests of single requests share.
+//! What the tests of single requests share; none uses all of it.
+
+#![allow(dead_code)]
 
 use oracle::engine::{Engine, FreshEngine};
-use oracle::format::{encode, Event, Link, Recording, Table};
+use oracle::format::{encode, untimed, Event, Link, Recording, Table, Timed};
 use oracle::pointers::Pointers;
-use oracle::sizes::{RecordingKind, KINDS};
-use oracle::state::{broken_clauses, sound, Clause, State};
+use oracle::sizes::{RecordingKind, UNDATED};
+use oracle::state::{broken_clauses, sound, Clause, State, BY_DEADLINE};
 use oracle::subject::{disagreement, zero_time_reading, Made, Oracle, Subject};
 use oracle::tables::LentTable;
 
@@ -18,19 +20,19 @@ pub fn delayed(writer: u8, reader: u8, start_value: u32) -> Link {
 
 /// Tasks with the defaults 1000, 1001 and so on.
 pub fn table(tasks: u32, links: &[Link]) -> Table {
-    Table { defaults: (1000..1000 + tasks).collect(), links: links.to_vec() }
+    Table::undated((1000..1000 + tasks).collect(), links.to_vec())
 }
 
 /// The numbers read, by the pointers and by the run that takes no time, alike in
-/// a recording of either kind.
+/// a recording of either kind with fixed priorities.
 pub fn numbers(table: &Table, events: &[Event]) -> Vec<u32> {
-    let [smaller, larger] = KINDS.map(|kind| numbers_in(kind, table, events));
+    let [smaller, larger] = UNDATED.map(|kind| numbers_in(kind, table, events));
     assert_eq!(smaller, larger);
     larger
 }
 
 pub fn numbers_in(kind: RecordingKind, table: &Table, events: &[Event]) -> Vec<u32> {
-    let bytes = encode(&Recording { kind, table: table.clone(), events: events.to_vec() });
+    let bytes = encode(&Recording { kind, table: table.clone(), events: untimed(events) });
     let lent = vec![7; events.len()];
     let answer = Oracle.replay(&bytes, &lent);
     assert_eq!(disagreement(&answer, &zero_time_reading(&bytes, &lent)), None);
@@ -41,7 +43,7 @@ pub fn numbers_in(kind: RecordingKind, table: &Table, events: &[Event]) -> Vec<u
 pub fn verdict(bytes: &[u8]) -> (u8, usize) {
     let answer = Oracle.replay(bytes, &[]);
     assert_eq!(disagreement(&answer, &zero_time_reading(bytes, &[])), None);
-    if matches!(answer.refusal, 2..=10 | 20) {
+    if matches!(answer.refusal, 2..=10 | 20 | 24) {
         assert_eq!(answer.state, State::single());
     }
     (answer.refusal, answer.place)
@@ -55,7 +57,7 @@ pub fn verdict_in(kind: RecordingKind, tasks: u32, links: &[Link]) -> (u8, usize
 /// The same, alike in either kind; the table by itself must earn the same refusal.
 pub fn verdict_on_links(tasks: u32, links: &[Link]) -> (u8, usize) {
     let made = Oracle.fresh(&LentTable::of(&table(tasks, links)));
-    let [(refusal, place), larger] = KINDS.map(|kind| verdict_in(kind, tasks, links));
+    let [(refusal, place), larger] = UNDATED.map(|kind| verdict_in(kind, tasks, links));
     assert_eq!((refusal, place), larger);
     assert_eq!(made.refusal, refusal);
     assert!(refusal == 0 || made == Made { refusal, state: State::single() });
@@ -63,10 +65,14 @@ pub fn verdict_on_links(tasks: u32, links: &[Link]) -> (u8, usize) {
 }
 
 pub fn state_after(table: &Table, events: &[Event]) -> State {
+    state_after_timed(table, &untimed(events))
+}
+
+pub fn state_after_timed(table: &Table, events: &[Timed]) -> State {
     let mut engine = Pointers::fresh(table);
-    for &event in events {
-        assert_eq!(engine.judge(event), 0);
-        engine.apply(event);
+    for &timed in events {
+        assert_eq!(engine.judge(timed), 0, "{:?}", timed);
+        engine.apply(timed);
         assert!(sound(&engine.state));
     }
     engine.state
@@ -75,7 +81,8 @@ pub fn state_after(table: &Table, events: &[Event]) -> State {
 /// The only clause of soundness that the state breaks, none if it is sound: an
 /// empty set is then 12, and else 19, with the state as it was.
 pub fn only_clause_broken(state: &State) -> Option<Clause> {
-    let answer = Oracle.one_event(state, Event::Arrival(0));
+    let tick = Some(state.last).filter(|_| state.policy == BY_DEADLINE);
+    let answer = Oracle.one_event(state, Timed { tick, event: Event::Arrival(0) });
     assert_eq!((answer.value, answer.state), (0, *state));
     let broken = broken_clauses(state);
     assert_eq!(answer.refusal, if broken.is_empty() { 12 } else { 19 });

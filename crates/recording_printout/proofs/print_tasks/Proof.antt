@@ -6,10 +6,10 @@ use Rattle.recording_printout.proofs.print_tasks.Statement.{statement}
 use Rattle.recording_printout.proofs.print_tasks.Tie as tie
 
 abbrev Inv-loop : tie.InvT-loop
-Inv-loop tasks links control values plan end t₀ t = t ≤ end
+Inv-loop tasks links control values times plan end t₀ t = t ≤ end
 
 abbrev μ-loop : tie.MeasureT-loop
-μ-loop tasks links control values plan end t₀ t = end - t
+μ-loop tasks links control values times plan end t₀ t = end - t
 
 plan-of-requires : tie.Need-plan-of-requires Inv-loop μ-loop
 plan-of-requires c κs = search needs

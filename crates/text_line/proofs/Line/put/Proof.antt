@@ -27,7 +27,7 @@ copy-requires : tie.Need-copy-requires
 copy-requires c κs =
     let f = c .before .before .before .fitting in
     let m = c .before .before .before .before .few in
-    let l : length (c .before .before .before .before .before .text .result .bytes) ≡ 320 = search needs in
+    let l : length (c .before .before .before .before .before .text .result .bytes) ≡ 384 = search needs in
     let s = fit-small (m .result) (length (c .before .before .before .before .before .before .before .before .args .out .now)) in
     (omega (arith, l, m .ensures, f .ensures, s .0), omega (arith, f .ensures, s .1))
 
@@ -37,7 +37,7 @@ same-length c = search needs
 returns : tie.Need-returns
 returns c =
     let t = c .before .before .before .before .before .before .before .before .text in
-    let l : length (t .result .bytes) ≡ 320 = search needs in
+    let l : length (t .result .bytes) ≡ 384 = search needs in
     ended (t .result .bytes) (t .result .size) l (c .before .before .before .before .before .before .before .few .ensures) (t .ensures .1) (c .before .before .before .before .before .before .fitting .ensures) (c .before .before .copy .ensures)
 
 pub put-spec : {M : Type 1} → statement M

@@ -22,7 +22,7 @@ slice-aggregate-copy c = search needs
 
 copy-requires : tie.Need-copy-requires
 copy-requires c κs =
-    let l : length (c .before .before .before .before .before .args .self .bytes) ≡ 320 = search needs in
+    let l : length (c .before .before .before .before .before .args .self .bytes) ≡ 384 = search needs in
     (omega (arith, c .before .before .few2 .ensures), omega (arith, l, c .before .before .few2 .ensures, c .before .before .before .few .ensures))
 
 add-t6 : tie.Need-add-t6
@@ -31,7 +31,7 @@ add-t6 c = search needs
 returns : tie.Need-returns
 returns c =
     let a = c .before .before .before .before .before .before .before .args in
-    let l : length (a .self .bytes) ≡ 320 = search needs in
+    let l : length (a .self .bytes) ≡ 384 = search needs in
     (rw (c .before .copy .ensures, c .before .before .before .before .few2 .ensures, c .before .before .before .before .before .few .ensures), copied (a .self .bytes) (a .text .now) (a .self .size) l (c .before .before .before .before .before .few .ensures) (c .before .before .before .before .few2 .ensures) (c .before .copy .ensures))
 
 pub text-spec : {M : Type 1} → statement M
