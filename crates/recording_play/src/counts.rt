@@ -57,7 +57,7 @@ fn added(refusal: u8, n: usize) -> usize
 
 // With the arrival of a set more, unless it is refused. One count grows, and no counts are chosen from two: so they stay in registers
 // through a replay.
-pub fn with_arrival(refusal: u8, counts: Counts, set: u32, tasks: usize) -> Counts
+pub(crate) fn with_arrival(refusal: u8, counts: Counts, set: u32, tasks: usize) -> Counts
     requires { ⌜ Few mostEvents (countsOf counts) ⌝ }
     ensures { λ r. ⌜ countsOf r ≡ countedIf refusal (min tasks (stateRoom .tasks)) (countsOf counts) (arrival set) ⌝ }
 {
@@ -68,7 +68,7 @@ pub fn with_arrival(refusal: u8, counts: Counts, set: u32, tasks: usize) -> Coun
 }
 
 // With a start more, of any task, unless it is refused.
-pub fn with_start(refusal: u8, counts: Counts) -> Counts
+pub(crate) fn with_start(refusal: u8, counts: Counts) -> Counts
     requires { ⌜ Few mostEvents (countsOf counts) ⌝ }
     ensures { λ r. ⌜ ((T t : ℕ) → countsOf r ≡ countedIf refusal T (countsOf counts) (start t)) ⌝ }
 {
@@ -79,7 +79,7 @@ pub fn with_start(refusal: u8, counts: Counts) -> Counts
 }
 
 // With a read more, by any link, unless it is refused.
-pub fn with_read(refusal: u8, counts: Counts) -> Counts
+pub(crate) fn with_read(refusal: u8, counts: Counts) -> Counts
     requires { ⌜ Few mostEvents (countsOf counts) ⌝ }
     ensures { λ r. ⌜ ((T l : ℕ) → countsOf r ≡ countedIf refusal T (countsOf counts) (read l)) ⌝ }
 {
@@ -90,7 +90,7 @@ pub fn with_read(refusal: u8, counts: Counts) -> Counts
 }
 
 // With a finish more, of any task with any value, unless it is refused.
-pub fn with_finish(refusal: u8, counts: Counts) -> Counts
+pub(crate) fn with_finish(refusal: u8, counts: Counts) -> Counts
     requires { ⌜ Few mostEvents (countsOf counts) ⌝ }
     ensures { λ r. ⌜ ((T t v : ℕ) → countsOf r ≡ countedIf refusal T (countsOf counts) (finish t v)) ⌝ }
 {

@@ -241,10 +241,9 @@ pub fn is_dated(number: u32) -> bool
     number == DATED_FIRST as u32
 }
 
-// Whether the lines behind a line are those of a dated text.
+// Whether the lines behind a line are those of a dated text. It is said of what a line says, which is padded (`line_says`).
 pub fn dated_after(dated: bool, said: Said) -> bool
-    requires { ⌜ Padded (said .letter) (said .size) (said .numbers) ⌝ }
-    ensures { λ r. ⌜ r ≡ datedAfter dated (saidOf said) ⌝ }
+    ensures { λ r. ⌜ (Padded (said .letter) (said .size) (said .numbers) → r ≡ datedAfter dated (saidOf said)) ⌝ }
 {
     if sort_of(said.letter) != 4 {
         return dated;

@@ -11,7 +11,7 @@ sort-of-requires : tie.Need-sort-of-requires
 sort-of-requires c κs = search needs
 
 returns : tie.Need-returns
-returns c = rw (← c .before .sort-of .ensures, ne-eqb _ 4 (c .if1 .taken))
+returns c padded = rw (← c .before .sort-of .ensures, ne-eqb _ 4 (c .if1 .taken))
 
 array-read-is-dated : tie.Need-array-read-is-dated
 array-read-is-dated c = search needs
@@ -20,10 +20,10 @@ is-dated-requires : tie.Need-is-dated-requires
 is-dated-requires c κs = search needs
 
 returns-2 : tie.Need-returns-2
-returns-2 c =
+returns-2 c padded =
     let sort = c .before .before .before in
     let said = sort .before .args .said in
-    c .is-dated .ensures ∙ rw (← sort .sort-of .ensures, eq-eqb _ 4 (c .before .before .if1 .left), first-number (said .size) (said .numbers) (sort .before .pre))
+    c .is-dated .ensures ∙ rw (← sort .sort-of .ensures, eq-eqb _ 4 (c .before .before .if1 .left), first-number (said .size) (said .numbers) padded)
 
 pub dated-after-spec : {M : Type 1} → statement M
 dated-after-spec =

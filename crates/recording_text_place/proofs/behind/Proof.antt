@@ -45,7 +45,7 @@ left-requires : tie.Need-left-requires Inv-loop μ-loop
 left-requires c κs = search needs
 
 dated-after-requires : tie.Need-dated-after-requires Inv-loop μ-loop
-dated-after-requires c κs = c .before .before .line-says .ensures .1 .0
+dated-after-requires c κs = search needs
 
 add-at : tie.Need-add-at Inv-loop μ-loop
 add-at c =
@@ -64,7 +64,7 @@ loop-again c =
     let l = piece .before .before .loop in
     let a = piece .before .before .before .before .args in
     let more =
-    line-more (a .text .now) (piece .piece-end .ensures .0 (piece .before .loop-test .taken)) (l .dated) (said .line-says .result) (said .line-says .ensures .0) (c .dated-after .ensures)
+    line-more (a .text .now) (piece .piece-end .ensures .0 (piece .before .loop-test .taken)) (l .dated) (said .line-says .result) (said .line-says .ensures .0) (c .dated-after .ensures (said .line-says .ensures .1 .0))
     in
     l .inv ∙ bytes-on more (a .sort) (a .which) (l .much) (c .before .before .counts .ensures) (c .before .left .ensures)
 

@@ -65,7 +65,7 @@ add-line c =
     omega (arith, test .loop-test .taken, test .before .loop .inv .0)
 
 dated-after-requires : tie.Need-dated-after-requires Inv-loop μ-loop
-dated-after-requires c κs = c .before .before .before .before .line-says .ensures .1 .0
+dated-after-requires c κs = search needs
 
 add-at : tie.Need-add-at Inv-loop μ-loop
 add-at c =
@@ -85,7 +85,7 @@ loop-again c =
     let l = piece .before .before .loop in
     let a = piece .before .before .before .before .args in
     let w = piece .piece-end .ensures .0 (piece .before .loop-test .taken) in
-    let more = line-more (a .text .now) w (l .dated) (said .line-says .result) (said .line-says .ensures .0) (c .dated-after .ensures) in (
+    let more = line-more (a .text .now) w (l .dated) (said .line-says .result) (said .line-says .ensures .0) (c .dated-after .ensures (said .line-says .ensures .1 .0)) in (
       omega (arith, l .inv .0, w .after),
       l .inv .1
           ∙ line-on more (a .sort) (a .measure) (l .much) (l .line) (sort .sort-of .ensures) (c .before .before .before .if1 .left) (c .before .before .counts .ensures) (c .before .left .ensures),
