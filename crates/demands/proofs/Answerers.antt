@@ -12,6 +12,7 @@ use Rattle.protocol_deadlines.specs.Timed.{Timed}
 use Rattle.protocol_deadlines.specs.Answering.{Answerer, RefusesRightly, FollowsProtocol}
 use Rattle.protocol_state.specs.Saved.{stateRoom, aheadIn, table}
 use Rattle.protocol_state.specs.Give.{Reply, Call, callPolicy, callTick, callEvent, called}
+use Rattle.protocol_state.proofs.Give.{call-tick}
 use Rattle.protocol_state.specs.Alike.{Alike}
 use Rattle.protocol_state.proofs.Demanded as state
 use Rattle.recording_core.proofs.Right.{own-order}
@@ -34,4 +35,4 @@ as-answerer {es = es} {q = q} c B D1 D2 k r call own =
     subst (λ (t : Table ℕ). AnsweredBy B t (past [] es) (callTick k) (callEvent k) r) (C .same)
     (subst (λ (x : Reply). Alike x (B .reply (table (aheadIn (C .begin)) (C .begin)) (past [] es) (callTick k) (callEvent k)))
     (sym (call .answer ∙ ap (λ (ahead : ℕ → ℕ → Bool). called ahead stateRoom (saved q) k) (come-ahead (C .reached))))
-    (state.as-demanded (own-order (C .begin)) (C .reached) B D1 D2 (callPolicy k) (sym (C .reached .policy) ∙ own) (callTick k) (callEvent k)))
+    (state.as-demanded (own-order (C .begin)) (C .reached) B D1 D2 (callPolicy k) (sym (C .reached .policy) ∙ own) (callTick k) (λ z. call-tick k (sym own ∙ C .reached .policy ∙ z)) (callEvent k)))

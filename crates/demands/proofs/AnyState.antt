@@ -1,21 +1,21 @@
 -- An accepted event given to any sound state is a step of the published protocol.
 -- Assumes nothing.
 use mathlib.Core.Path.{_≡_, refl, sym, ap, subst, _∙_}
+use mathlib.Core.Logic.{_≢_}
 use mathlib.Core.Bool.{Bool}
-use Prim.Native.Nat.{ℕ, _≤_}
+use Prim.Native.Nat.{ℕ}
 use native.Mathlib.Decide.{ℕ-discrete}
 use Rattle.protocol.specs.Event.{Event, arrival, start, read, finish}
 use Rattle.protocol.specs.Published.{Lowest, number}
 use Rattle.protocol.specs.Published as published
-use Rattle.protocol_deadlines.specs.Timed.{limit}
 use Rattle.protocol_deadlines.specs.Answering.{ReadsNothing}
 use Rattle.protocol_state.specs.Saved.{Saved, stateRoom, aheadIn, table, boxes}
-use Rattle.protocol_state.specs.Judge.{judgedOn, lateIn}
+use Rattle.protocol_state.specs.Judge.{judgedOn}
 use Rattle.protocol_state.specs.Next.{nextAt, valueOf}
 use Rattle.protocol_state.specs.Give.{Reply, Call, callPolicy, callTick, callEvent}
 use Rattle.protocol_state.specs.Sound.{Sound, StandsSound}
 use Rattle.protocol_state.proofs.Give.{judged-parts, refused-same}
-use Rattle.protocol_state.proofs.Keeps.{table-same, order-same, next-sound}
+use Rattle.protocol_state.proofs.Keeps.{FitsTick, table-same, order-same, next-sound}
 use Rattle.protocol_state.proofs.Steps.{step, number-read}
 use Rattle.mailbox.specs.States.{saved}
 use Rattle.mailbox.proofs.Packed.{whole-shape}
@@ -29,8 +29,8 @@ module _ (q : State) (c : Call) (r : Step) (call : Gives q c r) (S : IsWhole q) 
   abbrev after : Saved
   after = nextAt (aheadIn (saved q)) (saved q) (callTick c) (callEvent c)
 
-  -- none of 12 to 16, and none of the ticks' refusals
-  allowed : (judgedOn (aheadIn (saved q)) (saved q) (callEvent c) ≡ 0) × (saved q .last ≤ callTick c) × (callTick c ≤ limit) × (lateIn (saved q) (callTick c) (callEvent c) ≡ 0)
+  -- none of 12 to 16, and under deadlines neither 21 nor 22
+  allowed : (judgedOn (aheadIn (saved q)) (saved q) (callEvent c) ≡ 0) × (saved q .policy ≢ 0 → FitsTick (saved q) (callTick c))
   allowed = judged-parts (aheadIn (saved q)) (saved q) (callTick c) (callEvent c) (call-done q c r call z .1)
 
   done : saved (r .state) ≡ after
@@ -39,7 +39,7 @@ module _ (q : State) (c : Call) (r : Step) (call : Gives q c r) (S : IsWhole q) 
   stays-sound : StandsSound stateRoom after
   stays-sound =
       subst (λ (ahead : ℕ → ℕ → Bool). Sound ahead stateRoom after) (sym (order-same (aheadIn (saved q)) (saved q) (callTick c) (callEvent c)))
-      (next-sound (whole-shape q S) G (callTick c) (allowed .1, allowed .2) (callEvent c) (allowed .0))
+      (next-sound (whole-shape q S) G (callTick c) (allowed .1) (callEvent c) (allowed .0))
 
   pub any-state : published.Step (tableIn q) (Lowest (tableIn q)) (callEvent c) (boxesIn q) (boxesIn (r .state)) × (tableIn (r .state) ≡ tableIn q) × (IsWhole (r .state) × IsSound (r .state))
   any-state = (

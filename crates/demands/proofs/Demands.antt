@@ -17,7 +17,7 @@ use Rattle.protocol_state.specs.Fresh as state
 use Rattle.protocol_state.specs.Fresh.{made, judgedLists}
 use Rattle.protocol_state.specs.Give.{Reply, soundFor, givenTo}
 use Rattle.protocol_state.proofs.Sound.{sound-says, says-sound}
-use Rattle.protocol_state.proofs.Give.{give-refusal, give-unsound, refused-same}
+use Rattle.protocol_state.proofs.Give.{give-refusal, give-unsound, refused-same, call-tick}
 use Rattle.protocol.specs.History.{past}
 use Rattle.protocol_state.specs.Records.{Task}
 use Rattle.recording_demands.proofs.Contract.{learnt-ensured, ensured-learnt}
@@ -167,7 +167,7 @@ module _ (q : State) (c : Call) (r : Step) (call : Gives q c r) where
       let passes : soundFor (aheadIn (saved q)) stateRoom (callPolicy c) (saved q) ≡ true = rw (says-sound (aheadIn (saved q)) stateRoom (saved q) S, eq-eqb (policyIn q) (callPolicy c) own) in
       earns-exactly
       (ap (λ (x : Reply). x .refusal) (call .answer) ∙ give-refusal (aheadIn (saved q)) stateRoom (callPolicy c) (saved q) (callTick c) (callEvent c) passes)
-      (phases-earned (saved q) S (callTick c) (callEvent c))
+      (phases-earned (saved q) S (callTick c) (λ z. call-tick c (sym own ∙ z)) (callEvent c))
 
   -- a state that does not pass for this call
   not-passed : soundFor (aheadIn (saved q)) stateRoom (callPolicy c) (saved q) ≡ false → r ≡ asLent q 19

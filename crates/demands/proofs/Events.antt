@@ -18,11 +18,11 @@ use Rattle.protocol.specs.Schedule.{judged}
 use Rattle.protocol.proofs.Schedule.{has-not}
 use Rattle.protocol_deadlines.specs.Timed.{Timed, timed, limit, untimed, last, tried, late, judgedAt}
 use Rattle.protocol_state.specs.Saved.{Saved, stateRoom, at, aheadIn, busy, table}
-use Rattle.protocol_state.specs.Judge.{allows, mayArrive, preempted, judgedArrival, judgedTask, judgedRead, dueIn, soonerIn, judgedOnAt}
+use Rattle.protocol_state.specs.Judge.{allows, mayArrive, preempted, judgedArrival, judgedTask, judgedRead, dueIn, lateIn, soonerIn, judgedOn, judgedOnAt}
 use Rattle.protocol_state.specs.Decision.{decided, rule}
 use Rattle.protocol_state.specs.Sound.{StandsSound}
 use Rattle.protocol_state.proofs.Decision.{decided-rule}
-use Rattle.protocol_state.proofs.Phases.{sooner-both}
+use Rattle.protocol_state.proofs.Phases.{sooner-both, judged-both}
 use Rattle.protocol_state.proofs.Places.{every-none-fails, some-same}
 use Rattle.recording_core.specs.Playing.{full, noRoom, thenRoom}
 use Rattle.recording_core.specs.Promise.{refusedBy}
@@ -321,20 +321,20 @@ module _ (q : Saved) (S : StandsSound stateRoom q) (x : ℕ) where
           (S .rules .each l (omega (arith, leb-false (q .links) l u)) .reader)) refl
 
   -- with the tick
-  phases-chain : (e : Event ℕ) → judgedOnAt (aheadIn q) q x e ≡ chain (tests T (phasesOf q) x e)
-  unfolding judgedOnAt
-  phases-chain (arrival m) =
+  tried-chain : (e : Event ℕ) → tried (judgedOn (aheadIn q) q e) (q .last) x (lateIn q x e) ≡ chain (tests T (phasesOf q) x e)
+  tried-chain (arrival m) =
       ap (λ (n : ℕ). tried n (q .last) x 0) (judged-arrival m)
       ∙ tried-arrival (unknown T (phasesOf q) x (arrival m)) (some (λ t. has m t && busy q t) (q .tasks)) (q .last) x
-  phases-chain (start t) =
+  tried-chain (start t) =
       ap (λ (n : ℕ). tried n (q .last) x 0) (judged-task 1 t 1 14 (omega arith) 2 refl refl refl)
       ∙ tried-task (leb (q .tasks) t) (not (eqb (at (q .phase) t) 1)) (held t) 14 (q .last) x 0 (λ z. omega arith) (λ z. omega arith)
-  phases-chain (read l) =
+  tried-chain (read l) =
       ap (λ (n : ℕ). tried n (q .last) x 0) (judged-read l)
       ∙ tried-task (leb (q .links) l) (not (eqb (at (q .phase) (at (q .reader) l)) 2)) (held (at (q .reader) l)) 15 (q .last) x 0 (λ z. omega arith) (λ z. omega arith)
-  phases-chain (finish t v) =
+  tried-chain (finish t v) =
       ap (λ (n : ℕ). tried n (q .last) x (cond (ltb (dueIn q t) x) 23 0)) (judged-task 3 t 2 15 (omega arith) 0 refl refl refl)
       ∙ tried-task (leb (q .tasks) t) (not (eqb (at (q .phase) t) 2)) (held t) 15 (q .last) x (cond (ltb (dueIn q t) x) 23 0) (λ z. omega arith) (λ z. omega arith)
 
-  pub phases-earned : (e : Event ℕ) → Earns (EventBreaks T (phasesOf q) x e) (judgedOnAt (aheadIn q) q x e)
-  phases-earned e = subst (λ (n : ℕ). Earns (EventBreaks T (phasesOf q) x e) n) (sym (phases-chain e)) (chain-earned T (phasesOf q) x e)
+  -- under fixed priorities that is 0
+  pub phases-earned : (q .policy ≡ 0 → x ≡ 0) → (e : Event ℕ) → Earns (EventBreaks T (phasesOf q) x e) (judgedOnAt (aheadIn q) q x e)
+  phases-earned tickless e = subst (λ (n : ℕ). Earns (EventBreaks T (phasesOf q) x e) n) (sym (judged-both q S x tickless e ∙ tried-chain e)) (chain-earned T (phasesOf q) x e)

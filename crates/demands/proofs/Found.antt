@@ -11,6 +11,7 @@ use Rattle.protocol.specs.Table.{Table}
 use Rattle.protocol.specs.History.{past}
 use Rattle.protocol_state.specs.Saved.{stateRoom}
 use Rattle.protocol_state.specs.Records.{Task}
+use Rattle.protocol_state.specs.Fresh.{freshOf}
 use Rattle.byte_format.specs.Number.{bytesOf}
 use Rattle.byte_format.specs.Stands.{Stands}
 use Rattle.byte_format.specs.Format.{Got, got, stop, encodes, encodeSection}
@@ -33,7 +34,7 @@ use Rattle.recording_format.proofs.EventKinds.{byteOf, events-told, kind-unknow
 use Rattle.recording_format.proofs.EventRecords.{events-lawful}
 use Rattle.recording_core.specs.Playing.{coreOf, judgedIn, steppedIn}
 use Rattle.recording_core.specs.Promise.{refusedBy}
-use Rattle.recording_core.proofs.Right.{fits-still, refused-by}
+use Rattle.recording_core.proofs.Right.{fits-still, refused-by, read-still}
 use Rattle.demands.specs.Station.{station}
 use Rattle.demands.specs.Recordings.{Genuine, EventsBegun, Ending, noKind, unknownKind, cutEvent, badEvent}
 use Rattle.demands.specs.Recordings as recordings
@@ -99,6 +100,7 @@ module _ {which : WhichKind} {s out : List ℕ} {ds : List Task} {ls : List Link
 
   found-so : {r : ℕ} → Ending which (station ds ls) s out (E) es p r
       → RecordingOutcome (anyKind which) (coreOf stateRoom (anyKind which .policy) out) s (verdict r p (stateAfter (coreOf stateRoom (anyKind which .policy) out) ds ls es))
+  unfolding freshOf
   found-so (recordings.whole e i) =
       accepted ds ls (tableEnd (anyKind which) ds ls) es table-there
       (record { kept = genuine-kept alone .played; bytes = rw (← i) (subst (λ (n : ℕ). Stands s (tableEnd (anyKind which) ds ls) (bytesOf ((anyKind which) .eventCountWidth) n ++ encodes (events (anyKind which)) es) p) (sym e) from-events) })
@@ -117,7 +119,7 @@ module _ {which : WhichKind} {s out : List ℕ} {ds : List Task} {ls : List Link
       let e : Timed ℕ = timed tick event in
       let i : eventAt (anyKind which) s p ≡ got e q = events-lawful (anyKind which) .reads s p e q f x in
       let j : judgedIn (stateAfter (coreOf stateRoom (anyKind which .policy) out) ds ls es) e ≡ refusedBy (station ds ls) out (past [] es) e =
-      refused-by (went-there .right) e ∙ ap (λ (T : Table ℕ). refusedBy T out (past [] es) e) (went-there .own) in
+      refused-by (went-there .right) e (read-still (anyKind which) (kind-dates which) s p e q i) ∙ ap (λ (T : Table ℕ). refusedBy T out (past [] es) e) (went-there .own) in
       eventRecord ds ls (tableEnd (anyKind which) ds ls) es r p n table-there
       (faulty r more
       (earns-one g (record-earned (station ds ls) (past [] es) out tick event) ∙ sym j

@@ -26,6 +26,7 @@ use Rattle.protocol_state.specs.Judge.{judgedOnAt}
 use Rattle.protocol_state.specs.Next.{valueOf}
 use Rattle.protocol_state.specs.Sound.{Sound}
 use Rattle.protocol_state.specs.Give.{Reply, Call, callPolicy, callTick, callEvent, called}
+use Rattle.protocol_state.proofs.Give.{call-tick}
 use Rattle.protocol_state.proofs.Phases.{active-is, waiting-is, running-is}
 use Rattle.protocol_state.proofs.History.{reached-refusal, reached-number}
 use Rattle.protocol_state.proofs.Numbers.{table-lawful, reached-ideals, reached-zero-run}
@@ -94,7 +95,7 @@ module _ {T : Table ℕ} {es : List (Timed ℕ)} {ns : List ℕ} {q : State} (c 
   calls-refusal k r call own =
       ap (λ (x : Reply). x .refusal) (call .answer)
       ∙ ap (λ (ahead : ℕ → ℕ → Bool). called ahead stateRoom (saved q) k .refusal) (come-ahead (C .reached))
-      ∙ reached-refusal (C .reached) ordered (callPolicy k) (sym (C .reached .policy) ∙ own) (callTick k) (callEvent k)
+      ∙ reached-refusal (C .reached) ordered (callPolicy k) (sym (C .reached .policy) ∙ own) (callTick k) (λ z. call-tick k (sym own ∙ C .reached .policy ∙ z)) (callEvent k)
       ∙ ap (λ (t : Table ℕ). judgedAt t H (callTick k) (callEvent k)) (C .same)
 
   pub calls-event : (k : Call) (r : Step) → Gives q k r

@@ -52,7 +52,7 @@ pub record Demand1 : Type 0 where
   pub tells : Tells
   -- "Nothing unknown ever becomes a default.": a state that is not sound, whatever is wrong in it, is answered 19;
   pub unknown-state : (q : State) (c : Call) (r : Step) → Gives q c r → (IsSound q → ⊥) → r ≡ asLent q 19
-  -- and so is a state of the other policy: "no tick is ever made up";
+  -- and so is a state of the other policy, so that no tick is ever made up;
   pub other-policy : (q : State) (c : Call) (r : Step) → Gives q c r → policyIn q ≢ callPolicy c → r ≡ asLent q 19
   -- a first byte of no kind of recording 2 at 0;
   pub unknown-first : {s out list : List ℕ} {a : Answer} → Replays s out a list → 1 ≤ length s → getD s 0 0 ≢ baseRecording .first → getD s 0 0 ≢ wideRecording .first →

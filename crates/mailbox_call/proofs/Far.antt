@@ -1,15 +1,16 @@
 -- A task or link number above 255 is in no table: its event earns 12, after 19, whatever the tick.
 -- Assumes nothing.
 use mathlib.Core.Path.{_≡_, refl, sym, ap, _∙_}
-use mathlib.Core.Bool.{Bool, true, false}
+use mathlib.Core.Bool.{Bool, true, false, cond}
 use Prim.Native.Nat.{ℕ, _<_}
 use native.Mathlib.Omega.{arith}
 use borrow.Author.Tests.{le-leb}
-use lib.Dec.{leb}
+use lib.Dec.{eqb, leb}
 use Rattle.lists.proofs.Bools.{and-left}
 use Rattle.protocol.specs.Event.{Event, start, read, finish}
+use Rattle.protocol_deadlines.specs.Timed.{tried}
 use Rattle.protocol_state.specs.Saved.{Saved, stateRoom, at, aheadIn}
-use Rattle.protocol_state.specs.Judge.{judgedTask, judgedRead, judgedOn, judgedOnAt, soonerIn}
+use Rattle.protocol_state.specs.Judge.{judgedTask, judgedRead, lateIn, judgedOn, judgedOnAt, soonerIn}
 use Rattle.protocol_state.specs.Give.{reply, settled, Call, callPolicy, callTick, callEvent, soundFor, givenTo}
 use Rattle.protocol_state.specs.Sound.{isSound}
 use Rattle.protocol_state.proofs.Sound.{sound-room}
@@ -28,7 +29,11 @@ given-over (At x) e = refl
 -- what is 12 without ticks is 12 with them
 twelve-at : (q : Saved) (x : ℕ) (e : Event ℕ) → judgedOn (aheadIn q) q e ≡ 12 → judgedOnAt (aheadIn q) q x e ≡ 12
 unfolding judgedOnAt
-twelve-at q x e j = rw j
+twelve-at q x e j = go (eqb (q .policy) 0)
+  where
+    go : (b : Bool) → cond b (judgedOn (aheadIn q) q e) (tried (judgedOn (aheadIn q) q e) (q .last) x (lateIn q x e)) ≡ 12
+    go true = j
+    go false = rw j
 
 -- where each sound state answers a call by 12, its answer is known
 refused-12 : (q : Saved) (c : Call) → (isSound (aheadIn q) stateRoom q ≡ true → judgedOn (aheadIn q) q (callEvent c) ≡ 12) → settled (soundFor (aheadIn q) stateRoom (callPolicy c) q) 12 q q 0 ≡ givenTo stateRoom q c

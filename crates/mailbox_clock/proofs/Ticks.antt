@@ -5,8 +5,7 @@ use mathlib.Core.Logic.{_≢_}
 use mathlib.Core.Bool.{Bool, true, false}
 use mathlib.Core.List.{List, [], _∷_}
 use Prim.Native.Nat.{ℕ, _+_, _≤_}
-use borrow.Author.Tests.{eqb-false}
-use lib.Dec.{eqb}
+use borrow.Author.Tests.{ne-eqb}
 use lib.ListN.{set, take, drop}
 use lib.Seq.{set-getD}
 use Rattle.lists.specs.Lists.{upto}
@@ -59,19 +58,16 @@ last-there : (x : List ℕ) (n : ℕ) → policyIn x ≢ 0 → at (set (region (
 unfolding regions
 last-there x n h = there (drop (stateRoom .tasks) (drop (stateRoom .tasks) x)) n h
 
--- what an event e at tick n makes of the times x: b says whether the policy is fixed priorities
-module _ (T L : ℕ) (c v x : List ℕ) (n : ℕ) (e : Event ℕ) {b : Bool} (f : b ≡ eqb (policyIn x) 0) where
-  -- then nothing is kept
-  pub clock-stands : b ≡ true → stateOf T L c v x ≡ clocked n e (stateOf T L c v x)
-  clock-stands h = rw (← f, h)
+-- under fixed priorities nothing is kept
+pub clock-stands : (q : Saved) (n : ℕ) (e : Event ℕ) → q .policy ≡ 0 → q ≡ clocked n e q
+clock-stands q n e h = rw h
 
-  -- else the arrival ticks are put, then the last tick
-  pub clock-goes :
-      b ≡ false → (x₁ x₂ : List ℕ) → cutTimes x₁ ≡ set (cutTimes x) sinceRegion (sinceAfter n e (stateOf T L c v x)) →
-      cutTimes x₂ ≡ set (cutTimes x₁) lastRegion (set (region (cutTimes x₁) lastRegion) 0 n) → stateOf T L c v x₂ ≡ clocked n e (stateOf T L c v x)
-  unfolding regions
-  clock-goes h x₁ x₂ s p =
-      let same : policyIn x₁ ≡ policyIn x = ap (λ (R : List (List ℕ)). at (region R policyRegion) 0) s in
-      let timed : policyIn x ≢ 0 = eqb-false (policyIn x) 0 (sym f ∙ h) in
-      last-put T L c v x₁ x₂ _ p
-      ∙ rw (last-there x₁ n (λ z. timed (sym same ∙ z)), ← f, h) (ap (λ (q : Saved). withTicks (q .since) n q) (since-put T L c v x x₁ s))
+-- else, of an event at tick n and the times x, the arrival ticks are put, then the last tick
+pub clock-goes :
+    (T L : ℕ) (c v x : List ℕ) (n : ℕ) (e : Event ℕ) → policyIn x ≢ 0 → (x₁ x₂ : List ℕ) → cutTimes x₁ ≡ set (cutTimes x) sinceRegion (sinceAfter n e (stateOf T L c v x)) →
+    cutTimes x₂ ≡ set (cutTimes x₁) lastRegion (set (region (cutTimes x₁) lastRegion) 0 n) → stateOf T L c v x₂ ≡ clocked n e (stateOf T L c v x)
+unfolding regions
+clock-goes T L c v x n e dated x₁ x₂ s p =
+    let same : policyIn x₁ ≡ policyIn x = ap (λ (R : List (List ℕ)). at (region R policyRegion) 0) s in
+    last-put T L c v x₁ x₂ _ p
+    ∙ rw (last-there x₁ n (λ z. dated (sym same ∙ z)), ne-eqb (policyIn x) 0 dated) (ap (λ (q : Saved). withTicks (q .since) n q) (since-put T L c v x x₁ s))

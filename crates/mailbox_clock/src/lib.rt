@@ -1,6 +1,7 @@
-// Ticks: their refusals, 21 to 23, and what an accepted event makes of them.
+// An event at its tick under earliest deadline first: its refusals, 21 to 23 among them, and what an accepted event makes of the ticks.
 ghost use mathlib.Core.Path.{_≡_};
-ghost use mathlib.Core.Bool.{cond};
+ghost use mathlib.Core.Logic.{_≢_};
+ghost use mathlib.Core.Bool.{cond, not};
 ghost use mathlib.Core.List.{List};
 ghost use Prim.Native.Nat.{ℕ, _+_, min};
 ghost use lib.Dec.{eqb, ltb};
@@ -9,14 +10,21 @@ ghost use Rattle.lists.specs.Lists.{upto};
 ghost use Rattle.protocol.specs.Event.{arrival, start, read, finish};
 ghost use Rattle.protocol_deadlines.specs.Timed.{tried};
 ghost use Rattle.protocol_state.specs.Saved.{at, stateRoom};
+ghost use Rattle.protocol_state.specs.Judge.{judgedOnAt};
 ghost use Rattle.protocol_state.specs.Next.{sinceAt, clocked};
-ghost use Rattle.mailbox_layout.specs.Layout.{sinceRegion, cutTimes, deadlineIn, sinceIn, lastIn, policyIn, stateOf};
+ghost use Rattle.mailbox_layout.specs.Layout.{sinceRegion, cutTimes, deadlineIn, sinceIn, lastIn, policyIn, aheadAmong, stateOf, viewOf};
 use lists::few;
+use mailbox_base::decision::FINISH;
+use mailbox_base::decision::START;
 use mailbox_base::numbers::LIMIT;
 use mailbox_base::numbers::TASKS;
 use mailbox_base::numbers::has;
 use mailbox_base::numbers::pick;
 use mailbox_judge::due_at;
+use mailbox_judge::judge_arrival;
+use mailbox_judge::judge_job;
+use mailbox_judge::judge_job_read;
+use mailbox_layout::CONTROL;
 use mailbox_layout::LAST;
 use mailbox_layout::POLICY;
 use mailbox_layout::SINCE;
@@ -25,7 +33,7 @@ use mailbox_layout::put_time;
 use mailbox_layout::time_at;
 
 // 23 where a finish of task `t` comes after its deadline: at the deadline it passes.
-pub fn late(t: u8, tick: u32, times: &[u32; TIMES]) -> u8
+fn late(t: u8, tick: u32, times: &[u32; TIMES]) -> u8
     ensures { λ r. ⌜ r ≡ cond (ltb (at (sinceIn (now (times .entry))) t + at (deadlineIn (now (times .entry))) t) tick) 23 0 ⌝ }
 {
     pick(due_at(times, t as usize) < tick as u64, 23, 0)
@@ -33,7 +41,7 @@ pub fn late(t: u8, tick: u32, times: &[u32; TIMES]) -> u8
 
 // The refusal of an event at a tick, in the order in which they are tried: 12, 22, 21, then 13 to 16, then 23. `refusal` is the one without
 // ticks, `late` 23 or 0.
-pub fn try_tick(refusal: u8, tick: u32, late: u8, times: &[u32; TIMES]) -> u8
+fn try_tick(refusal: u8, tick: u32, late: u8, times: &[u32; TIMES]) -> u8
     ensures { λ r. ⌜ r ≡ tried refusal (lastIn (now (times .entry))) tick late ⌝ }
 {
     let other = pick(refusal == 0, late, refusal);
@@ -42,21 +50,78 @@ pub fn try_tick(refusal: u8, tick: u32, late: u8, times: &[u32; TIMES]) -> u8
     pick(refusal == 12, 12, large)
 }
 
-// Whether the policy is fixed priorities: then there are no ticks to keep.
-fn is_fixed(times: &[u32; TIMES]) -> bool
-    ensures { λ r. ⌜ r ≡ eqb (policyIn (now (times .entry))) 0 ⌝ }
+// Whether the policy is earliest deadline first: under fixed priorities there are no ticks to look at or to keep, and no other function of
+// this crate is called. Who gives many events asks once.
+pub fn is_dated(times: &[u32; TIMES]) -> bool
+    ensures { λ r. ⌜ r ≡ not (eqb (policyIn (now (times .entry))) 0) ⌝ }
 {
-    time_at(times, POLICY, 0) == 0
+    time_at(times, POLICY, 0) != 0
+}
+
+// The refusal of the arrival of a set at a tick, 0 for none.
+pub fn judge_arrival_at(
+    tick: u32,
+    set: u32,
+    tasks: usize,
+    control: &[u8; CONTROL],
+    times: &[u32; TIMES],
+) -> u8
+    ensures { λ r. ⌜ (policyIn (now (times .entry)) ≢ 0 → (L : ℕ) (v : List ℕ) → r ≡ judgedOnAt (aheadAmong (now (times .entry))) (viewOf tasks L (now (control .entry)) v (now (times .entry))) tick (arrival set)) ⌝ }
+{
+    try_tick(judge_arrival(set, tasks, control), tick, 0, times)
+}
+
+// That of the start of task `t`.
+pub fn judge_start_at(
+    tick: u32,
+    t: u8,
+    tasks: usize,
+    control: &[u8; CONTROL],
+    times: &[u32; TIMES],
+) -> u8
+    ensures { λ r. ⌜ (policyIn (now (times .entry)) ≢ 0 → (L : ℕ) (v : List ℕ) → r ≡ judgedOnAt (aheadAmong (now (times .entry))) (viewOf tasks L (now (control .entry)) v (now (times .entry))) tick (start t)) ⌝ }
+{
+    try_tick(judge_job(START, t, tasks, control, times), tick, 0, times)
+}
+
+// That of a read by link `l`.
+pub fn judge_read_at(
+    tick: u32,
+    l: u8,
+    tasks: usize,
+    links: usize,
+    control: &[u8; CONTROL],
+    times: &[u32; TIMES],
+) -> u8
+    ensures { λ r. ⌜ (policyIn (now (times .entry)) ≢ 0 → (v : List ℕ) → r ≡ judgedOnAt (aheadAmong (now (times .entry))) (viewOf tasks links (now (control .entry)) v (now (times .entry))) tick (read l)) ⌝ }
+{
+    try_tick(
+        judge_job_read(l, tasks, links, control, times),
+        tick,
+        0,
+        times,
+    )
+}
+
+// That of the finish of task `t` with any value.
+pub fn judge_finish_at(
+    tick: u32,
+    t: u8,
+    tasks: usize,
+    control: &[u8; CONTROL],
+    times: &[u32; TIMES],
+) -> u8
+    ensures { λ r. ⌜ (policyIn (now (times .entry)) ≢ 0 → (L w : ℕ) (v : List ℕ) → r ≡ judgedOnAt (aheadAmong (now (times .entry))) (viewOf tasks L (now (control .entry)) v (now (times .entry))) tick (finish t w)) ⌝ }
+{
+    let refusal = judge_job(FINISH, t, tasks, control, times);
+    try_tick(refusal, tick, late(t, tick, times), times)
 }
 
 // The last tick, after an event that changes no arrival tick: a start or a read.
 pub fn tick_on(tick: u32, times: &mut [u32; TIMES])
-    ensures start { λ _. ⌜ ((T L t : ℕ) (c v : List ℕ) → stateOf T L c v (now (times .exit)) ≡ clocked tick (start t) (stateOf T L c v (now (times .entry)))) ⌝ }
-    ensures read { λ _. ⌜ ((T L l : ℕ) (c v : List ℕ) → stateOf T L c v (now (times .exit)) ≡ clocked tick (read l) (stateOf T L c v (now (times .entry)))) ⌝ }
+    ensures start { λ _. ⌜ (policyIn (now (times .entry)) ≢ 0 → (T L t : ℕ) (c v : List ℕ) → stateOf T L c v (now (times .exit)) ≡ clocked tick (start t) (stateOf T L c v (now (times .entry)))) ⌝ }
+    ensures read { λ _. ⌜ (policyIn (now (times .entry)) ≢ 0 → (T L l : ℕ) (c v : List ℕ) → stateOf T L c v (now (times .exit)) ≡ clocked tick (read l) (stateOf T L c v (now (times .entry)))) ⌝ }
 {
-    if is_fixed(times) {
-        return;
-    }
     put_time(times, LAST, 0, tick);
 }
 
@@ -75,22 +140,16 @@ fn keep_ticks(set: u32, tick: u32, tasks: usize, times: &mut [u32; TIMES])
 
 // The ticks after the arrival of a set. A count above the room is taken as the room.
 pub fn arrive_at(set: u32, tick: u32, tasks: usize, times: &mut [u32; TIMES])
-    ensures { λ _. ⌜ ((L : ℕ) (c v : List ℕ) → stateOf (min tasks (stateRoom .tasks)) L c v (now (times .exit)) ≡ clocked tick (arrival set) (stateOf (min tasks (stateRoom .tasks)) L c v (now (times .entry)))) ⌝ }
+    ensures { λ _. ⌜ (policyIn (now (times .entry)) ≢ 0 → (L : ℕ) (c v : List ℕ) → stateOf (min tasks (stateRoom .tasks)) L c v (now (times .exit)) ≡ clocked tick (arrival set) (stateOf (min tasks (stateRoom .tasks)) L c v (now (times .entry)))) ⌝ }
 {
-    if is_fixed(times) {
-        return;
-    }
     keep_ticks(set, tick, few(tasks, TASKS), times);
     put_time(times, LAST, 0, tick);
 }
 
 // The ticks after the finish of task `t`: its arrival tick is set back.
 pub fn finish_at(t: u8, tick: u32, times: &mut [u32; TIMES])
-    ensures { λ _. ⌜ ((T L w : ℕ) (c v : List ℕ) → stateOf T L c v (now (times .exit)) ≡ clocked tick (finish t w) (stateOf T L c v (now (times .entry)))) ⌝ }
+    ensures { λ _. ⌜ (policyIn (now (times .entry)) ≢ 0 → (T L w : ℕ) (c v : List ℕ) → stateOf T L c v (now (times .exit)) ≡ clocked tick (finish t w) (stateOf T L c v (now (times .entry)))) ⌝ }
 {
-    if is_fixed(times) {
-        return;
-    }
     put_time(times, SINCE, t as usize, 0);
     put_time(times, LAST, 0, tick);
 }

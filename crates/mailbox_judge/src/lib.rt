@@ -1,15 +1,15 @@
-// The refusals 12 to 16 of a sound state, tried in rising order, ticks left aside; 0 is none. Counts above the room are taken as the room.
+// The refusals 12 to 16 of a sound state, tried in rising order, under fixed priorities and with deadlines, ticks left aside; 0 is none. Counts above the room are taken as the room.
 ghost use mathlib.Core.Path.{_≡_};
-ghost use mathlib.Core.Bool.{_&&_, _||_, not};
-ghost use mathlib.Core.List.{List};
-ghost use Prim.Native.Nat.{ℕ, _+_, _<_, min};
+ghost use mathlib.Core.Bool.{cond, _&&_, _||_, not};
+ghost use Prim.Native.Nat.{_+_, min};
 ghost use Rattle.lists.specs.Lists.{every, some};
 ghost use Rattle.protocol.specs.Event.{has};
 ghost use Rattle.protocol_deadlines.specs.Deadline.{smaller};
+ghost use Rattle.protocol_state.specs.Records.{earlier};
 ghost use Rattle.protocol_state.specs.Saved.{at, stateRoom, activePhase};
 ghost use Rattle.protocol_state.specs.Decision.{decided};
-ghost use Rattle.protocol_state.specs.Judge.{allows, mayArrive, judgedArrival, preempted, judgedTask, judgedRead, soonerIn};
-ghost use Rattle.mailbox_layout.specs.Layout.{phaseIn, readerIn, deadlineIn, sinceIn, aheadAmong, stateOf};
+ghost use Rattle.protocol_state.specs.Judge.{allows, mayArrive, judgedArrival, judgedTask, judgedRead};
+ghost use Rattle.mailbox_layout.specs.Layout.{phaseIn, readerIn, deadlineIn, sinceIn, aheadAmong};
 use lists::few;
 use mailbox_base::decision::ARRIVAL;
 use mailbox_base::decision::READ;
@@ -22,7 +22,6 @@ use mailbox_base::numbers::pick;
 use mailbox_layout::CONTROL;
 use mailbox_layout::DEADLINE;
 use mailbox_layout::PHASE;
-use mailbox_layout::POLICY;
 use mailbox_layout::READER;
 use mailbox_layout::SINCE;
 use mailbox_layout::TIMES;
@@ -94,72 +93,100 @@ pub fn due_at(times: &[u32; TIMES], t: usize) -> u64
     time_at(times, SINCE, t) as u64 + time_at(times, DEADLINE, t) as u64
 }
 
-// Whether the job of task `u` goes before one of task `t` that is due then: it is due earlier, ties by the order of tasks.
+// Whether the job of task `u` goes before one of task `t` that is due then: it is due earlier, ties by the order of tasks. Few jobs are due at
+// one tick, so the order of tasks is asked for only then.
 fn is_sooner(times: &[u32; TIMES], u: usize, t: usize, due: u64) -> bool
     ensures { λ r. ⌜ r ≡ smaller (at (sinceIn (now (times .entry))) u + at (deadlineIn (now (times .entry))) u) due (aheadAmong (now (times .entry)) u t) ⌝ }
 {
     let x = due_at(times, u);
-    (x < due) | ((x == due) & is_ahead(times, u, t))
+    if x == due {
+        return is_ahead(times, u, t);
+    }
+    x < due
 }
 
-// Whether the job of a task that goes before that of `t` is active.
+// Whether the job of a task that goes before that of `t` is active. Who is idle is passed over before anything is asked of its times.
 fn some_sooner(t: usize, tasks: usize, control: &[u8; CONTROL], times: &[u32; TIMES]) -> bool
     ensures { λ r. ⌜ r ≡ some (λ u. smaller (at (sinceIn (now (times .entry))) u + at (deadlineIn (now (times .entry))) u) (at (sinceIn (now (times .entry))) t + at (deadlineIn (now (times .entry))) t) (aheadAmong (now (times .entry)) u t) && activePhase (at (phaseIn (now (control .entry))) u)) tasks ⌝ }
 {
     let due = due_at(times, t);
+    let phase = phases_in(control);
+    let end = few(tasks, phase.len());
     let mut found = false;
     let mut u = 0;
-    while u < tasks {
-        found = (is_sooner(times, u, t, due) & is_active(control_at(control, PHASE, u))) | found;
+    while u < end {
+        if is_active(phase[u]) {
+            found = is_sooner(times, u, t, due) | found;
+        }
         u += 1;
     }
     found
 }
 
-// Whether task `t`, one of so many, has to wait: a job that goes before its own is active. Under fixed priorities these are the tasks before it.
-fn must_wait(t: usize, tasks: usize, control: &[u8; CONTROL], times: &[u32; TIMES]) -> bool
-    requires { ⌜ t < tasks ⌝ }
-    ensures { λ r. ⌜ ((T L : ℕ) (v : List ℕ) → r ≡ preempted (soonerIn (aheadAmong (now (times .entry))) (stateOf T L (now (control .entry)) v (now (times .entry)))) t tasks (at (phaseIn (now (control .entry))))) ⌝ }
+// The refusal of an event of this kind in this phase, 0 for none: as the phase decides, then 16 for a task that has to wait.
+fn judge_turn(kind: usize, phase: u8, wait: bool) -> u8
+    ensures { λ r. ⌜ r ≡ cond (allows (decided kind phase)) (cond wait 16 0) (decided kind phase) ⌝ }
 {
-    if time_at(times, POLICY, 0) == 0 {
-        return some_before(t, phases_in(control));
-    }
-    some_sooner(t, tasks, control, times)
+    let next = decide(kind, phase);
+    pick(next < REFUSALS, pick(wait, 16, 0), next)
 }
 
-// The refusal of a start, a read or a finish by task `t`, ticks left aside, 0 for none.
-pub fn judge_task(
+// The refusal of a start, a read or a finish by task `t` under fixed priorities, 0 for none. It is small enough to be put in line, where its
+// kind is known: with the search by deadlines in it, it would be called, and read the decision table at each event.
+pub fn judge_task(kind: usize, t: u8, tasks: usize, control: &[u8; CONTROL]) -> u8
+    ensures { λ r. ⌜ r ≡ judgedTask earlier kind t (min tasks (stateRoom .tasks)) (at (phaseIn (now (control .entry)))) ⌝ }
+{
+    let i = t as usize;
+    if few(tasks, TASKS) <= i {
+        return 12;
+    }
+    let wait = some_before(i, phases_in(control));
+    judge_turn(kind, control_at(control, PHASE, i), wait)
+}
+
+// The refusal of a read by link `l` under fixed priorities, 0 for none: its reader is the task that reads.
+pub fn judge_read(l: u8, tasks: usize, links: usize, control: &[u8; CONTROL]) -> u8
+    ensures { λ r. ⌜ r ≡ judgedRead earlier l (min tasks (stateRoom .tasks)) (min links (stateRoom .links)) (at (readerIn (now (control .entry)))) (at (phaseIn (now (control .entry)))) ⌝ }
+{
+    let i = l as usize;
+    if few(links, LINKS) <= i {
+        return 12;
+    }
+    judge_task(READ, control_at(control, READER, i), tasks, control)
+}
+
+// The same with deadlines, ticks left aside: the job that is due earlier goes before, ties by the order of tasks.
+pub fn judge_job(
     kind: usize,
     t: u8,
     tasks: usize,
     control: &[u8; CONTROL],
     times: &[u32; TIMES],
 ) -> u8
-    ensures { λ r. ⌜ ((T L : ℕ) (v : List ℕ) → r ≡ judgedTask (soonerIn (aheadAmong (now (times .entry))) (stateOf T L (now (control .entry)) v (now (times .entry)))) kind t (min tasks (stateRoom .tasks)) (at (phaseIn (now (control .entry))))) ⌝ }
+    ensures { λ r. ⌜ r ≡ judgedTask (λ u w. smaller (at (sinceIn (now (times .entry))) u + at (deadlineIn (now (times .entry))) u) (at (sinceIn (now (times .entry))) w + at (deadlineIn (now (times .entry))) w) (aheadAmong (now (times .entry)) u w)) kind t (min tasks (stateRoom .tasks)) (at (phaseIn (now (control .entry)))) ⌝ }
 {
     let i = t as usize;
     let n = few(tasks, TASKS);
     if n <= i {
         return 12;
     }
-    let next = decide(kind, control_at(control, PHASE, i));
-    let turn = pick(must_wait(i, n, control, times), 16, 0);
-    pick(next < REFUSALS, turn, next)
+    let wait = some_sooner(i, n, control, times);
+    judge_turn(kind, control_at(control, PHASE, i), wait)
 }
 
-// The refusal of a read by link `l`, ticks left aside, 0 for none: its reader is the task that reads.
-pub fn judge_read(
+// And of a read.
+pub fn judge_job_read(
     l: u8,
     tasks: usize,
     links: usize,
     control: &[u8; CONTROL],
     times: &[u32; TIMES],
 ) -> u8
-    ensures { λ r. ⌜ ((T L : ℕ) (v : List ℕ) → r ≡ judgedRead (soonerIn (aheadAmong (now (times .entry))) (stateOf T L (now (control .entry)) v (now (times .entry)))) l (min tasks (stateRoom .tasks)) (min links (stateRoom .links)) (at (readerIn (now (control .entry)))) (at (phaseIn (now (control .entry))))) ⌝ }
+    ensures { λ r. ⌜ r ≡ judgedRead (λ u w. smaller (at (sinceIn (now (times .entry))) u + at (deadlineIn (now (times .entry))) u) (at (sinceIn (now (times .entry))) w + at (deadlineIn (now (times .entry))) w) (aheadAmong (now (times .entry)) u w)) l (min tasks (stateRoom .tasks)) (min links (stateRoom .links)) (at (readerIn (now (control .entry)))) (at (phaseIn (now (control .entry)))) ⌝ }
 {
     let i = l as usize;
     if few(links, LINKS) <= i {
         return 12;
     }
-    judge_task(READ, control_at(control, READER, i), tasks, control, times)
+    judge_job(READ, control_at(control, READER, i), tasks, control, times)
 }

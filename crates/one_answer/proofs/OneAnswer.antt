@@ -154,6 +154,7 @@ one-answer = record {
   replay = λ κs lent a b left left′ x y. let e = reply-parts (x .1 .0) (y .1 .0) (same (x .0) (y .0)) in λ i. (e .0 i, e .1 i);
   rest = λ κs lent a b left left′ x y. same x y;
   read-event = λ κs lent a b left left′ x y. one-next a b (same x y);
+  read-tickless = λ κs lent a b left left′ x y. one-next a b (same x y);
   event-in = λ κs lent a b left left′ x y. one-next a b (same x y);
   kind-of = λ κs lent a b left left′ x y. one-found a b (same (x 0) (y 0));
   refused = λ κs lent a b left left′ x y. one-next a b (same x y);

@@ -91,6 +91,8 @@ use Rattle.recording.proofs.rest.Kinds as of-rest
 use Rattle.recording.proofs.rest.Reads as on-rest
 use Rattle.recording_event.proofs.read_event.Kinds as of-read-event
 use Rattle.recording_event.proofs.read_event.Reads as on-read-event
+use Rattle.recording_event.proofs.read_tickless.Kinds as of-read-tickless
+use Rattle.recording_event.proofs.read_tickless.Reads as on-read-tickless
 use Rattle.recording_event.proofs.event_in.Kinds as of-event-in
 use Rattle.recording_event.proofs.event_in.Reads as on-event-in
 use Rattle.recording_event.proofs.kind_of.Kinds as of-kind-of
@@ -177,6 +179,7 @@ pub record OneAnswer : Type 0 where
   pub rest : One 1 of-rest.ps of-rest.r on-rest.Learnt (List ℕ) (λ κs part left. now part)
   -- `recording_event`
   pub read-event : One 1 of-read-event.ps of-read-event.r on-read-event.Learnt Next (λ κs n left. n)
+  pub read-tickless : One 1 of-read-tickless.ps of-read-tickless.r on-read-tickless.Learnt Next (λ κs n left. n)
   pub event-in : One 1 of-event-in.ps of-event-in.r on-event-in.Learnt Next (λ κs n left. n)
   pub kind-of : One 0 of-kind-of.ps of-kind-of.r on-kind-of.Learnt Found (λ κs f left. f)
   pub refused : One 0 of-refused.ps of-refused.r on-refused.Learnt Next (λ κs n left. n)

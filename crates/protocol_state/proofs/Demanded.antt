@@ -51,13 +51,13 @@ module _ {ahead : ℕ → ℕ → Bool} {size : Size} {q₀ : Saved} (order : By
   value-same x (read l) ok p = reached-number r x l ok ∙ number-same T same-before l ∙ sym (D2 .number T L order H P x l p)
   value-same x (finish t v) ok p = sym (D1 .silent T L order H P x (finish t v) tt)
 
-  -- an event at tick x, handed over for the table's policy p
-  module _ (p : ℕ) (own : q₀ .policy ≡ p) (x : ℕ) (e : Event ℕ) where
+  -- an event at tick x, 0 under fixed priorities, handed over for the table's policy p
+  module _ (p : ℕ) (own : q₀ .policy ≡ p) (x : ℕ) (none : q₀ .policy ≡ 0 → x ≡ 0) (e : Event ℕ) where
     abbrev answer : Reply
     answer = give ahead size p (o .state) x e
 
     refusal-same : answer .refusal ≡ B .reply T H x e .refusal
-    refusal-same = reached-refusal r order p own x e ∙ sym (D1 .number T L order H P x e)
+    refusal-same = reached-refusal r order p own x none e ∙ sym (D1 .number T L order H P x e)
 
     -- the whole answer is the same: where it is accepted, one step of the published protocol from the same boxes; where it is refused, all as before
     pub as-demanded : Alike answer (B .reply T H x e)
@@ -66,7 +66,7 @@ module _ {ahead : ℕ → ℕ → Bool} {size : Size} {q₀ : Saved} (order : By
         go : (b : Bool) → eqb (answer .refusal) 0 ≡ b → Alike answer (B .reply T H x e)
         go true i =
             let ok : judgedOnAt ahead (o .state) x e ≡ 0 = sym (give-refusal ahead size p (o .state) x e (reached-for r p own)) ∙ eqb-true _ 0 i in
-            let y : PossibleAt T H x e = judged-possible-at T H x e (sym (reached-refusal r order p own x e) ∙ eqb-true _ 0 i) in
+            let y : PossibleAt T H x e = judged-possible-at T H x e (sym (reached-refusal r order p own x none e) ∙ eqb-true _ 0 i) in
             let d = give-done ahead size p (o .state) x e (reached-for r p own) ok in
             record {
               refusal = refusal-same;

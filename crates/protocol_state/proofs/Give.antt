@@ -3,10 +3,10 @@
 use mathlib.Core.Path.{_≡_, refl, sym, ap, _∙_}
 use mathlib.Core.Logic.{_≢_, _⊎_, inl, inr}
 use mathlib.Core.Bool.{Bool, true, false, cond, _||_}
-use Prim.Native.Nat.{ℕ, _^_, _≤_}
+use Prim.Native.Nat.{ℕ, _^_, _≤_, _<_}
 use native.Mathlib.Omega.{arith}
 use borrow.Author.Tests.{eqb-true, eqb-false, ne-eqb}
-use lib.Dec.{eqb, ltb, leb}
+use lib.Dec.{eqb, ltb, leb, lit<}
 use Rattle.lists.specs.Lists.{every}
 use Rattle.lists.proofs.Bools.{and-right, cond-small}
 use Rattle.protocol.specs.Event.{Event, arrival, start, read, finish}
@@ -20,7 +20,7 @@ use Rattle.protocol_state.specs.Sound.{isSound, testedSound}
 use Rattle.protocol_state.specs.Give.{Reply, reply, settled, Call, plainly, ticked, callPolicy, callTick, callEvent, soundFor, give, givenTo}
 use Rattle.protocol_state.proofs.Decision.{decided-small}
 use Rattle.protocol_state.proofs.Sound.{sound-says, says-sound}
-use Rattle.protocol_state.proofs.Keeps.{order-same, next-shape, next-sound}
+use Rattle.protocol_state.proofs.Keeps.{FitsTick, order-same, next-shape, next-sound}
 
 module _ {sound : Bool} (r : ℕ) (q q′ : Saved) (v : ℕ) where
   -- an unsound state is answered 19
@@ -81,7 +81,7 @@ late-ways q x (finish t v) = go (ltb (dueIn q t) x)
 
 module _ (ahead : ℕ → ℕ → Bool) where
   -- no event is judged above 16, ticks left aside
-  pub judged-small : (q : Saved) (e : Event ℕ) → judgedOn ahead q e ≤ 16
+  judged-small : (q : Saved) (e : Event ℕ) → judgedOn ahead q e ≤ 16
   unfolding judgedArrival judgedRead
   judged-small q (arrival m) =
       cond-small (eqb m 0 || leb (2 ^ (q .tasks)) m) (omega arith) (cond-small (every (mayArrive m (at (q .phase))) (q .tasks)) (omega arith) (omega arith))
@@ -89,22 +89,31 @@ module _ (ahead : ℕ → ℕ → Bool) where
   judged-small q (read l) = cond-small (leb (q .links) l) (omega arith) (task-small (soonerIn ahead q) 2 (at (q .reader) l) (q .tasks) (at (q .phase)))
   judged-small q (finish t v) = task-small (soonerIn ahead q) 3 t (q .tasks) (at (q .phase))
 
-  -- so none is judged 19
-  pub judged-not-19 : (q : Saved) (x : ℕ) (e : Event ℕ) → judgedOnAt ahead q x e ≢ 19
+  -- so none is judged 17 to 20, at whatever tick
+  pub never-judged : (q : Saved) (x : ℕ) (e : Event ℕ) (n : ℕ) → 16 < n → n < 21 → judgedOnAt ahead q x e ≢ n
   unfolding judgedOnAt
-  judged-not-19 q x e i = go (tried-ways (judgedOn ahead q e) (q .last) x (lateIn q x e)) (late-ways q x e)
+  never-judged q x e n above below = go (eqb (q .policy) 0)
     where
-      go : (tried (judgedOn ahead q e) (q .last) x (lateIn q x e) ≡ judgedOn ahead q e) ⊎ ((21 ≤ tried (judgedOn ahead q e) (q .last) x (lateIn q x e)) ⊎ (tried (judgedOn ahead q e) (q .last) x (lateIn q x e) ≡ lateIn q x e))
-          → (lateIn q x e ≡ 0) ⊎ (lateIn q x e ≡ 23) → ⊥
-      go (inl a) b = let s = judged-small q e in omega (arith, a, i, s)
-      go (inr (inl a)) b = omega (arith, a, i)
-      go (inr (inr a)) (inl b) = omega (arith, a, b, i)
-      go (inr (inr a)) (inr b) = omega (arith, a, b, i)
+      ticked-never : (tried (judgedOn ahead q e) (q .last) x (lateIn q x e) ≡ judgedOn ahead q e) ⊎ ((21 ≤ tried (judgedOn ahead q e) (q .last) x (lateIn q x e)) ⊎ (tried (judgedOn ahead q e) (q .last) x (lateIn q x e) ≡ lateIn q x e))
+          → (lateIn q x e ≡ 0) ⊎ (lateIn q x e ≡ 23) → tried (judgedOn ahead q e) (q .last) x (lateIn q x e) ≡ n → ⊥
+      ticked-never (inl a) b i = let s = judged-small q e in omega (arith, above, a, i, s)
+      ticked-never (inr (inl a)) b i = omega (arith, below, a, i)
+      ticked-never (inr (inr a)) (inl b) i = omega (arith, above, a, b, i)
+      ticked-never (inr (inr a)) (inr b) i = omega (arith, below, a, b, i)
 
-  -- what is accepted without ticks, and of ticks: none falls, and none is too large
-  pub judged-parts : (q : Saved) (x : ℕ) (e : Event ℕ) → judgedOnAt ahead q x e ≡ 0 → (judgedOn ahead q e ≡ 0) × (q .last ≤ x) × (x ≤ limit) × (lateIn q x e ≡ 0)
+      go : (b : Bool) → cond b (judgedOn ahead q e) (tried (judgedOn ahead q e) (q .last) x (lateIn q x e)) ≡ n → ⊥
+      go true i = let s = judged-small q e in omega (arith, above, i, s)
+      go false i = ticked-never (tried-ways (judgedOn ahead q e) (q .last) x (lateIn q x e)) (late-ways q x e) i
+
+  -- what is accepted is so without ticks; and under deadlines no tick falls, and none is too large
+  pub judged-parts : (q : Saved) (x : ℕ) (e : Event ℕ) → judgedOnAt ahead q x e ≡ 0 → (judgedOn ahead q e ≡ 0) × (q .policy ≢ 0 → FitsTick q x)
   unfolding judgedOnAt
-  judged-parts q x e z = tried-zero (judgedOn ahead q e) (q .last) x (lateIn q x e) z
+  judged-parts q x e = go (eqb (q .policy) 0) refl
+    where
+      go : (b : Bool) → eqb (q .policy) 0 ≡ b → cond b (judgedOn ahead q e) (tried (judgedOn ahead q e) (q .last) x (lateIn q x e)) ≡ 0
+          → (judgedOn ahead q e ≡ 0) × (q .policy ≢ 0 → FitsTick q x)
+      go true i z = (z, λ n. absurd (n (eqb-true (q .policy) 0 i)))
+      go false i z = let w = tried-zero (judgedOn ahead q e) (q .last) x (lateIn q x e) z in (w .0, λ n. (w .1, w .2))
 
   module _ (size : Size) (p : ℕ) (q : Saved) (x : ℕ) (e : Event ℕ) where
     abbrev answer : Reply
@@ -138,7 +147,7 @@ module _ (ahead : ℕ → ℕ → Bool) where
     nineteen = (go (soundFor ahead size p q) refl, give-unsound) where
       go : (b : Bool) → soundFor ahead size p q ≡ b → give ahead size p q x e .refusal ≡ 19 → soundFor ahead size p q ≡ false
       go false s i = s
-      go true s i = absurd (judged-not-19 q x e (sym (give-refusal s) ∙ i))
+      go true s i = absurd (never-judged q x e 19 (lit< tt) (lit< tt) (sym (give-refusal s) ∙ i))
 
     -- a refusal gives the state as lent and the value 0
     pub refused-same : give ahead size p q x e .refusal ≢ 0 → (give ahead size p q x e .state ≡ q) × (give ahead size p q x e .value ≡ 0)
@@ -171,7 +180,7 @@ module _ (ahead : ℕ → ℕ → Bool) where
       go : Ways (soundFor ahead size p q) (judgedOnAt ahead q x e) q (nextAt ahead q x e) (valueOf q e) answer → Shape size (answer .state) × (isSound ahead size (answer .state) ≡ true)
       go (inl w) =
           let j = judged-parts q x e (w .1) in
-          rw (w .2) (next-shape ahead S x e, says-sound ahead size (nextAt ahead q x e) (next-sound S (sound-says ahead size q s) x (j .1, j .2) e (j .0)))
+          rw (w .2) (next-shape ahead S x e, says-sound ahead size (nextAt ahead q x e) (next-sound S (sound-says ahead size q s) x (j .1) e (j .0)))
       go (inr w) = rw (w .0) (S, s)
 
 -- a call for fixed priorities has no tick

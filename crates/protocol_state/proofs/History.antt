@@ -65,15 +65,15 @@ module _ {ahead : ℕ → ℕ → Bool} {size : Size} {q₀ : Saved} {o : Progre
   noted x (finish u v) ok t = r .read
 
   module _ (order : ByDeadline (table ahead q₀)) where
-    -- 12 to 16 and 21 to 23, as the state judges them, are what the table and the history say
-    pub judged-history : (x : ℕ) (e : Event ℕ) → judgedOnAt ahead (o .state) x e ≡ judgedAt (table ahead q₀) (o .history) x e
-    judged-history x e =
-        judged-at-tick (o .state) (r .sound) (subst (λ (T : Table ℕ). ByDeadline T) (sym (r .same)) order) (o .history) (r .agrees) (r .ticks) (r .shape) x e
+    -- 12 to 16 and 21 to 23, as the state judges them, are what the table and the history say; under fixed priorities at tick 0
+    pub judged-history : (x : ℕ) → (q₀ .policy ≡ 0 → x ≡ 0) → (e : Event ℕ) → judgedOnAt ahead (o .state) x e ≡ judgedAt (table ahead q₀) (o .history) x e
+    judged-history x none e =
+        judged-at-tick (o .state) (r .sound) (subst (λ (T : Table ℕ). ByDeadline T) (sym (r .same)) order) (o .history) (r .agrees) (r .ticks) (r .shape) x (λ z. none (sym (r .policy) ∙ z)) e
         ∙ ap (λ (T : Table ℕ). judgedAt T (o .history) x e) (r .same)
 
     -- the refusal of the next event is what the table and the history say
-    pub reached-refusal : (p : ℕ) → q₀ .policy ≡ p → (x : ℕ) (e : Event ℕ) → give ahead size p (o .state) x e .refusal ≡ judgedAt (table ahead q₀) (o .history) x e
-    reached-refusal p i x e = give-refusal ahead size p (o .state) x e (reached-for p i) ∙ judged-history x e
+    pub reached-refusal : (p : ℕ) → q₀ .policy ≡ p → (x : ℕ) → (q₀ .policy ≡ 0 → x ≡ 0) → (e : Event ℕ) → give ahead size p (o .state) x e .refusal ≡ judgedAt (table ahead q₀) (o .history) x e
+    reached-refusal p i x none e = give-refusal ahead size p (o .state) x e (reached-for p i) ∙ judged-history x none e
 
     -- where it is allowed, and under fixed priorities at tick 0, what it makes is reached
     pub reached-done : (x : ℕ) (e : Event ℕ) → (q₀ .policy ≡ 0 → x ≡ 0) → judgedOnAt ahead (o .state) x e ≡ 0
@@ -81,11 +81,11 @@ module _ {ahead : ℕ → ℕ → Bool} {size : Size} {q₀ : Saved} {o : Progre
     unfolding AllPossibleAt untimed
     reached-done x e none ok =
         let j = judged-parts ahead (o .state) x e ok in
-        let p : PossibleAt (table ahead q₀) (o .history) x e = judged-possible-at (table ahead q₀) (o .history) x e (sym (judged-history x e) ∙ ok) in
+        let p : PossibleAt (table ahead q₀) (o .history) x e = judged-possible-at (table ahead q₀) (o .history) x e (sym (judged-history x none e) ∙ ok) in
         let t = reached-step x e ok in
         record {
           shape = next-shape ahead (r .shape) x e;
-          sound = next-sound (r .shape) (r .sound) x (j .1, j .2) e (j .0);
+          sound = next-sound (r .shape) (r .sound) x (j .1) e (j .0);
           same = table-same ahead (o .state) x e ∙ r .same;
           policy = policy-same ahead (o .state) x e ∙ r .policy;
           agrees = agrees-next (r .shape) (r .sound) (untimed (o .history)) (r .agrees) x e (j .0);

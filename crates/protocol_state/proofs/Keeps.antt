@@ -1,6 +1,7 @@
 -- Each allowed event keeps a sound state sound, of its shape, and of its table.
 -- Assumes nothing.
 use mathlib.Core.Path.{_≡_, refl, sym, _∙_}
+use mathlib.Core.Logic.{_≢_}
 use mathlib.Core.Bool.{Bool, true, false, cond, _&&_}
 use mathlib.Core.List.{List}
 use Prim.Native.Nat.{ℕ, _+_, _^_, _≤_, _<_}
@@ -380,13 +381,28 @@ module _ {ahead : ℕ → ℕ → Bool} {size : Size} (q : Saved) (G : Sound ahe
             absent l h (yes e) a z = freed-at l ∙ rw (lt-ltb l (q .links) h, eq-eqb (at (q .reader) l) t e, rw e at a)
             absent l h (no e) a z = others-stay l h e ∙ G .absent l h a (sym (getD-set-other (q .phase) t (at (q .reader) l) _ 0 e) ∙ z)
 
--- what is sound stays sound
-pub next-sound : {ahead : ℕ → ℕ → Bool} {size : Size} {q : Saved} → Shape size q → Sound ahead size q → (x : ℕ) → FitsTick q x → (e : Event ℕ) → judgedOn ahead q e ≡ 0
+-- under fixed priorities the tick of an event makes no difference to what it makes of the state
+any-tick : (ahead : ℕ → ℕ → Bool) (q : Saved) (x y : ℕ) (e : Event ℕ) → eqb (q .policy) 0 ≡ true → nextAt ahead q x e ≡ nextAt ahead q y e
+any-tick ahead q x y (arrival s) i = rw i
+any-tick ahead q x y (start t) i = rw i
+any-tick ahead q x y (read l) i = rw i
+any-tick ahead q x y (finish t v) i = rw i
+
+next-fitting : {ahead : ℕ → ℕ → Bool} {size : Size} {q : Saved} → Shape size q → Sound ahead size q → (x : ℕ) → FitsTick q x → (e : Event ℕ) → judgedOn ahead q e ≡ 0
     → Sound ahead size (nextAt ahead q x e)
-next-sound {q = q} S G x tick (arrival s) ok = arrived-sound q G S s ok x tick
-next-sound {q = q} S G x tick (start t) ok = started-sound q G S t ok x tick
-next-sound {q = q} S G x tick (read l) ok = read-sound q G S x tick l
-next-sound {q = q} S G x tick (finish t v) ok = finished-sound q G S t v ok x tick
+next-fitting {q = q} S G x tick (arrival s) ok = arrived-sound q G S s ok x tick
+next-fitting {q = q} S G x tick (start t) ok = started-sound q G S t ok x tick
+next-fitting {q = q} S G x tick (read l) ok = read-sound q G S x tick l
+next-fitting {q = q} S G x tick (finish t v) ok = finished-sound q G S t v ok x tick
+
+-- what is sound stays sound: only under deadlines does the tick have to fit
+pub next-sound : {ahead : ℕ → ℕ → Bool} {size : Size} {q : Saved} → Shape size q → Sound ahead size q → (x : ℕ) → (q .policy ≢ 0 → FitsTick q x) → (e : Event ℕ) → judgedOn ahead q e ≡ 0
+    → Sound ahead size (nextAt ahead q x e)
+next-sound {ahead} {size} {q} S G x tick e ok = go (eqb (q .policy) 0) refl
+  where
+    go : (b : Bool) → eqb (q .policy) 0 ≡ b → Sound ahead size (nextAt ahead q x e)
+    go true i = rw (any-tick ahead q x (q .last) e i) (next-fitting S G (q .last) (omega arith, G .times .small) e ok)
+    go false i = next-fitting S G x (tick (eqb-false (q .policy) 0 i)) e ok
 
 -- one of two lists of a length has it
 either-length : (b : Bool) (xs ys : List ℕ) {n : ℕ} → length xs ≡ n → length ys ≡ n → length (cond b xs ys) ≡ n

@@ -118,6 +118,33 @@ module _ {ahead : ℕ → ℕ → Bool} {size : Size} (q : Saved) (G : Sound ahe
           let a : ahead u t ≡ ltb u t = O u t ∙ smaller-tie _ _ (ltb u t) (du ∙ sym dt) in
           sym (smaller-tie (dueIn q u) (dueIn q t) (ahead u t) (omega (arith, z, du, dt, G .times .none-later u k, G .times .none-later t l)) ∙ a)
 
+-- ---- so is the refusal at a tick, which under fixed priorities is 0
+no-tick : (r z x late : ℕ) → z ≡ 0 → x ≡ 0 → late ≡ 0 → r ≡ tried r z x late
+no-tick r z x late a b c = rw (le-ltb limit x (omega arith), le-ltb x z (omega arith), c) (go (eqb r 12) refl (eqb r 0) refl)
+  where
+    go : (b : Bool) → eqb r 12 ≡ b → (d : Bool) → eqb r 0 ≡ d → r ≡ cond b 12 (cond d 0 r)
+    go true e d f = eqb-true r 12 e
+    go false e true f = eqb-true r 0 f
+    go false e false f = refl
+
+late-never : (q : Saved) (x : ℕ) (e : Event ℕ) → x ≡ 0 → lateIn q x e ≡ 0
+late-never q x (arrival m) z = refl
+late-never q x (start t) z = refl
+late-never q x (read l) z = refl
+late-never q x (finish t v) z = rw (le-ltb (dueIn q t) x (omega arith))
+
+pub judged-both : {ahead : ℕ → ℕ → Bool} {size : Size} (q : Saved) → Sound ahead size q → (x : ℕ) → (q .policy ≡ 0 → x ≡ 0) → (e : Event ℕ)
+    → judgedOnAt ahead q x e ≡ tried (judgedOn ahead q e) (q .last) x (lateIn q x e)
+unfolding judgedOnAt
+judged-both {ahead} q G x none e = go (eqb (q .policy) 0) refl
+  where
+    go : (b : Bool) → eqb (q .policy) 0 ≡ b → cond b (judgedOn ahead q e) (tried (judgedOn ahead q e) (q .last) x (lateIn q x e))
+        ≡ tried (judgedOn ahead q e) (q .last) x (lateIn q x e)
+    go false i = refl
+    go true i =
+        let p = eqb-true (q .policy) 0 i in
+        no-tick (judgedOn ahead q e) (q .last) x (lateIn q x e) (G .times .unclocked p) (none p) (late-never q x e (none p))
+
 module _ {ahead : ℕ → ℕ → Bool} {size : Size} (q : Saved) (G : Sound ahead size q) (O : ByDeadline (table ahead q)) (H : List (Timed ℕ)) (A : Agrees (untimed H) q) (K : Ticks H q) where
   abbrev h : List (Event ℕ)
   h = untimed H
@@ -184,10 +211,11 @@ module _ {ahead : ℕ → ℕ → Bool} {size : Size} (q : Saved) (G : Sound ahe
       rw (K .since t (rw (active-is (A t), ne-eqb _ 0 up)))
 
   -- so is the refusal at a tick
-  pub judged-at-tick : Shape size q → (x : ℕ) (e : Event ℕ) → judgedOnAt ahead q x e ≡ judgedAt (table ahead q) H x e
-  unfolding judgedOnAt judgedAt
-  judged-at-tick S x e =
-      late-same (judgedOn ahead q e) (q .last) x (lateIn q x e) (late (table ahead q) (ticks H) h x e) (late-is S x e)
+  pub judged-at-tick : Shape size q → (x : ℕ) → (q .policy ≡ 0 → x ≡ 0) → (e : Event ℕ) → judgedOnAt ahead q x e ≡ judgedAt (table ahead q) H x e
+  unfolding judgedAt
+  judged-at-tick S x none e =
+      judged-both q G x none e
+      ∙ late-same (judgedOn ahead q e) (q .last) x (lateIn q x e) (late (table ahead q) (ticks H) h x e) (late-is S x e)
       ∙ rw (judged-by-history e, K .last)
 
 -- ---- arrival ticks, by the state and by the history

@@ -75,6 +75,6 @@ module _ (ahead : ℕ → ℕ → Bool) where
   abbrev pub judgedOn : Saved → Event ℕ → ℕ
   judgedOn q e = judgedEvent (soonerIn q) e (q .tasks) (q .links) (at (q .reader)) (at (q .phase))
 
-  -- and at tick x
+  -- and at tick x. Under fixed priorities no tick is looked at: on a sound state and at tick 0 that is the same (`judged-both`)
   unfoldable pub judgedOnAt : Saved → ℕ → Event ℕ → ℕ
-  judgedOnAt q x e = tried (judgedOn q e) (q .last) x (lateIn q x e)
+  judgedOnAt q x e = cond (eqb (q .policy) 0) (judgedOn q e) (tried (judgedOn q e) (q .last) x (lateIn q x e))

@@ -34,7 +34,7 @@ use Rattle.recording_core.specs.Playing.{Playing, coreOf, judgedIn, step
 use Rattle.recording_core.specs.Promise.{refusedBy, tableOf, CoreGenuine}
 use Rattle.protocol.specs.History.{past}
 use Rattle.recording_core.specs.Right.{Right}
-use Rattle.recording_core.proofs.Right.{Still, fits-still, refused-by, own-ahead, right-fresh, right-finally, happens-allowed}
+use Rattle.recording_core.proofs.Right.{Still, fits-still, read-still, refused-by, own-ahead, right-fresh, right-finally, happens-allowed}
 
 -- a table that earns no refusal
 abbrev Fine : Size → ℕ → List Task → List Link → Type 0
@@ -140,6 +140,7 @@ module _ (kind : RecordingKind) (dates : Dates kind) (size : Size) (held : InRoo
       {s : List ℕ} {ds : List Task} {ls : List Link} {m r p : ℕ} {es : List (Timed ℕ)} → TableTo kind s ds ls m
       → Faulty (events kind) (eventLimit kind) judgedIn steppedIn s (coreOf size (kind .policy) out .start ds ls) m es r p
       → {e : Timed ℕ} {n : ℕ} → eventAt kind s p ≡ got e n → r ≡ refusedBy (tableOf size (kind .policy) ds ls) out (past [] es) e
-  event-refused {ds = ds} {ls = ls} {es = es} t f {e} u =
+  unfolding freshOf
+  event-refused {s} {ds = ds} {ls = ls} {p = p} {es = es} t f {e} {n} u =
       let R = goes-on ds ls es (t .tasked .whole .kept .fits) (f .played .fits) (table-ok t) (f .played .allowed) in
-      f .fault ∙ rw u (refused-by R e) ∙ ap (λ (T : Table ℕ). refusedBy T out (past [] es) e) (own-table ds ls (table-ok t))
+      f .fault ∙ rw u (refused-by R e (read-still kind dates s p e n u)) ∙ ap (λ (T : Table ℕ). refusedBy T out (past [] es) e) (own-table ds ls (table-ok t))

@@ -29,10 +29,13 @@ use Rattle.protocol_state.proofs.Rules as rules
 use Rattle.protocol_state.proofs.Freshes.{judged-dated, fresh-ahead}
 use Rattle.protocol_state.proofs.History.{judged-history, reached-done, reached-fresh}
 use Rattle.protocol_state.proofs.Numbers.{reached-ideals, reached-count}
-use Rattle.byte_format.specs.Format.{FitEach}
+use Rattle.byte_format.specs.Number.{numberOf}
+use Rattle.byte_format.specs.Format.{got, FitEach}
 use Rattle.byte_format.specs.Play.{Allowed, finally}
+use Rattle.byte_format.proofs.Kinded.{record-got}
 use Rattle.recording_format.specs.RecordingKind.{RecordingKind}
-use Rattle.recording_format.specs.Event.{EventFits, events}
+use Rattle.recording_format.specs.Event.{EventFits, eventKinds, eventAt, events}
+use Rattle.recording_format.proofs.EventKinds.{byteOf, events-told}
 use Rattle.recording_format.proofs.TaskRules.{Dates}
 use Rattle.recording_core.specs.Playing.{Playing, noCounts, full, noRoom, listedBy, judgedIn, steppedIn}
 use Rattle.recording_core.specs.Promise.{placed, refusedBy}
@@ -46,7 +49,7 @@ Still p (timed x e ∷ es) = (p ≡ 0 → x ≡ 0) × Still p es
 
 -- for there a tick has no bytes
 module _ (kind : RecordingKind) (dates : Dates kind) where
-  no-bytes : (x : ℕ) → x < 256 ^ (kind .tickWidth) → kind .policy ≡ 0 → x ≡ 0
+  pub no-bytes : (x : ℕ) → x < 256 ^ (kind .tickWidth) → kind .policy ≡ 0 → x ≡ 0
   no-bytes x w z = let v : x < 256 ^ 0 = rw (dates .unticked z) at w in omega arith
 
   tick-fits : (x : ℕ) (e : Event ℕ) → EventFits kind (timed x e) → kind .policy ≡ 0 → x ≡ 0
@@ -60,6 +63,12 @@ module _ (kind : RecordingKind) (dates : Dates kind) where
   unfolding FitEach Still
   fits-still [] f = tt
   fits-still (timed x e ∷ es) f = (tick-fits x e (f .0), fits-still es (f .1))
+
+  -- nor has an event that is read there
+  pub read-still : (s : List ℕ) (p : ℕ) (e : Timed ℕ) (n : ℕ) → eventAt kind s p ≡ got e n → Still (kind .policy) (e ∷ [])
+  unfolding Still numberOf
+  read-still s p e n u =
+      subst (λ (x : Timed ℕ). Still (kind .policy) (x ∷ [])) (record-got (eventKinds kind) byteOf (events-told kind) s p e n u .1) (λ z. rw (dates .unticked z), tt)
 
 -- the order of a state's own tasks is the one by its deadlines
 pub own-order : (q : Saved) → ByDeadline (table (aheadIn q) q)
@@ -127,31 +136,36 @@ module _ {size : Size} {q₀ : Saved} {out : List ℕ} {H : List (Timed ℕ)} {q
   same-order : aheadIn (q .state) ≡ aheadIn q₀
   same-order = ap (λ (T : Table ℕ). aheadBy (T .deadline)) (R .reached .same)
 
-  -- what the state says of an event is what the table and the history say
-  own-judged : (x : ℕ) (e : Event ℕ) → judgedOnAt (aheadIn (q .state)) (q .state) x e ≡ judgedAt T H x e
-  own-judged x e = ap (λ (ahead : ℕ → ℕ → Bool). judgedOnAt ahead (q .state) x e) same-order ∙ judged-history (R .reached) (own-order q₀) x e
+  -- what the state says of an event, at tick 0 under fixed priorities, is what the table and the history say
+  own-judged : (x : ℕ) → (q₀ .policy ≡ 0 → x ≡ 0) → (e : Event ℕ) → judgedOnAt (aheadIn (q .state)) (q .state) x e ≡ judgedAt T H x e
+  own-judged x none e = ap (λ (ahead : ℕ → ℕ → Bool). judgedOnAt ahead (q .state) x e) same-order ∙ judged-history (R .reached) (own-order q₀) x none e
 
   own-next : (x : ℕ) (e : Event ℕ) → nextAt (aheadIn (q .state)) (q .state) x e ≡ nextAt (aheadIn q₀) (q .state) x e
   own-next x e = ap (λ (ahead : ℕ → ℕ → Bool). nextAt ahead (q .state) x e) same-order
 
   -- the refusal of an event is what the table and the history alone say
-  pub refused-by : (e : Timed ℕ) → judgedIn q e ≡ refusedBy (table (aheadIn q₀) q₀) out H e
-  unfolding judgedIn
-  refused-by (timed x e) = rw (own-judged x e, list-length, reads-is)
+  pub refused-by : (e : Timed ℕ) → Still (q₀ .policy) (e ∷ []) → judgedIn q e ≡ refusedBy (table (aheadIn q₀) q₀) out H e
+  unfolding judgedIn Still
+  refused-by (timed x e) S = rw (own-judged x (S .0) e, list-length, reads-is)
 
-  module _ (x : ℕ) (e : Event ℕ) where
-    -- an event is accepted only if it could happen and there is room
+  -- an event at tick 0 under fixed priorities
+  module _ (x : ℕ) (e : Event ℕ) (none : q₀ .policy ≡ 0 → x ≡ 0) where
+    refused-so : judgedIn q (timed x e) ≡ refusedBy (table (aheadIn q₀) q₀) out H (timed x e)
+    unfolding Still
+    refused-so = refused-by (timed x e) (none, tt)
+
+    -- it is accepted only if it could happen and there is room
     allowed-could : judgedIn q (timed x e) ≡ 0 → PossibleAt T H x e × (reads (e ∷ h) ≤ length out)
     allowed-could z =
-        let b = both-zero (judgedAt T H x e) _ (sym (refused-by (timed x e)) ∙ z) in
+        let b = both-zero (judgedAt T H x e) _ (sym refused-so ∙ z) in
         (judged-possible-at T H x e (b .0), room-left e h out (R .room) (b .1))
 
     -- and always if it could, and there is
     could-allowed : PossibleAt T H x e → reads (e ∷ h) ≤ length out → judgedIn q (timed x e) ≡ 0
-    could-allowed p r = refused-by (timed x e) ∙ rw (eq-eqb _ 0 (possible-judged-at T H x e p)) (room-enough e h out r)
+    could-allowed p r = refused-so ∙ rw (eq-eqb _ 0 (possible-judged-at T H x e p)) (room-enough e h out r)
 
-    -- one accepted event more, at tick 0 under fixed priorities
-    module _ (none : q₀ .policy ≡ 0 → x ≡ 0) (z : judgedIn q (timed x e) ≡ 0) where
+    -- one accepted event more
+    module _ (z : judgedIn q (timed x e) ≡ 0) where
       core-allows : judgedOnAt (aheadIn q₀) (q .state) x e ≡ 0
       unfolding judgedIn
       core-allows = ap (λ (ahead : ℕ → ℕ → Bool). judgedOnAt ahead (q .state) x e) (sym same-order) ∙ both-zero (judgedOnAt (aheadIn (q .state)) (q .state) x e) _ z .0
@@ -201,7 +215,7 @@ module _ {size : Size} {q₀ : Saved} {out : List ℕ} where
   happens-allowed [] S R A r = tt
   happens-allowed (timed x e ∷ es) {H} S R A r =
       let m : reads (e ∷ untimed H) ≤ reads (untimed (past (timed x e ∷ H) es)) = reads-past (timed x e ∷ H) es in
-      let z = could-allowed R x e (past-possible (table (aheadIn q₀) q₀) (timed x e ∷ H) es A .0) (omega arith) in
+      let z = could-allowed R x e (S .0) (past-possible (table (aheadIn q₀) q₀) (timed x e ∷ H) es A .0) (omega arith) in
       (z, happens-allowed es (S .1) (right-next R x e (S .0) z) A r)
 
 module _ (size : Size) (p : ℕ) (ts : List Task) (ls : List Link) (ok : judgedLists size p ts ls ≡ 0) where

@@ -18,6 +18,7 @@ use Rattle.protocol.specs.Schedule.{judged}
 use Rattle.protocol_deadlines.specs.Timed.{Timed, timed, untimed, judgedAt}
 use Rattle.protocol_state.specs.Records.{Task, aheadOf}
 use Rattle.protocol_state.specs.Saved.{stateRoom}
+use Rattle.protocol_state.specs.Fresh.{freshOf}
 use Rattle.byte_format.specs.Number.{bytesOf}
 use Rattle.byte_format.specs.Format.{Format, encodes, encodeSection}
 use Rattle.byte_format.specs.Play.{verdict, finally, Allowed}
@@ -32,15 +33,16 @@ use Rattle.recording_format.specs.RecordingKind.{RecordingKind, anyKind, linkLi
 use Rattle.recording_format.specs.Recording.{encodeRecording, tasksEnd, tableEnd, Core, stateAfter, Recorded}
 use Rattle.recording_format.specs.Writing.{tableWeighed, recordingWeighed, writing}
 use Rattle.recording_format.specs.Words.{tasksSaid, linksSaid, eventsSaid}
-use Rattle.recording_format.proofs.AllKinds.{kind-room, kind-dates}
+use Rattle.recording_format.proofs.AllKinds.{kind-room, kind-dates, tick-bytes}
+use Rattle.recording_format.proofs.Words.{TicksFit, ticks-said}
 use Rattle.recording_format.proofs.Onward.{in-order}
-use Rattle.recording_format.proofs.TaskRules.{fitting-policed}
+use Rattle.recording_format.proofs.TaskRules.{Dates, fitting-policed}
 use Rattle.recording_format.proofs.LinkRules.{recorded-judged}
 use Rattle.recording_format.proofs.AsWritten.{tasks-weighed}
 use Rattle.recording_format.proofs.Sizes.{within-events}
 use Rattle.recording_core.specs.Playing.{Playing, coreOf, judgedIn, alone}
 use Rattle.recording_core.specs.Promise.{refusedBy}
-use Rattle.recording_core.proofs.Right.{refused-by, fits-still}
+use Rattle.recording_core.proofs.Right.{Still, no-bytes, fits-still, refused-by}
 use Rattle.recording_core.proofs.Rooms.{whole-with-room}
 use Rattle.recording_write.specs.declared.Written.{Written}
 use Rattle.demands.specs.Station.{station}
@@ -63,6 +65,13 @@ module _ {A S : Type 0} (F : Format A) (judge : S → A → ℕ) (step : S → A
       let i = weighed-stops ending (step q y) xs x ys (p + length (F .encode y)) (a .1) n in
       let e : p + length (F .encode y) + length (encodes F xs) ≡ p + length (encodes F (y ∷ xs)) = omega (arith, length-append (F .encode y) (encodes F xs)) in
       rw (eq-eqb (judge q y) 0 (a .0)) (rw e at i)
+
+-- where ticks have no bytes, no event that is handed over has one
+said-still :
+    (kind : RecordingKind) → Dates kind → (es : List (Timed ℕ)) (x : ℕ) (e : Event ℕ) (rest : List (Timed ℕ)) → TicksFit kind (es ++ (timed x e ∷ rest)) → Still (kind .policy) (timed x e ∷ [])
+unfolding TicksFit Still
+said-still kind dates [] x e rest f = (no-bytes kind dates x (f .0), tt)
+said-still kind dates (y ∷ es) x e rest f = said-still kind dates es x e rest (f .1)
 
 module _ {S : Type 0} (kind : RecordingKind) (core : Core S) {s : List ℕ} {ds : List Task} {ls : List Link} {es : List (Timed ℕ)} (k : Recorded kind core s ds ls es) where
   -- an event that is refused after a recording, whatever stands after it: the place is where the recording ends
@@ -108,12 +117,14 @@ module _
 
   -- it refuses it so, by the table and the events before it
   refused : judgedIn (stateAfter readerCore ds ls es) (timed x e) ≡ r
+  unfolding freshOf
   refused =
       let kind = anyKind which in
       let dates = kind-dates which in
+      let still = said-still kind dates es x e rest (rw begun at (ticks-said kind ew (said .numbers .1 .1) (tick-bytes which))) in
       let w = went (kind .policy) out ds ls es (fitting-policed kind dates ds (kept .tasked .fits)) (fits-still kind dates es (kept .played .fits))
       (recorded-judged kind dates stateRoom (kind-room which) readerCore (recordingBytes which ds ls es) ds ls es kept) (kept .played .allowed) in
-      refused-by (w .right) (timed x e) ∙ ap (λ (T : Table ℕ). refusedBy T out (past [] es) (timed x e)) (w .own) ∙ rw (← earned, ne-eqb r 0 n)
+      refused-by (w .right) (timed x e) still ∙ ap (λ (T : Table ℕ). refusedBy T out (past [] es) (timed x e)) (w .own) ∙ rw (← earned, ne-eqb r 0 n)
 
   -- what is judged of all that is handed over
   all-judged :

@@ -7,17 +7,14 @@ use mathlib.Core.List.{List, [], _++_}
 use Prim.Native.Nat.{ℕ, _≤_, _<_}
 use native.Mathlib.Omega.{arith}
 use borrow.Author.Tests.{eqb-true, eqb-false, ne-eqb}
-use lib.Dec.{eqb, ltb}
+use lib.Dec.{eqb, ltb, lit<}
 use lib.ListN.{length, take, drop, replicate, length-replicate}
 use lib.Seq.{take-at, drop-at}
-use Rattle.lists.proofs.Bools.{cond-of}
-use Rattle.protocol.specs.Event.{Event, arrival, start, read, finish}
 use Rattle.protocol.specs.History.{reads, past}
-use Rattle.protocol_deadlines.specs.Timed.{Timed, timed, limit, untimed}
+use Rattle.protocol_deadlines.specs.Timed.{Timed, timed, untimed}
 use Rattle.protocol_state.specs.Records.{Task}
 use Rattle.protocol_state.specs.Saved.{Saved, stateRoom, aheadIn}
-use Rattle.protocol_state.specs.Judge.{dueIn, lateIn, judgedOn, judgedOnAt}
-use Rattle.protocol_state.proofs.Give.{judged-small}
+use Rattle.protocol_state.proofs.Give.{never-judged}
 use Rattle.byte_format.specs.Play.{Verdict, verdict}
 use Rattle.byte_format.specs.Handed.{Handed, handed}
 use Rattle.recording_format.specs.Link.{Link}
@@ -48,22 +45,9 @@ use Rattle.recording_write_demands.specs.Ensured.{Writes, RecordingOf}
 abbrev bytes : WhichKind → List ℕ → List ℕ → List ℕ → List ℕ
 bytes which tw lw ew = encodeRecording (anyKind which) (tasksSaid (anyKind which) tw .whole) (linksSaid lw .whole) (eventsSaid (anyKind which) ew .whole)
 
--- no refusal of what is handed over is 18: 23 is not,
-late-small : (q : Saved) (x : ℕ) (e : Event ℕ) → lateIn q x e ≢ 18
-late-small q x (arrival m) = eqb-false 0 18 refl
-late-small q x (start t) = eqb-false 0 18 refl
-late-small q x (read l) = eqb-false 0 18 refl
-late-small q x (finish t v) = cond-of (λ (n : ℕ). n ≢ 18) (ltb (dueIn q t) x) (eqb-false 23 18 refl) (eqb-false 0 18 refl)
-
--- and no other refusal of an event is
+-- no refusal of what is handed over is 18: none of an event is
 event-not-eighteen : (q : Saved) (y : Timed ℕ) → judgedAlone q y ≢ 18
-unfolding judgedOnAt
-event-not-eighteen q (timed x e) =
-    let r = judgedOn (aheadIn q) q e in
-    cond-of (λ (n : ℕ). n ≢ 18) (eqb r 12) (eqb-false 12 18 refl)
-    (cond-of (λ (n : ℕ). n ≢ 18) (ltb limit x) (eqb-false 22 18 refl)
-    (cond-of (λ (n : ℕ). n ≢ 18) (ltb x (q .last)) (eqb-false 21 18 refl)
-    (cond-of (λ (n : ℕ). n ≢ 18) (eqb r 0) (late-small q x e) (λ z. omega (arith, judged-small (aheadIn q) q e)))))
+event-not-eighteen q (timed x e) = never-judged (aheadIn q) q x e 18 (lit< tt) (lit< tt)
 
 not-eighteen : (which : WhichKind) (tw lw ew : List ℕ) → weighedIn which tw lw ew .refusal ≢ 18
 not-eighteen which tw lw ew =

@@ -9,7 +9,7 @@ few-requires : tie.Need-few-requires
 few-requires c κs = search needs
 
 returns : tie.Need-returns
-returns c T L v = rw (← c .before .few .ensures) (read-outside _ _ _ _ _ _ (c .if1 .taken))
+returns c = rw (← c .before .few .ensures) (read-outside _ _ _ _ _ _ (c .if1 .taken))
 
 control-at-requires : tie.Need-control-at-requires
 control-at-requires c κs = search needs
@@ -18,7 +18,7 @@ judge-task-requires : tie.Need-judge-task-requires
 judge-task-requires c κs = search needs
 
 returns-2 : tie.Need-returns-2
-returns-2 c T L v = rw (← c .before .before .before .few .ensures) (read-inside _ _ _ _ _ _ (c .before .before .if1 .left) (rw (← c .before .control-at .ensures) (c .judge-task .ensures T L v)))
+returns-2 c = rw (← c .before .before .before .few .ensures) (read-inside _ _ _ _ _ _ (c .before .before .if1 .left) (rw (← c .before .control-at .ensures) (c .judge-task .ensures)))
 
 pub judge-read-spec : {M : Type 1} → statement M
 judge-read-spec =

@@ -1,6 +1,7 @@
 -- `mailbox_judge::some_before` meets its contract: after u turns `found` says whether one of the first u tasks is active.
 -- Assumes nothing.
 use mathlib.Core.Path.{_≡_, ap, _∙_}
+use mathlib.Core.Bool.{true}
 use Prim.Native.Nat.{_≤_, _-_}
 use native.Mathlib.Omega.{arith}
 use borrow.Author.Needs.{needs}
@@ -44,7 +45,7 @@ returns c =
     let a = end .before .before .args in
     some-end _ _ _ (c .before .loop .inv .1) (c .before .loop .inv .0) (c .loop-test .left)
     ∙ ap (some (λ k. activePhase (at (a .phase .now) k))) (end .few .ensures)
-    ∙ idle-past (a .phase .now) (a .t)
+    ∙ idle-past (λ k. true) (a .phase .now) (a .t)
 
 pub some-before-spec : {M : Type 1} → statement M
 some-before-spec =

@@ -1,45 +1,51 @@
 -- `mailbox_judge::some_sooner` meets its contract: after u turns `found` says whether an active job of the first u tasks goes before that of t.
 -- Assumes nothing.
-use mathlib.Core.Path.{_≡_, ap₂}
+use mathlib.Core.Path.{_≡_, ap, _∙_}
 use mathlib.Core.Bool.{Bool, _&&_}
 use mathlib.Core.List.{List}
+use mathlib.Core.Logic.{⊎-elim}
 use Prim.Native.Nat.{ℕ, _+_, _≤_, _-_}
 use native.Mathlib.Omega.{arith}
 use borrow.Author.Needs.{needs}
 use Rattle.lists.specs.Lists.{some}
-use Rattle.lists.proofs.Lists.{some-none, some-more, some-end}
+use Rattle.lists.proofs.Lists.{some-none, some-end}
 use Rattle.protocol_deadlines.specs.Deadline.{smaller}
 use Rattle.protocol_state.specs.Saved.{at, activePhase}
-use Rattle.mailbox_layout.specs.Layout.{phaseIn, deadlineIn, sinceIn, aheadAmong}
+use Rattle.mailbox_layout.specs.Layout.{deadlineIn, sinceIn, aheadAmong}
+use Rattle.mailbox_judge.proofs.Judged.{idle-past, some-active, some-idle}
 use Rattle.mailbox_judge.proofs.some_sooner.Statement.{statement}
 use Rattle.mailbox_judge.proofs.some_sooner.Tie as tie
 
--- the job of task u is active and goes before that of t
-abbrev soonerAt : List ℕ → List ℕ → ℕ → ℕ → Bool
-soonerAt control times t u =
-    smaller (at (sinceIn times) u + at (deadlineIn times) u) (at (sinceIn times) t + at (deadlineIn times) t) (aheadAmong times u t)
-    && activePhase (at (phaseIn control) u)
+-- the job of task u goes before that of t
+abbrev soonerAt : List ℕ → ℕ → ℕ → Bool
+soonerAt times t u = smaller (at (sinceIn times) u + at (deadlineIn times) u) (at (sinceIn times) t + at (deadlineIn times) t) (aheadAmong times u t)
 
 abbrev Inv-loop : tie.InvT-loop
-Inv-loop t tasks control times due found₀ u₀ found u = (u ≤ tasks) × (found ≡ some (soonerAt control times t) u)
+Inv-loop t tasks control times due phase end found₀ u₀ found u = (u ≤ end) × (found ≡ some (λ k. soonerAt times t k && activePhase (at phase k)) u)
 
 abbrev μ-loop : tie.MeasureT-loop
-μ-loop t tasks control times due found₀ u₀ found u = tasks - u
+μ-loop t tasks control times due phase end found₀ u₀ found u = end - u
 
 due-at-requires : tie.Need-due-at-requires Inv-loop μ-loop
 due-at-requires c κs = search needs
 
+phases-in-requires : tie.Need-phases-in-requires Inv-loop μ-loop
+phases-in-requires c κs = search needs
+
+few-requires : tie.Need-few-requires Inv-loop μ-loop
+few-requires c κs = search needs
+
 loop-holds : tie.Need-loop-holds Inv-loop μ-loop
 loop-holds c = (omega arith, some-none _)
 
-is-sooner-requires : tie.Need-is-sooner-requires Inv-loop μ-loop
-is-sooner-requires c κs = search needs
-
-control-at-requires : tie.Need-control-at-requires Inv-loop μ-loop
-control-at-requires c κs = search needs
+shared-slice-read-is-active : tie.Need-shared-slice-read-is-active Inv-loop μ-loop
+shared-slice-read-is-active c = omega arith
 
 is-active-requires : tie.Need-is-active-requires Inv-loop μ-loop
 is-active-requires c κs = search needs
+
+is-sooner-requires : tie.Need-is-sooner-requires Inv-loop μ-loop
+is-sooner-requires c κs = search needs
 
 add-u : tie.Need-add-u Inv-loop μ-loop
 add-u c = omega arith
@@ -49,16 +55,27 @@ loop-less c = omega arith
 
 loop-again : tie.Need-loop-again Inv-loop μ-loop
 loop-again c =
-    let d = c .before .before .before .before .before in
-    let a = d .before .args in (
+    let h = c .before in
+    let l = h .before .before .before in
+    let d = l .before .before .before in
+    let a = d .before .args in
+    let phases = l .before .before .phases-in .result .now in (
       omega arith,
-      some-more (soonerAt (a .control .now) (a .times .now) (a .t)) _
-          (ap₂ _&&_ (rw (d .due-at .ensures) at (c .before .before .is-sooner .ensures)) (rw (c .before .control-at .ensures) at (c .is-active .ensures)))
-          (c .before .before .before .before .loop .inv .1),
+      ⊎-elim
+          (λ w. w .2 ∙ some-active (soonerAt (a .times .now) (a .t)) (λ k. activePhase (at phases k)) _ (h .is-active .ensures) (l .loop .inv .1) (w .0 .taken) (rw (d .due-at .ensures) at (w .1 .ensures)))
+          (λ w. w .1 ∙ some-idle (soonerAt (a .times .now) (a .t)) (λ k. activePhase (at phases k)) _ (h .is-active .ensures) (l .loop .inv .1) (w .0 .left))
+          (c .if1 .came),
     )
 
 returns : tie.Need-returns Inv-loop μ-loop
-returns c = some-end _ _ _ (c .before .loop .inv .1) (c .before .loop .inv .0) (c .loop-test .left)
+returns c =
+    let end = c .before .before in
+    let d = end .before .before in
+    let a = d .before .args in
+    some-end _ _ _ (c .before .loop .inv .1) (c .before .loop .inv .0) (c .loop-test .left)
+    ∙ ap (some (λ k. soonerAt (a .times .now) (a .t) k && activePhase (at (end .before .phases-in .result .now) k))) (end .few .ensures)
+    ∙ idle-past (soonerAt (a .times .now) (a .t)) (end .before .phases-in .result .now) (a .tasks)
+    ∙ ap (λ (xs : List ℕ). some (λ k. soonerAt (a .times .now) (a .t) k && activePhase (at xs k)) (a .tasks)) (end .before .phases-in .ensures)
 
 pub some-sooner-spec : {M : Type 1} → statement M
 some-sooner-spec =
@@ -67,10 +84,12 @@ some-sooner-spec =
     Inv-loop
     μ-loop
     due-at-requires
+    phases-in-requires
+    few-requires
     loop-holds
-    is-sooner-requires
-    control-at-requires
+    shared-slice-read-is-active
     is-active-requires
+    is-sooner-requires
     add-u
     loop-less
     loop-again

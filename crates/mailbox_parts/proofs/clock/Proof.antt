@@ -29,16 +29,16 @@ finish-at-requires : tie.Need-finish-at-requires
 finish-at-requires c κs = search needs
 
 returns : tie.Need-returns
-returns c L k v = rw (c .before .before .before .e .given .1) (c .arrive-at .ensures L k v)
+returns c dated L k v = rw (c .before .before .before .e .given .1) (c .arrive-at .ensures dated L k v)
 
 returns-2 : tie.Need-returns-2
-returns-2 c L k v = rw (c .before .before .enum-told .given .1) (c .tick-on .ensures .0 _ L _ k v)
+returns-2 c dated L k v = rw (c .before .before .enum-told .given .1) (c .tick-on .ensures .0 dated _ L _ k v)
 
 returns-3 : tie.Need-returns-3
-returns-3 c L k v = rw (c .before .before .enum-told2 .given .1) (c .tick-on2 .ensures .1 _ L _ k v)
+returns-3 c dated L k v = rw (c .before .before .enum-told2 .given .1) (c .tick-on2 .ensures .1 dated _ L _ k v)
 
 returns-4 : tie.Need-returns-4
-returns-4 c L k v = rw (c .before .before .before .e2 .given .1) (c .finish-at .ensures _ L _ k v)
+returns-4 c dated L k v = rw (c .before .before .before .e2 .given .1) (c .finish-at .ensures dated _ L _ k v)
 
 pub clock-spec : {M : Type 1} → statement M
 clock-spec =
