@@ -4,9 +4,9 @@
  * core, which works on them in place: no state is copied and nothing is kept between calls. Nothing is asked of a state, a table, a
  * recording or what is to be written: whatever they hold, an answer comes back, and a refused event leaves the state as it was lent.
  *
- * What the core takes for granted, and no proof can see: each pointer points to what its type says, and what a call writes to overlaps nothing else that it is given.
- * So the table is not a part of the state, and `number`, the answer and the lists lie outside of it. A call writes to what it is lent
- * and to nothing else, so different threads may have calls under way on different states.
+ * What the core takes for granted, and no proof can see: each pointer points to what its type says, and what a call writes to overlaps
+ * nothing else that it is given. So the table is not a part of the state, and `number`, the answer and the lists lie outside of it. A call
+ * writes to what it is lent and to nothing else, so different threads may have calls under way on different states.
  *
  * Refusals are numbers: 0 is none, 1 to 24 are explained in docs/REFUSALS.md. docs/FORMAT.md has the rules of a table, of events and of
  * a recording.
@@ -101,7 +101,7 @@ struct parnusild_values {
 
 /* The times of a state, in the library's own order. With fixed priorities all of them are 0, the policy too. */
 struct parnusild_times {
-    uint32_t deadline[PARNUSILD_TASKS]; /* each task's relative deadline, 1 to 65535 */
+    uint32_t deadline[PARNUSILD_TASKS]; /* each task's relative deadline, from 1 on; at most 65535 in a state that was made here */
     uint32_t since[PARNUSILD_TASKS];    /* the arrival tick of an active task; 0 for an idle one */
     uint32_t last;                      /* the tick of the last accepted event; 0 at first */
     uint32_t policy;                    /* PARNUSILD_FIXED or PARNUSILD_BY_DEADLINE */
@@ -153,13 +153,13 @@ typedef char parnusild_names_have_the_room[PARNUSILD_TASKS == 32 && PARNUSILD_LI
  * parnusild_times: a host that has the structs lends each of them whole, by its own address and not by that of its first field. An array of a
  * table is as long as the field of struct parnusild_table, and one of relative deadlines as long as its defaults. */
 
-/* One event given to a state of fixed priorities, whose parts are lent from `tasks` on. `kind`: 1 arrival of a set, `which` (bit t is task t); 2 start of a
- * task, `which`; 3 read by a link, `which`; 4 finish of a task, `which`, with a value, `value`. Answers 0, or the refusal: 19 a lent state
- * that isn't sound, or is of the other policy, tried before anything else; 11 a kind outside 1 to 4; then in rising order 12 an empty arrival set, or a task or link
- * not in the table; 13 arrival of an active task; 14 start of a task that isn't waiting; 15 read or finish by a task that isn't running;
- * 16 start, read or finish while a more urgent task is active. On a refusal the state is as lent and `number` 0; so is `number` after an
- * accepted arrival, start or finish. After an accepted read it is the link's start value where the link has a mark, else the number at the
- * link's pointer in its writer's positions. */
+/* One event given to a state of fixed priorities, whose parts are lent from `tasks` on. `kind`: 1 arrival of a set, `which` (bit t is task t);
+ * 2 start of a task, `which`; 3 read by a link, `which`; 4 finish of a task, `which`, with a value, `value`. Answers 0, or the refusal: 19 a
+ * lent state that isn't sound, or is of the other policy, tried before anything else; 11 a kind outside 1 to 4; then in rising order 12 an
+ * empty arrival set, or a task or link not in the table; 13 arrival of an active task; 14 start of a task that isn't waiting; 15 read or
+ * finish by a task that isn't running; 16 start, read or finish while a more urgent task is active. On a refusal the state is as lent and
+ * `number` 0; so is `number` after an accepted arrival, start or finish. After an accepted read it is the link's start value where the link
+ * has a mark, else the number at the link's pointer in its writer's positions. */
 uint8_t parnusild_event(uint8_t kind, uint32_t which, uint32_t value, uint32_t *number, size_t tasks, size_t links,
                         uint8_t *control, uint32_t *values, uint32_t *times);
 
@@ -190,11 +190,11 @@ uint8_t parnusild_fresh_dated(size_t table_tasks, size_t table_links, const uint
 
 /* A whole recording, `size` lent bytes, with a lent list of `room` numbers. Bytes are judged from the left and the first fault decides. The
  * first one is the kind, 253, 254 or 255, whose limits hold: with 253 17 tasks are 2, though a state has room for them. Answers the refusal, 0
- * accepted, 1 to 18 or 20 to 24 (docs/FORMAT.md). `place`: the first byte of the recording, count or record at fault; for 17 the first extra byte;
- * on acceptance the length. `counts`, four of them: arrivals task by task, starts, reads, finishes. At a refusal whose place is the
+ * accepted, 1 to 18 or 20 to 24 (docs/FORMAT.md). `place`: the first byte of the recording, count or record at fault; for 17 the first extra
+ * byte; on acceptance the length. `counts`, four of them: arrivals task by task, starts, reads, finishes. At a refusal whose place is the
  * recording's first byte, in the tasks, in the links or one of the three counts, the state (the parts lent from `tasks` on) is the fresh one
- * of a single task with default 0 and no links, of fixed priorities whatever the kind, all counts are 0, and the list is untouched. Later, state and counts are those after the last
- * accepted event; the list's first entries hold the numbers read, the rest is untouched. */
+ * of a single task with default 0 and no links, of fixed priorities whatever the kind, all counts are 0, and the list is untouched. Later,
+ * state and counts are those after the last accepted event; the list's first entries hold the numbers read, the rest is untouched. */
 uint8_t parnusild_replay(const uint8_t *bytes, size_t size, uint32_t *numbers, size_t room, size_t *place, size_t *counts,
                          size_t *tasks, size_t *links, uint8_t *control, uint32_t *values, uint32_t *times);
 
@@ -202,16 +202,16 @@ uint8_t parnusild_replay(const uint8_t *bytes, size_t size, uint32_t *numbers, s
  * recording, from the place on; none past the end, and none after acceptance. */
 size_t parnusild_rest(const uint8_t *bytes, size_t size, size_t place);
 
-/* A recording of the kind `kind`, 253, 254 or 255, written into a lent buffer of `room` bytes. `tasks`, `tasks_size` numbers: one of each task, its
- * default, and with 255 two, its default and its relative deadline. `links`, `links_size` numbers: four of each link, its writer, reader, kind
- * and start value. `events`, `events_size` numbers: the kind of each event, with 255 its tick, and what it has, so 1 and a set (bit t is task
- * t); 2 and a task; 3 and a link; 4, a task and a value. Judged from the left as a replay would judge the bytes, by that kind's limits, and the
- * first fault decides; another `kind` is 2 at place 0. Answers the refusal, 0 accepted, 1 to 16 or 20 to 24 (docs/FORMAT.md), at the `place`
- * where a replay would find the fault: the first byte of the recording, count or record. No number is cut to its field: a task 256 is not in the
- * table, nor is with 253 a task above 15 in a set, and a relative deadline above 65,535 is 24, as 0 is. A task, a link or an event whose numbers
- * are not all there counts as one, and is 1; a kind of event outside 1 to 4 counts as one event, is 11, and nothing after it is looked at. Tried last: 18, the
- * buffer is too short, and `place` is the length of the whole recording. On acceptance `place` is how many bytes were written, which a replay
- * accepts with room for the numbers; no byte after them is touched, and on a refusal none at all. */
+/* A recording of the kind `kind`, 253, 254 or 255, written into a lent buffer of `room` bytes. `tasks`, `tasks_size` numbers: one of each
+ * task, its default, and with 255 two, its default and its relative deadline. `links`, `links_size` numbers: four of each link, its writer,
+ * reader, kind and start value. `events`, `events_size` numbers: the kind of each event, with 255 its tick, and what it has, so 1 and a set
+ * (bit t is task t); 2 and a task; 3 and a link; 4, a task and a value. Judged from the left as a replay would judge the bytes, by that kind's
+ * limits, and the first fault decides; another `kind` is 2 at place 0. Answers the refusal, 0 accepted, 1 to 16 or 20 to 24 (docs/FORMAT.md),
+ * at the `place` where a replay would find the fault: the first byte of the recording, count or record. No number is cut to its field: a task
+ * 256 is not in the table, nor is with 253 a task above 15 in a set, and a relative deadline above 65,535 is 24, as 0 is. A task, a link or an
+ * event whose numbers are not all there counts as one, and is 1; a kind of event outside 1 to 4 counts as one event, is 11, and nothing after
+ * it is looked at. Tried last: 18, the buffer is too short, and `place` is the length of the whole recording. On acceptance `place` is how
+ * many bytes were written, which a replay accepts with room for the numbers; no byte after them is touched, and on a refusal none at all. */
 uint8_t parnusild_write(uint32_t kind, const uint32_t *tasks, size_t tasks_size, const uint32_t *links, size_t links_size,
                         const uint32_t *events, size_t events_size, uint8_t *bytes, size_t room, size_t *place);
 
@@ -227,9 +227,9 @@ static inline int parnusild_fits(const size_t *sizes)
         && sizes[3] == PARNUSILD_VALUES && sizes[4] == PARNUSILD_TIMES;
 }
 
-/* The fresh state of a table, of fixed priorities: `newest` and `previous` at 1, every position holding the task's default, every pointer absent, no mark,
- * every task idle and without arrivals. Answers 0, or the refusal that the table earns, 2 to 9 or 20; the state is then the fresh one of
- * a single task with default 0 and no links. What the state held before doesn't matter. */
+/* The fresh state of a table, of fixed priorities: `newest` and `previous` at 1, every position holding the task's default, every pointer
+ * absent, no mark, every task idle and without arrivals. Answers 0, or the refusal that the table earns, 2 to 9 or 20; the state is then the
+ * fresh one of a single task with default 0 and no links. What the state held before doesn't matter. */
 static inline uint8_t parnusild_state_fresh(struct parnusild_state *PARNUSILD_RESTRICT state,
                                             const struct parnusild_table *PARNUSILD_RESTRICT table)
 {
@@ -365,8 +365,8 @@ static inline const uint8_t *parnusild_recording_rest(const struct parnusild_ans
     return size ? bytes + (size - *left) : bytes;
 }
 
-/* A recording of a kind, PARNUSILD_KIND_BASE, PARNUSILD_KIND_WIDE or PARNUSILD_KIND_DATED, written into a lent buffer, as parnusild_write says. Each of the four
- * slices may be null where its length is 0. */
+/* A recording of a kind, PARNUSILD_KIND_BASE, PARNUSILD_KIND_WIDE or PARNUSILD_KIND_DATED, written into a lent buffer, as parnusild_write
+ * says. Each of the four slices may be null where its length is 0. */
 static inline uint8_t parnusild_recording_write(uint32_t kind, const uint32_t *PARNUSILD_RESTRICT tasks, size_t tasks_size,
                                                 const uint32_t *PARNUSILD_RESTRICT links, size_t links_size,
                                                 const uint32_t *PARNUSILD_RESTRICT events, size_t events_size,

@@ -2,7 +2,7 @@
 -- Assumes nothing.
 use mathlib.Core.Path.{_≡_, refl, sym, ap, _∙_}
 use mathlib.Core.Logic.{_↔_}
-use mathlib.Core.Bool.{true, true≢false}
+use mathlib.Core.Bool.{Bool, true, false, true≢false}
 use mathlib.Core.List.{List, [], _∷_, _++_}
 use Prim.Native.Nat.{ℕ, _+_, _≤_, _<_}
 use native.Mathlib.Decide.{decLe}
@@ -15,7 +15,7 @@ use Rattle.protocol.specs.Schedule.{urgent, Possible}
 use Rattle.protocol.proofs.Schedule.{judged-possible, possible-judged}
 use Rattle.protocol_deadlines.specs.Deadline.{smaller, aheadBy, ByDeadline, Fixed}
 use Rattle.protocol_deadlines.specs.Timed.{Timed, timed, untimed, still, ticks, since, earliestAt, PossibleAt}
-use Rattle.protocol_deadlines.proofs.Orders.{smaller-lt}
+use Rattle.protocol_deadlines.proofs.Orders.{smaller-lt, smaller-tie}
 use Rattle.protocol_deadlines.proofs.Turn.{earliest-first}
 use Rattle.protocol_deadlines.proofs.One.{one-at-most, one-at-least}
 use Rattle.protocol_deadlines.proofs.Timed.{timed-exactly, judged-possible-at, possible-judged-at}
@@ -49,6 +49,17 @@ due-first T H t u may l on = go (decLe (since H t + T .deadline t) (since H u + 
     go (yes x) = x
     go (no x) =
         let before = smaller-lt (since H u + T .deadline u) (since H t + T .deadline t) (T .ahead u t) (omega (arith, x)) in
+        absurd (true≢false (sym on ∙ earliest-first T (ticks H) (untimed H) t u may l before))
+
+-- nor is one that is due at the same tick of a task ahead
+tie-behind : (T : Table ℕ) (H : List (Timed ℕ)) (t u : ℕ) → earliestAt T H (untimed H) t ≡ true → u < T .tasks → active (untimed H) u ≡ true
+    → since H u + T .deadline u ≡ since H t + T .deadline t → T .ahead u t ≡ false
+tie-behind T H t u may l on e = go (T .ahead u t) refl
+  where
+    go : (b : Bool) → T .ahead u t ≡ b → b ≡ false
+    go false i = refl
+    go true i =
+        let before = smaller-tie (since H u + T .deadline u) (since H t + T .deadline t) (T .ahead u t) e ∙ i in
         absurd (true≢false (sym on ∙ earliest-first T (ticks H) (untimed H) t u may l before))
 
 -- ---- fixed priorities
@@ -91,6 +102,7 @@ deadlines = record {
   one = λ T B H. one-at-least T (ticks H) B (untimed H);
   alone = λ T B H. one-at-most T (ticks H) B (untimed H);
   first = due-first;
+  tie = tie-behind;
   gained = timed-exactly;
   fixed = fixed-calls;
   plain = fixed-possible;

@@ -3,7 +3,7 @@
 -- Assumes nothing.
 use mathlib.Core.Path.{_≡_}
 use mathlib.Core.Logic.{_↔_}
-use mathlib.Core.Bool.{true}
+use mathlib.Core.Bool.{true, false}
 use mathlib.Core.List.{List, [], _∷_}
 use Prim.Native.Nat.{ℕ, _+_, _≤_, _<_}
 use lib.Dec.{ltb}
@@ -31,6 +31,9 @@ pub record Deadlines : Type 0 where
   -- and it is due no later than any other
   pub first : (T : Table ℕ) (H : List (Timed ℕ)) (t u : ℕ) → earliestAt T H (untimed H) t ≡ true → u < T .tasks → active (untimed H) u ≡ true →
       since H t + T .deadline t ≤ since H u + T .deadline u
+  -- "ties by that order of tasks": no active job that is due at the same tick is of a task ahead
+  pub tie : (T : Table ℕ) (H : List (Timed ℕ)) (t u : ℕ) → earliestAt T H (untimed H) t ≡ true → u < T .tasks → active (untimed H) u ≡ true →
+      since H u + T .deadline u ≡ since H t + T .deadline t → T .ahead u t ≡ false
   -- "ticks that never fall and keep their limit, every finish by its deadline": with the events that could happen under their ticks, that is all
   pub gained : (T : Table ℕ) (H : List (Timed ℕ)) → AllPossibleAt T H ↔ (AllPossible T (earliestAt T H) (untimed H) × Rising H × AllInTime T (ticks H) H)
   -- "Demands 2 and 3 hold for both policies": under fixed priorities no task has a deadline and every event comes at tick 0,

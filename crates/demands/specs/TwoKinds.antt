@@ -1,4 +1,4 @@
--- The sentences of request 2026-06, a field for each, that no field of the demands says already: those of the limits, and of what both kinds of recording share.
+-- The sentences of request 2026-06, a field for each, that no field of the demands says already: those of the limits, and of what recordings of any kind share.
 -- proofs/TwoKinds.antt has `two-kinds`. The kinds themselves are in recording_format/specs/RecordingKind, the room of a state is `stateRoom`.
 -- Assumes nothing.
 use mathlib.Core.Path.{_≡_}

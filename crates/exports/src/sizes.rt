@@ -12,8 +12,8 @@ use mailbox_layout::VALUES;
 // How many sizes there are.
 const SIZES: usize = 5;
 
-// The room of a state, so many tasks and links; the bytes of its control, and the numbers of its values and of its times. This call alone has no room in its
-// name: a host may ask any library for it.
+// The room of a state, so many tasks and links; the bytes of its control, and the numbers of its values and of its times. This call alone has no
+// room in its name: a host may ask any library for it.
 #[no_mangle]
 pub extern "C" fn parnusild_sizes(sizes: &mut [usize; SIZES])
     ensures { λ _. ⌜ now (sizes .exit) ≡ stateRoom .tasks ∷ stateRoom .links ∷ controlSize ∷ valueSize ∷ timeSize ∷ [] ⌝ }

@@ -1,6 +1,5 @@
 // The decision table.
 ghost use mathlib.Core.Path.{_≡_};
-ghost use Prim.Native.Nat.{_+_, _*_};
 ghost use Rattle.protocol_state.specs.Decision.{decided};
 use crate::numbers::pick;
 

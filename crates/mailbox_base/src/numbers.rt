@@ -1,7 +1,6 @@
 // Limits, and numbers.
 ghost use mathlib.Core.Path.{_≡_};
 ghost use mathlib.Core.Bool.{cond};
-ghost use Prim.Native.Nat.{_+_, _-_, _*_};
 ghost use lib.ListN.{set};
 ghost use Rattle.protocol.specs.Event.{has};
 ghost use Rattle.protocol_state.specs.Saved.{cellOf};
@@ -14,7 +13,7 @@ pub const LINKS: usize = 96;
 pub const EVENTS: usize = 10000;
 
 // The largest tick.
-pub const LIMIT: u32 = 4000000000;
+pub const MOST_TICK: u32 = 4000000000;
 
 // A task has at most eight links to readers behind, and two positions more.
 pub const POSITIONS: usize = 10;

@@ -3,13 +3,11 @@
 use Prim.Native.Nat.{ℕ}
 use Rattle.protocol.specs.Event as protocol
 use Rattle.protocol.specs.Event.{arrival, start, read, finish}
-use Rattle.protocol_deadlines.specs.Timed as deadlines
 use Rattle.protocol_state.specs.Give.{Call, plainly, ticked}
 use Rattle.mailbox_event.specs.declared.Event.{Event}
 use Rattle.mailbox_event.specs.declared.Event.the-variants.{Arrival, Start, Read, Finish}
 use Rattle.mailbox_event.specs.declared.When.{When}
 use Rattle.mailbox_event.specs.declared.When.the-variants.{Untimed, At}
-use Rattle.mailbox_event.specs.declared.Timed.{Timed}
 
 -- kind by kind
 abbrev pub plain : Event → protocol.Event ℕ
@@ -31,7 +29,3 @@ policyFor (At x) = 1
 abbrev pub tickFor : When → ℕ
 tickFor Untimed = 0
 tickFor (At x) = x
-
--- at its tick
-abbrev pub timedOf : Timed → deadlines.Timed ℕ
-timedOf e = deadlines.timed (e .tick) (plain (e .event))

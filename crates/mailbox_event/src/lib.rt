@@ -16,12 +16,6 @@ pub enum When {
     At(u32),
 }
 
-// An event at its tick, as a recording has it; without deadlines the tick is 0.
-pub struct Timed {
-    pub tick: u32,
-    pub event: Event,
-}
-
 // The policy of the states that it is for: 0 fixed priorities, 1 earliest deadline first.
 pub fn policy_for(when: When) -> u32
     ensures { λ r. ⌜ r ≡ policyFor when ⌝ }

@@ -1,4 +1,5 @@
-// The refusals 12 to 16 of a sound state, tried in rising order, under fixed priorities and with deadlines, ticks left aside; 0 is none. Counts above the room are taken as the room.
+// The refusals 12 to 16 of a sound state, tried in rising order, under fixed priorities and with deadlines, ticks left aside; 0 is none. Counts
+// above the room are taken as the room.
 ghost use mathlib.Core.Path.{_≡_};
 ghost use mathlib.Core.Bool.{cond, _&&_, _||_, not};
 ghost use Prim.Native.Nat.{_+_, min};
@@ -9,7 +10,7 @@ ghost use Rattle.protocol_state.specs.Records.{earlier};
 ghost use Rattle.protocol_state.specs.Saved.{at, stateRoom, activePhase};
 ghost use Rattle.protocol_state.specs.Decision.{decided};
 ghost use Rattle.protocol_state.specs.Judge.{allows, mayArrive, judgedArrival, judgedTask, judgedRead};
-ghost use Rattle.mailbox_layout.specs.Layout.{phaseIn, readerIn, deadlineIn, sinceIn, aheadAmong};
+ghost use Rattle.mailbox_layout.specs.Layout.{phaseIn, readerIn, deadlineIn, sinceIn, aheadAmong, soonerAmong};
 use lists::few;
 use mailbox_base::decision::ARRIVAL;
 use mailbox_base::decision::READ;
@@ -107,7 +108,7 @@ fn is_sooner(times: &[u32; TIMES], u: usize, t: usize, due: u64) -> bool
 
 // Whether the job of a task that goes before that of `t` is active. Who is idle is passed over before anything is asked of its times.
 fn some_sooner(t: usize, tasks: usize, control: &[u8; CONTROL], times: &[u32; TIMES]) -> bool
-    ensures { λ r. ⌜ r ≡ some (λ u. smaller (at (sinceIn (now (times .entry))) u + at (deadlineIn (now (times .entry))) u) (at (sinceIn (now (times .entry))) t + at (deadlineIn (now (times .entry))) t) (aheadAmong (now (times .entry)) u t) && activePhase (at (phaseIn (now (control .entry))) u)) tasks ⌝ }
+    ensures { λ r. ⌜ r ≡ some (λ u. soonerAmong (now (times .entry)) u t && activePhase (at (phaseIn (now (control .entry))) u)) tasks ⌝ }
 {
     let due = due_at(times, t);
     let phase = phases_in(control);
@@ -155,7 +156,8 @@ pub fn judge_read(l: u8, tasks: usize, links: usize, control: &[u8; CONTROL]) ->
     judge_task(READ, control_at(control, READER, i), tasks, control)
 }
 
-// The same with deadlines, ticks left aside: the job that is due earlier goes before, ties by the order of tasks.
+// The refusal of a start, a read or a finish by task `t` with deadlines, ticks left aside: the job that is due earlier goes before, ties by the
+// order of tasks.
 pub fn judge_job(
     kind: usize,
     t: u8,
@@ -163,7 +165,7 @@ pub fn judge_job(
     control: &[u8; CONTROL],
     times: &[u32; TIMES],
 ) -> u8
-    ensures { λ r. ⌜ r ≡ judgedTask (λ u w. smaller (at (sinceIn (now (times .entry))) u + at (deadlineIn (now (times .entry))) u) (at (sinceIn (now (times .entry))) w + at (deadlineIn (now (times .entry))) w) (aheadAmong (now (times .entry)) u w)) kind t (min tasks (stateRoom .tasks)) (at (phaseIn (now (control .entry)))) ⌝ }
+    ensures { λ r. ⌜ r ≡ judgedTask (soonerAmong (now (times .entry))) kind t (min tasks (stateRoom .tasks)) (at (phaseIn (now (control .entry)))) ⌝ }
 {
     let i = t as usize;
     let n = few(tasks, TASKS);
@@ -174,7 +176,7 @@ pub fn judge_job(
     judge_turn(kind, control_at(control, PHASE, i), wait)
 }
 
-// And of a read.
+// The refusal of a read by link `l` with deadlines, ticks left aside.
 pub fn judge_job_read(
     l: u8,
     tasks: usize,
@@ -182,7 +184,7 @@ pub fn judge_job_read(
     control: &[u8; CONTROL],
     times: &[u32; TIMES],
 ) -> u8
-    ensures { λ r. ⌜ r ≡ judgedRead (λ u w. smaller (at (sinceIn (now (times .entry))) u + at (deadlineIn (now (times .entry))) u) (at (sinceIn (now (times .entry))) w + at (deadlineIn (now (times .entry))) w) (aheadAmong (now (times .entry)) u w)) l (min tasks (stateRoom .tasks)) (min links (stateRoom .links)) (at (readerIn (now (control .entry)))) (at (phaseIn (now (control .entry)))) ⌝ }
+    ensures { λ r. ⌜ r ≡ judgedRead (soonerAmong (now (times .entry))) l (min tasks (stateRoom .tasks)) (min links (stateRoom .links)) (at (readerIn (now (control .entry)))) (at (phaseIn (now (control .entry)))) ⌝ }
 {
     let i = l as usize;
     if few(links, LINKS) <= i {

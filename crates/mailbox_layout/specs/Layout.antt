@@ -5,7 +5,7 @@ use mathlib.Core.Bool.{Bool}
 use mathlib.Core.List.{List, [], _∷_, _++_}
 use Prim.Native.Nat.{ℕ, _+_, _*_, min}
 use lib.ListN.{length, replicate}
-use Rattle.protocol_deadlines.specs.Deadline.{aheadBy}
+use Rattle.protocol_deadlines.specs.Deadline.{smaller, aheadBy}
 use Rattle.protocol_state.specs.Records.{Link, linkFrom}
 use Rattle.protocol_state.specs.Saved.{Saved, stateRoom, positions, at}
 use Rattle.regions.specs.Regions.{regions, region}
@@ -206,3 +206,7 @@ Becomes f T L c c′ = (v x : List ℕ) → stateOf T L c′ v x ≡ f (stateOf 
 -- who is ahead of whom, by the deadlines among these times
 abbrev pub aheadAmong : List ℕ → ℕ → ℕ → Bool
 aheadAmong x = aheadBy (at (deadlineIn x))
+
+-- whose job goes before whose: it is due earlier, ties by the order of tasks
+abbrev pub soonerAmong : List ℕ → ℕ → ℕ → Bool
+soonerAmong x u t = smaller (at (sinceIn x) u + at (deadlineIn x) u) (at (sinceIn x) t + at (deadlineIn x) t) (aheadAmong x u t)

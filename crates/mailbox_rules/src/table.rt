@@ -1,4 +1,4 @@
-// The rules of a table, refusals 2 to 9 and 20.
+// The rules of a table, refusals 2 to 9 and 20. 24, a rule of tasks, is tried where the relative deadlines are at hand.
 ghost use mathlib.Core.Path.{_≡_};
 ghost use mathlib.Core.Bool.{Bool, cond};
 ghost use mathlib.Core.List.{List};

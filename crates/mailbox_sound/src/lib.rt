@@ -8,7 +8,7 @@ ghost use Rattle.protocol_state.specs.Saved.{at, stateRoom};
 ghost use Rattle.protocol_state.specs.Sound.{within, taskIs, seenIs, sinceIs, deadlineIs, clockIs, markIs, taskOk, timeOk, pointerIs, pointerOk, markOk, taskStands, linkStands, isSound};
 ghost use Rattle.mailbox_layout.specs.Layout.{writerIn, readerIn, aheadAmong, stateOf};
 ghost use Rattle.mailbox_plan.specs.Plan.{Planned};
-use mailbox_base::numbers::LIMIT;
+use mailbox_base::numbers::MOST_TICK;
 use mailbox_free::table::PLAN;
 use mailbox_layout::CONTROL;
 use mailbox_layout::DEADLINE;
@@ -100,7 +100,7 @@ fn clock_is(policy: u32, last: u32) -> bool
     if policy == 0 {
         last <= 0
     } else {
-        (policy <= 1) & (last <= LIMIT)
+        (policy <= 1) & (last <= MOST_TICK)
     }
 }
 

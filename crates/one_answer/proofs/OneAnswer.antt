@@ -156,6 +156,7 @@ one-answer = record {
   read-event = λ κs lent a b left left′ x y. one-next a b (same x y);
   read-tickless = λ κs lent a b left left′ x y. one-next a b (same x y);
   event-in = λ κs lent a b left left′ x y. one-next a b (same x y);
+  head-size = λ κs lent a b left left′ x y. same x y;
   kind-of = λ κs lent a b left left′ x y. one-found a b (same (x 0) (y 0));
   refused = λ κs lent a b left left′ x y. one-next a b (same x y);
   number-of = λ κs lent a b left left′ x y. same x y;

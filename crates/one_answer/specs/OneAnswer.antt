@@ -95,6 +95,8 @@ use Rattle.recording_event.proofs.read_tickless.Kinds as of-read-tickless
 use Rattle.recording_event.proofs.read_tickless.Reads as on-read-tickless
 use Rattle.recording_event.proofs.event_in.Kinds as of-event-in
 use Rattle.recording_event.proofs.event_in.Reads as on-event-in
+use Rattle.recording_event.proofs.head_size.Kinds as of-head-size
+use Rattle.recording_event.proofs.head_size.Reads as on-head-size
 use Rattle.recording_event.proofs.kind_of.Kinds as of-kind-of
 use Rattle.recording_event.proofs.kind_of.Reads as on-kind-of
 use Rattle.recording_event.proofs.refused.Kinds as of-refused
@@ -181,6 +183,7 @@ pub record OneAnswer : Type 0 where
   pub read-event : One 1 of-read-event.ps of-read-event.r on-read-event.Learnt Next (λ κs n left. n)
   pub read-tickless : One 1 of-read-tickless.ps of-read-tickless.r on-read-tickless.Learnt Next (λ κs n left. n)
   pub event-in : One 1 of-event-in.ps of-event-in.r on-event-in.Learnt Next (λ κs n left. n)
+  pub head-size : One 0 of-head-size.ps of-head-size.r on-head-size.Learnt ℕ (λ κs n left. n)
   pub kind-of : One 0 of-kind-of.ps of-kind-of.r on-kind-of.Learnt Found (λ κs f left. f)
   pub refused : One 0 of-refused.ps of-refused.r on-refused.Learnt Next (λ κs n left. n)
   pub number-of : One 0 of-number-of.ps of-number-of.r on-number-of.Learnt ℕ (λ κs n left. n)

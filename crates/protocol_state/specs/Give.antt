@@ -43,7 +43,7 @@ abbrev pub callPolicy : Call → ℕ
 callPolicy (plainly e) = 0
 callPolicy (ticked x e) = 1
 
--- its tick: "no tick is ever made up", for under fixed priorities every tick is 0
+-- its tick: under fixed priorities every tick is 0, and none is made up
 abbrev pub callTick : Call → ℕ
 callTick (plainly e) = 0
 callTick (ticked x e) = x
@@ -67,7 +67,7 @@ module _ (ahead : ℕ → ℕ → Bool) (size : Size) where
   abbrev pub soundFor : ℕ → Saved → Bool
   soundFor p q = isSound ahead size q && eqb (q .policy) p
 
-  -- an event at tick x, handed over for the policy p: 19 first, "a state of the other policy is answered with 19" too; then 12 to 16 and 21 to 23
+  -- an event at tick x, handed over for the policy p: 19 first, for a state of the other policy too; then 12 to 16 and 21 to 23
   abbrev pub give : ℕ → Saved → ℕ → Event ℕ → Reply
   give p q x e = settled (soundFor p q) (judgedOnAt ahead q x e) q (nextAt ahead q x e) (valueOf q e)
 

@@ -2,7 +2,7 @@
 -- links' readers.
 -- Who judges what, from the mathematics down to the replay; that they agree is shown where the lower one stands:
 --   judged, judgedAt (protocol, protocol_deadlines)   an event, at a tick, by the table and the history of accepted events: no state
---   judgedTable   (here, Rules)      a table: 2 to 9 and 20; judgedLists (Fresh) by its lists of tasks and links
+--   judgedTable   (here, Rules)      a table: 2 to 9 and 20; judgedLists (Fresh), with 24, by its lists of tasks and links
 --   judgedArrival, judgedTask, judgedRead   an event's parts, by phases; judgedEvent: an event, by which of the three it is
 --   judgedOn                         an event given to a saved state; judgedOnAt: at a tick, with 21 to 23
 --   judgedAlone   (recording_core)   judgedOnAt by the state's own order, for the writer, which has no list

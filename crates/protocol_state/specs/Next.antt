@@ -161,14 +161,14 @@ module _ (ahead : ℕ → ℕ → Bool) where
 abbrev pub sinceAt : ℕ → ℕ → ℕ → ℕ → ℕ
 sinceAt s x t y = cond (has s t) x y
 
--- the arrival ticks after an accepted event at tick x: an arrival keeps its own, and "a finish sets it back"
+-- the arrival ticks after an accepted event at tick x: an arrival keeps its own, and a finish sets it back
 unfoldable pub sinceAfter : ℕ → Event ℕ → Saved → List ℕ
 sinceAfter x (arrival s) q = upto (sinceAt s x) (q .tasks) (q .since)
 sinceAfter x (start t) q = q .since
 sinceAfter x (read l) q = q .since
 sinceAfter x (finish t v) q = set (q .since) t 0
 
--- the ticks after it: "each accepted event sets" the last one. Under fixed priorities there are none to keep
+-- the ticks after it: each accepted event sets the last one. Under fixed priorities there are none to keep
 abbrev pub clocked : ℕ → Event ℕ → Saved → Saved
 clocked x e q = withTicks (cond (eqb (q .policy) 0) (q .since) (sinceAfter x e q)) (cond (eqb (q .policy) 0) (q .last) x) q
 

@@ -91,10 +91,11 @@ module _ (ahead : ℕ → ℕ → Bool) where
       eqb (judgedTable ahead (q .tasks) (linkIn q) size (q .links)) 0
       && (clockIs (q .policy) (q .last) && (every (taskStands q) (q .tasks) && every (linkStands q) (q .links)))
 
-  -- document 01's sentence: the table keeps rules 2 to 9 "and any table rule added later" (20), newest and previous lie in 1 to N + 2, each present pointer
-  -- does so for its writer, no pointer of an active reader is absent, and every pointer from a writer ahead of an idle reader is absent. `phase` says besides
-  -- that a saved number is one of the three phases: the document knows no other. Document 02's: no, one or more arrivals, "a task without arrivals is
-  -- idle"; a mark is there or not, "stands only at present pointers", of delayed links, "and at each whose writer has had fewer than two arrivals"
+  -- document 01's sentence: the table keeps rules 2 to 9 "and any table rule added later" (20; 24 is in `times`), newest and previous lie in 1 to N + 2, each
+  -- present pointer does so for its writer, no pointer of an active reader is absent, and every pointer from a writer ahead of an idle reader is absent.
+  -- `phase` says besides that a saved number is one of the three phases: the document knows no other. Document 02's: no, one or more arrivals, "a task
+  -- without arrivals is idle"; a mark is there or not, "stands only at present pointers", of delayed links, "and at each whose writer has had fewer than two
+  -- arrivals"; of policy and ticks `times`
   pub record Sound (size : Size) (q : Saved) : Type 0 where
     pub rules : KeepsRules ahead (q .tasks) (linkIn q) size (q .links)
     pub phase : (t : ℕ) → t < q .tasks → at (q .phase) t < 3

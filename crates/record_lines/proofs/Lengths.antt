@@ -10,13 +10,13 @@ use Rattle.record_lines.specs.Words.{text-line, text-unknown, text-no-nu
 use Rattle.record_lines.specs.Lines.{reason, faultLine, refusedLine, tooLongLine}
 
 -- the words of a reason
-reason-long : (fault : ℕ) → length (reason fault) ≤ 84
+reason-long : (fault : ℕ) → length (reason fault) ≤ 95
 unfolding reason
 reason-long fault = go (eqb fault 1) (eqb fault 2) (eqb fault 3) (eqb fault 4) (eqb fault 5) (eqb fault 6)
   where
     go :
         (a b c d e f : Bool) →
-        length (cond a text-unknown (cond b text-no-number (cond c text-too-large (cond d text-too-few (cond e text-too-many (cond f text-kind text-no-reason)))))) ≤ 84
+        length (cond a text-unknown (cond b text-no-number (cond c text-too-large (cond d text-too-few (cond e text-too-many (cond f text-kind text-no-reason)))))) ≤ 95
     go true b c d e f = omega arith
     go false true c d e f = omega arith
     go false false true d e f = omega arith

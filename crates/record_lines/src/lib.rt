@@ -10,7 +10,7 @@ fn with_reason(line: Line, fault: u8) -> Line
 {
     match fault {
         1 => line.text(
-            b": the first word is none of K, T, L, A, S, R and F, or with 255 an event has no tick",
+            b": the first word is none of K, T, L, A, S, R and F, or with 255 no tick with an event behind it",
         ),
         2 => line.text(b": not a number"),
         3 => line.text(b": a number above 4294967295"),

@@ -234,6 +234,29 @@ datedAt ph n a x y z = record {
   policy = 1;
 }
 
+-- and of one with a single task, whose relative deadline is 1, before its first event
+abbrev aloneDated : Saved
+aloneDated = record {
+  tasks = 1;
+  links = 0;
+  defaults = alone .defaults;
+  phase = alone .phase;
+  newest = alone .newest;
+  previous = alone .previous;
+  seen = alone .seen;
+  cells = alone .cells;
+  writer = alone .writer;
+  reader = alone .reader;
+  kind = alone .kind;
+  startValue = alone .startValue;
+  pointer = alone .pointer;
+  mark = alone .mark;
+  deadline = filledUp (stateRoom .tasks) 0 (1 ∷ []);
+  since = alone .since;
+  last = 0;
+  policy = 1;
+}
+
 -- the first arrives at 0, due at 10, the second at x, due at x + 5; and these events
 abbrev both : ℕ → List (Timed ℕ) → List ℕ
 both x es = dated (timed 0 (arrival 1) ∷ timed x (arrival 2) ∷ es)
@@ -264,6 +287,7 @@ cases =
     ∷ (255 ∷ 33 ∷ [])
     ∷ (255 ∷ 1 ∷ 0 ∷ 0 ∷ 0 ∷ 0 ∷ 0 ∷ 0 ∷ [])
     ∷ (255 ∷ 1 ∷ 0 ∷ 0 ∷ 0 ∷ 0 ∷ 1 ∷ [])
+    ∷ (255 ∷ 1 ∷ 0 ∷ 0 ∷ 0 ∷ 0 ∷ 1 ∷ 0 ∷ 0 ∷ 112 ∷ 23 ∷ [])
     ∷ (255 ∷ 1 ∷ 0 ∷ 0 ∷ 0 ∷ 0 ∷ 1 ∷ 0 ∷ 0 ∷ 113 ∷ 23 ∷ [])
     -- due at 10 and 11: the first goes first; due at 10 and 10: the second does; due at 10 and 9: the second does
     ∷ both 6 (timed 6 (start 0) ∷ [])
@@ -271,8 +295,9 @@ cases =
     ∷ both 5 (timed 5 (start 0) ∷ [])
     ∷ both 5 (timed 5 (start 1) ∷ [])
     ∷ both 4 (timed 4 (start 0) ∷ [])
-    -- 12 before 22, 22 before 13, 21 before 13, equal ticks
+    -- 12 before 22, the largest tick, 22 before 13, 21 before 13, equal ticks
     ∷ both 6 (timed 4000000001 (arrival 4) ∷ [])
+    ∷ both 6 (timed 4000000000 (start 0) ∷ [])
     ∷ both 6 (timed 4000000001 (arrival 1) ∷ [])
     ∷ both 6 (timed 5 (arrival 1) ∷ [])
     ∷ both 6 (timed 6 (arrival 1) ∷ [])
@@ -336,6 +361,7 @@ pub marked-cases : map answer cases ≡
     ∷ untouched 2 1 alone
     ∷ untouched 24 2 alone
     ∷ untouched 1 2 alone
+    ∷ untouched 1 11 aloneDated
     ∷ untouched 10 9 alone
     ∷ replied 0 48 (came 6 (2 ∷ 1 ∷ []) 6) 2 1 0 0 []
     ∷ replied 16 42 (came 6 (1 ∷ 1 ∷ []) 6) 2 0 0 0 []
@@ -343,6 +369,7 @@ pub marked-cases : map answer cases ≡
     ∷ replied 0 48 (came 5 (1 ∷ 2 ∷ []) 5) 2 1 0 0 []
     ∷ replied 16 42 (came 4 (1 ∷ 1 ∷ []) 4) 2 0 0 0 []
     ∷ replied 12 42 (came 6 (1 ∷ 1 ∷ []) 6) 2 0 0 0 []
+    ∷ replied 0 48 (came 6 (2 ∷ 1 ∷ []) 4000000000) 2 1 0 0 []
     ∷ replied 22 42 (came 6 (1 ∷ 1 ∷ []) 6) 2 0 0 0 []
     ∷ replied 21 42 (came 6 (1 ∷ 1 ∷ []) 6) 2 0 0 0 []
     ∷ replied 13 42 (came 6 (1 ∷ 1 ∷ []) 6) 2 0 0 0 []

@@ -95,7 +95,7 @@ pub struct Values {
 #[derive(Clone, Debug, PartialEq, Eq)]
 #[repr(C)]
 pub struct Times {
-    /// each task's relative deadline, 1 to 65535
+    /// each task's relative deadline, from 1 on; at most 65535 in a state that was made here
     pub deadline: [u32; TASKS],
     /// the arrival tick of an active task; 0 for an idle one
     pub since: [u32; TASKS],

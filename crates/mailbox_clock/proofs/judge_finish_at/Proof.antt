@@ -1,6 +1,5 @@
 -- `mailbox_clock::judge_finish_at` meets its contract: what the judge ensures, then the ticks.
 -- Assumes nothing.
-use mathlib.Core.Path.{_∙_}
 use Rattle.protocol.specs.Event.{finish}
 use Rattle.mailbox_layout.specs.Layout.{aheadAmong, viewOf}
 use Rattle.mailbox_clock.proofs.Judged.{dated-on}
@@ -18,11 +17,13 @@ try-tick-requires : tie.Need-try-tick-requires
 try-tick-requires c κs = search needs
 
 returns : tie.Need-returns
-returns c dated L w v =
+returns c =
     let j = c .before .before in
     let a = j .before .args in
-    dated-on (aheadAmong (a .times .now)) (viewOf (a .tasks) L (a .control .now) v (a .times .now)) (a .tick) (finish (a .t) w) dated (j .judge-job .ensures)
-    (c .try-tick .ensures ∙ rw (c .before .late .ensures))
+    let ticked = rw (c .before .late .ensures) at (c .try-tick .ensures) in (
+      rw (j .judge-job .ensures) at ticked,
+      λ dated L w v. dated-on (aheadAmong (a .times .now)) (viewOf (a .tasks) L (a .control .now) v (a .times .now)) (a .tick) (finish (a .t) w) dated (j .judge-job .ensures) ticked,
+    )
 
 pub judge-finish-at-spec : {M : Type 1} → statement M
 judge-finish-at-spec = tie.close (tie.spec judge-job-requires late-requires try-tick-requires returns)

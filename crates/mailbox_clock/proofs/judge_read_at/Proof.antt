@@ -14,10 +14,12 @@ try-tick-requires : tie.Need-try-tick-requires
 try-tick-requires c κs = search needs
 
 returns : tie.Need-returns
-returns c dated v =
+returns c =
     let j = c .before in
-    let a = j .before .args in
-    dated-on (aheadAmong (a .times .now)) (viewOf (a .tasks) (a .links) (a .control .now) v (a .times .now)) (a .tick) (read (a .l)) dated (j .judge-job-read .ensures) (c .try-tick .ensures)
+    let a = j .before .args in (
+      rw (j .judge-job-read .ensures) at (c .try-tick .ensures),
+      λ dated v. dated-on (aheadAmong (a .times .now)) (viewOf (a .tasks) (a .links) (a .control .now) v (a .times .now)) (a .tick) (read (a .l)) dated (j .judge-job-read .ensures) (c .try-tick .ensures),
+    )
 
 pub judge-read-at-spec : {M : Type 1} → statement M
 judge-read-at-spec = tie.close (tie.spec judge-job-read-requires try-tick-requires returns)

@@ -1,27 +1,22 @@
 -- `mailbox_judge::some_sooner` meets its contract: after u turns `found` says whether an active job of the first u tasks goes before that of t.
 -- Assumes nothing.
 use mathlib.Core.Path.{_≡_, ap, _∙_}
-use mathlib.Core.Bool.{Bool, _&&_}
+use mathlib.Core.Bool.{_&&_}
 use mathlib.Core.List.{List}
 use mathlib.Core.Logic.{⊎-elim}
-use Prim.Native.Nat.{ℕ, _+_, _≤_, _-_}
+use Prim.Native.Nat.{ℕ, _≤_, _-_}
 use native.Mathlib.Omega.{arith}
 use borrow.Author.Needs.{needs}
 use Rattle.lists.specs.Lists.{some}
 use Rattle.lists.proofs.Lists.{some-none, some-end}
-use Rattle.protocol_deadlines.specs.Deadline.{smaller}
 use Rattle.protocol_state.specs.Saved.{at, activePhase}
-use Rattle.mailbox_layout.specs.Layout.{deadlineIn, sinceIn, aheadAmong}
+use Rattle.mailbox_layout.specs.Layout.{soonerAmong}
 use Rattle.mailbox_judge.proofs.Judged.{idle-past, some-active, some-idle}
 use Rattle.mailbox_judge.proofs.some_sooner.Statement.{statement}
 use Rattle.mailbox_judge.proofs.some_sooner.Tie as tie
 
--- the job of task u goes before that of t
-abbrev soonerAt : List ℕ → ℕ → ℕ → Bool
-soonerAt times t u = smaller (at (sinceIn times) u + at (deadlineIn times) u) (at (sinceIn times) t + at (deadlineIn times) t) (aheadAmong times u t)
-
 abbrev Inv-loop : tie.InvT-loop
-Inv-loop t tasks control times due phase end found₀ u₀ found u = (u ≤ end) × (found ≡ some (λ k. soonerAt times t k && activePhase (at phase k)) u)
+Inv-loop t tasks control times due phase end found₀ u₀ found u = (u ≤ end) × (found ≡ some (λ k. soonerAmong times k t && activePhase (at phase k)) u)
 
 abbrev μ-loop : tie.MeasureT-loop
 μ-loop t tasks control times due phase end found₀ u₀ found u = end - u
@@ -62,8 +57,8 @@ loop-again c =
     let phases = l .before .before .phases-in .result .now in (
       omega arith,
       ⊎-elim
-          (λ w. w .2 ∙ some-active (soonerAt (a .times .now) (a .t)) (λ k. activePhase (at phases k)) _ (h .is-active .ensures) (l .loop .inv .1) (w .0 .taken) (rw (d .due-at .ensures) at (w .1 .ensures)))
-          (λ w. w .1 ∙ some-idle (soonerAt (a .times .now) (a .t)) (λ k. activePhase (at phases k)) _ (h .is-active .ensures) (l .loop .inv .1) (w .0 .left))
+          (λ w. w .2 ∙ some-active (λ k. soonerAmong (a .times .now) k (a .t)) (λ k. activePhase (at phases k)) _ (h .is-active .ensures) (l .loop .inv .1) (w .0 .taken) (rw (d .due-at .ensures) at (w .1 .ensures)))
+          (λ w. w .1 ∙ some-idle (λ k. soonerAmong (a .times .now) k (a .t)) (λ k. activePhase (at phases k)) _ (h .is-active .ensures) (l .loop .inv .1) (w .0 .left))
           (c .if1 .came),
     )
 
@@ -73,9 +68,9 @@ returns c =
     let d = end .before .before in
     let a = d .before .args in
     some-end _ _ _ (c .before .loop .inv .1) (c .before .loop .inv .0) (c .loop-test .left)
-    ∙ ap (some (λ k. soonerAt (a .times .now) (a .t) k && activePhase (at (end .before .phases-in .result .now) k))) (end .few .ensures)
-    ∙ idle-past (soonerAt (a .times .now) (a .t)) (end .before .phases-in .result .now) (a .tasks)
-    ∙ ap (λ (xs : List ℕ). some (λ k. soonerAt (a .times .now) (a .t) k && activePhase (at xs k)) (a .tasks)) (end .before .phases-in .ensures)
+    ∙ ap (some (λ k. soonerAmong (a .times .now) k (a .t) && activePhase (at (end .before .phases-in .result .now) k))) (end .few .ensures)
+    ∙ idle-past (λ k. soonerAmong (a .times .now) k (a .t)) (end .before .phases-in .result .now) (a .tasks)
+    ∙ ap (λ (xs : List ℕ). some (λ k. soonerAmong (a .times .now) k (a .t) && activePhase (at xs k)) (a .tasks)) (end .before .phases-in .ensures)
 
 pub some-sooner-spec : {M : Type 1} → statement M
 some-sooner-spec =

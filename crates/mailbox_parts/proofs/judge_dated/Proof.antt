@@ -29,16 +29,16 @@ judge-finish-at-requires : tie.Need-judge-finish-at-requires
 judge-finish-at-requires c κs = search needs
 
 returns : tie.Need-returns
-returns c dated v = rw (c .before .before .e .given .1) (c .judge-arrival-at .ensures dated _ v)
+returns c dated v = rw (c .before .before .e .given .1) (c .judge-arrival-at .ensures .1 dated _ v)
 
 returns-2 : tie.Need-returns-2
-returns-2 c dated v = rw (c .before .before .e2 .given .1) (c .judge-start-at .ensures dated _ v)
+returns-2 c dated v = rw (c .before .before .e2 .given .1) (c .judge-start-at .ensures .1 dated _ v)
 
 returns-3 : tie.Need-returns-3
-returns-3 c dated v = rw (c .before .before .e3 .given .1) (c .judge-read-at .ensures dated v)
+returns-3 c dated v = rw (c .before .before .e3 .given .1) (c .judge-read-at .ensures .1 dated v)
 
 returns-4 : tie.Need-returns-4
-returns-4 c dated v = rw (c .before .before .e4 .given .1) (c .judge-finish-at .ensures dated _ _ v)
+returns-4 c dated v = rw (c .before .before .e4 .given .1) (c .judge-finish-at .ensures .1 dated _ _ v)
 
 pub judge-dated-spec : {M : Type 1} → statement M
 judge-dated-spec =

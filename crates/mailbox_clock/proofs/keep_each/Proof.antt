@@ -1,4 +1,4 @@
--- `mailbox_clock::keep_ticks` meets its contract: after t turns those of the first t tasks that are in the set have its tick.
+-- `mailbox_clock::keep_each` meets its contract: after t turns those of the first t tasks that are in the set have its tick.
 -- Assumes nothing.
 use mathlib.Core.Path.{sym, ap, _∙_}
 use mathlib.Core.Logic.{⊎-elim}
@@ -7,14 +7,14 @@ use native.Mathlib.Omega.{arith}
 use borrow.Author.Needs.{needs}
 use Rattle.mailbox_layout.specs.Layout.{cutTimes}
 use Rattle.mailbox_clock.proofs.Ticks.{KeptTo, kept-none, kept-in, kept-out, kept-end}
-use Rattle.mailbox_clock.proofs.keep_ticks.Statement.{statement}
-use Rattle.mailbox_clock.proofs.keep_ticks.Tie as tie
+use Rattle.mailbox_clock.proofs.keep_each.Statement.{statement}
+use Rattle.mailbox_clock.proofs.keep_each.Tie as tie
 
 abbrev Inv-loop : tie.InvT-loop
-Inv-loop set tick tasks times₀ t₀ times t = (t ≤ tasks) × KeptTo set tick times₀ t times
+Inv-loop tick set tasks times₀ t₀ times t = (t ≤ tasks) × KeptTo set tick times₀ t times
 
 abbrev μ-loop : tie.MeasureT-loop
-μ-loop set tick tasks times₀ t₀ times t = tasks - t
+μ-loop tick set tasks times₀ t₀ times t = tasks - t
 
 loop-holds : tie.Need-loop-holds Inv-loop μ-loop
 loop-holds c = (omega arith, kept-none _ _ _)
@@ -49,8 +49,8 @@ returns c =
     let a = l .before .args in
     kept-end (a .set) (a .tick) (a .times .now) _ _ (l .loop .times) (l .loop .inv .1) (l .loop .inv .0) (c .loop-test .left)
 
-pub keep-ticks-spec : {M : Type 1} → statement M
-keep-ticks-spec =
+pub keep-each-spec : {M : Type 1} → statement M
+keep-each-spec =
     tie.close
     (tie.spec
     Inv-loop
