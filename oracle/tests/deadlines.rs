@@ -321,12 +321,35 @@ fn a_tick_is_judged_after_12_and_before_the_rest() {
         assert_eq!(then(MOST_TICK + 1, event), 22);
     }
     assert_eq!([A(1), S(0), F(1, 0), S(1)].map(|event| then(8, event)), [13, 14, 15, 16]);
-    assert_eq!([F(0, 1), F(0, 1)].map(|event| (then(7, event), then(8, event))), [(0, 23); 2]);
-    // A task that runs, is late, and is held up.
-    let held_up = [(0, A(1)), (0, S(0)), (0, F(0, 1)), (0, A(2)), (0, S(1)), (10, A(1)), (10, F(1, 1))];
-    assert_eq!(refused(&dated(&[1, 9], &[]), &held_up), (23, 6));
-    let held_up = [(0, A(2)), (0, S(1)), (0, A(1)), (10, F(1, 1))];
-    assert_eq!(refused(&dated(&[1, 9], &[]), &held_up), (16, 3));
+    // Task 0 is due at 7.
+    assert_eq!([7, 8].map(|tick| then(tick, F(0, 1))), [0, 23]);
+}
+
+/// Of a late job that runs 23 is told where it is the one that may run, else 16.
+#[test]
+fn a_late_finish_is_16_while_another_job_is_due_first() {
+    // Task 1 is due at 9, and finishes at 10.
+    let with_task_0_since = |tick: u32| {
+        let events = [(0, A(2)), (0, S(1)), (tick, A(1)), (10, F(1, 1))];
+        refused(&dated(&[1, 9], &[]), &events)
+    };
+    // Task 0 is due one tick after it arrives: first, at one time and of a task ahead, later.
+    assert_eq!(with_task_0_since(0), (16, 3));
+    assert_eq!(with_task_0_since(8), (16, 3));
+    assert_eq!(with_task_0_since(9), (23, 3));
+    assert_eq!(with_task_0_since(10), (23, 3));
+}
+
+/// 15 comes before 23.
+#[test]
+fn a_late_finish_of_a_task_that_does_not_run_is_15() {
+    let table = dated(&[2], &[]);
+    // It has never arrived; it waits, and is due at 5; it has finished.
+    assert_eq!([2, 3, MOST_TICK].map(|tick| refused(&table, &[(tick, F(0, 1))])), [(15, 0); 3]);
+    assert_eq!([5, 6, MOST_TICK].map(|tick| refused(&table, &[(3, A(1)), (tick, F(0, 1))])), [(15, 1); 3]);
+    let finished = [(3, A(1)), (3, S(0)), (4, F(0, 1))];
+    let again = |tick: u32| refused(&table, &[&finished[..], &[(tick, F(0, 2))]].concat());
+    assert_eq!([4, 5, 6, MOST_TICK].map(again), [(15, 3); 4]);
 }
 
 #[test]

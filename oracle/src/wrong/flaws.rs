@@ -79,6 +79,7 @@ pub enum Flaw {
     TickBeforeTwelve,
     TickAfterPhases,
     TickLast,
+    LateBeforeFifteen,
     LateBeforeSixteen,
     TwentyFourAfterThree,
     TwentyFourAfterLinks,
@@ -364,7 +365,7 @@ const OF_ORDER_RULES: [Flaw; 4] = [Flaw::LinksByTable, Flaw::SevenByTable, Flaw:
 /// The errors about ticks and deadlines in the judgement of an event, which
 /// recordings, saved states and handovers must expose. That 22 comes before 21 can
 /// not show: no tick is past the limit and below the last one.
-const OF_TICKS: [Flaw; 16] = [
+const OF_TICKS: [Flaw; 17] = [
     Flaw::TiesByTable,
     Flaw::TiesFromTheEnd,
     Flaw::OrderByArrival,
@@ -380,6 +381,7 @@ const OF_TICKS: [Flaw; 16] = [
     Flaw::TickBeforeTwelve,
     Flaw::TickAfterPhases,
     Flaw::TickLast,
+    Flaw::LateBeforeFifteen,
     Flaw::LateBeforeSixteen,
 ];
 

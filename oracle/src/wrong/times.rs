@@ -88,6 +88,7 @@ pub fn first_tried(flaw: Flaw, phases: u8, tick: u8, late: u8) -> u8 {
         (_, 12) => 12,
         (Flaw::TickAfterPhases, _) => first_of([phases, tick, late]),
         (Flaw::TickLast, _) => first_of([phases, late, tick]),
+        (Flaw::LateBeforeFifteen, 15) => first_of([tick, late, phases]),
         (Flaw::LateBeforeSixteen, 16) => first_of([tick, late, phases]),
         _ => first_of([tick, phases, late]),
     }
