@@ -48,7 +48,7 @@ impl Subject for Wrong {
             return answer;
         }
         let make = |table: &Table| WrongEngine::new(self.flaw, wrong_fresh(self.flaw, table));
-        let rules = Rules { kind: kind_rule(self.flaw), link: link_rule(self.flaw) };
+        let rules = Rules { kind: kind_rule(self.flaw), link: link_rule(self.flaw), ..Rules::RIGHT };
         let answer = answer_of(replay_by(rules, bytes, lent, make), |engine| engine.state);
         distorted(self.flaw, bytes, answer)
     }

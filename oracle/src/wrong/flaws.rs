@@ -67,6 +67,8 @@ pub enum Flaw {
     AheadFromTheEnd,
     ProtectedByTable,
     FreedByTable,
+    PositionsByTable,
+    IdleByTable,
     // either side of the last tick, of the limit and of the deadline,
     SameTickRefused,
     OneBelowAccepted,
@@ -399,8 +401,10 @@ const OF_JOBS: [Flaw; 8] = [
 ];
 
 /// Those that saved states alone can expose.
-const OF_SAVED_TIMES: [Flaw; 7] = [
+const OF_SAVED_TIMES: [Flaw; 9] = [
     Flaw::SumIn32Bits,
+    Flaw::PositionsByTable,
+    Flaw::IdleByTable,
     Flaw::SincePastAsked,
     Flaw::DeadlinePastAsked,
     Flaw::DeadlineOfTwoBytes,
@@ -408,6 +412,10 @@ const OF_SAVED_TIMES: [Flaw; 7] = [
     Flaw::WithoutTickAccepted,
     Flaw::WithTickAccepted,
 ];
+
+/// Those in when a relative deadline is asked for, which recordings, tables and
+/// handovers must expose.
+const OF_TWENTY_FOUR: [Flaw; 2] = [Flaw::TwentyFourAfterThree, Flaw::TwentyFourAfterLinks];
 
 /// Those in the bytes that both recordings and handovers must expose.
 const OF_DATED_BYTES: [Flaw; 4] =
@@ -417,7 +425,7 @@ const OF_DATED_BYTES: [Flaw; 4] =
 pub fn in_recordings() -> Vec<Flaw> {
     let of_self_links = OF_SELF_LINK_RULES.iter().chain(&OF_SELF_LINKS);
     let of_ends = OF_ENDS.iter().chain(&OF_FRESH_ENDS);
-    let of_times = OF_ORDER_RULES.iter().chain(&OF_TICKS).chain(&OF_JOBS).chain(&OF_DATED_BYTES);
+    let of_times = OF_ORDER_RULES.iter().chain(&OF_TICKS).chain(&OF_JOBS).chain(&OF_TWENTY_FOUR).chain(&OF_DATED_BYTES);
     let all = IN_RECORDINGS.iter().chain(&OF_START_VALUES).chain(of_self_links).chain(of_ends).chain(&OF_KINDS);
     all.chain(of_times).chain(&[Flaw::EarlyPolicyKept]).copied().collect()
 }
@@ -476,7 +484,8 @@ pub fn in_tables() -> Vec<Flaw> {
     flaws.extend(OF_SELF_LINK_RULES);
     flaws.extend(OF_ORDER_RULES);
     flaws.extend([Flaw::PolicyNotSet, Flaw::EarlyPolicyKept, Flaw::DeadlinesPastKept, Flaw::DeadlinePastAsked]);
-    flaws.extend([Flaw::TwentyFourAfterThree, Flaw::TwentyFourAfterLinks, Flaw::DeadlineHighByteFirst]);
+    flaws.extend(OF_TWENTY_FOUR);
+    flaws.push(Flaw::DeadlineHighByteFirst);
     let table_rules = CLAUSES.iter().filter(|clause| clause.table_refusal().is_some());
     flaws.extend(table_rules.map(|clause| Flaw::Unsound(*clause)));
     flaws
@@ -529,6 +538,7 @@ pub fn in_handovers() -> Vec<Flaw> {
     flaws.extend(OF_SELF_LINK_RULES);
     flaws.extend(OF_ORDER_RULES);
     flaws.extend(OF_TICKS);
+    flaws.extend(OF_TWENTY_FOUR);
     flaws.extend(OF_DATED_BYTES);
     flaws.extend([
         TickBeforeKind, TickAfterFields, TickAfterFirst, TickLeftOut, DeadlineBeforeDefault, DeadlineCut,

@@ -2,7 +2,7 @@
 
 use super::Flaw;
 use crate::engine::{Engine, IDLE, RUNNING};
-use crate::format::{event_at, place_of_link_count, Event, Table, Walker, LINK_BYTES};
+use crate::format::{event_at, place_of_link_count, Event, Fault, Rules, Table, Walker, LINK_BYTES};
 use crate::pointers as right;
 use crate::sizes::RecordingKind;
 use crate::state::{State, BY_DEADLINE};
@@ -38,6 +38,13 @@ pub fn distorted<'a>(flaw: Flaw, bytes: &'a [u8], mut answer: Answer<'a>) -> Ans
         }
         Flaw::DeadlineInItsField if refusal == 24 => (0..4).for_each(|_| shift_place(&mut answer)),
         Flaw::NoDeadlineTwo if refusal == 24 => answer.refusal = 2,
+        Flaw::TwentyFourAfterThree | Flaw::TwentyFourAfterLinks if refusal == 24 => {
+            if let Some(fault) = found_before_24(flaw, bytes) {
+                answer.refusal = fault.refusal;
+                answer.place = fault.place;
+                answer.rest = &bytes[fault.place..];
+            }
+        }
         Flaw::EighteenBeforeFifteen if (15..=16).contains(&refusal) => room_first(bytes, &mut answer),
         Flaw::PlaceInsideEvent if refusal != 0 && refusal != 17 && part() == Part::Events => shift_place(&mut answer),
         Flaw::PlaceInsideLink if matches!(refusal, 5..=9 | 20) => shift_place(&mut answer),
@@ -94,6 +101,17 @@ fn event_count_reached(bytes: &[u8], place: usize) -> bool {
     let mut whole = bytes[..place].to_vec();
     whole.extend_from_slice(&[0, 0]);
     Oracle.replay(&whole, &[]).refusal == 0
+}
+
+/// What a reader finds that asks for relative deadlines only after L, or only
+/// after the links; nothing where all is well up to there.
+fn found_before_24(flaw: Flaw, bytes: &[u8]) -> Option<Fault> {
+    let not_asking = Rules { deadline: |_| 0, ..Rules::RIGHT };
+    let fault = Walker::by(not_asking, bytes).head().err()?;
+    let links_at = place_of_link_count(RecordingKind::DATED, usize::from(bytes[1]));
+    let links = bytes.get(links_at).map_or(0, |links| LINK_BYTES * usize::from(*links));
+    let asked_at = if flaw == Flaw::TwentyFourAfterThree { links_at + 1 } else { links_at + 1 + links };
+    Some(fault).filter(|fault| fault.place < asked_at)
 }
 
 fn table_before(bytes: &[u8]) -> Table {

@@ -3,14 +3,16 @@
 use super::tables::link_rule;
 use super::{ends, times, Flaw};
 use crate::format::{link_faults, DELAYED};
-use crate::state::{broken_clauses, sound, Clause, State, ABSENT, SEEN_TWO};
+use crate::state::{broken_clauses, sound, Clause, State, ABSENT, FIXED, SEEN_TWO};
 
 /// Whether the flaw takes a state for sound that is not.
 pub fn too_mild(flaw: Flaw, state: &State) -> bool {
     match flaw {
         Flaw::Unsound(clause) => broken_clauses(state) == [clause],
         Flaw::NotAskedOfSelf(clause) => broken_clauses(state) == [clause] && sound(&with_self_links_mended(state)),
-        Flaw::SelfRoom => broken_by_one_position(state),
+        Flaw::SelfRoom => broken_in_positions(state) && within(state, |task| positions_with_self_links(state, task)),
+        Flaw::PositionsByTable => broken_in_positions(state) && within_by_table(state),
+        Flaw::IdleByTable => broken_clauses(state) == [Clause::IdleReaderWith] && !idle_with_pointer_by_table(state),
         Flaw::TwentyByLowByte | Flaw::SelfDirectAccepted | Flaw::SelfTwice => {
             broken_in_links(state) && !fault_by_rule(flaw, state)
         }
@@ -33,6 +35,8 @@ pub fn too_strict(flaw: Flaw, state: &State) -> bool {
         Flaw::SelfPreviousAsked => |_, state| {
             any_present_self_link(state, |link| state.pointer[link] != state.previous[usize::from(state.writer[link])])
         },
+        Flaw::PositionsByTable => |_, state| !within_by_table(state),
+        Flaw::IdleByTable => |_, state| idle_with_pointer_by_table(state),
         Flaw::StatesBySmaller => |_, state| ends::past_smaller(state),
         Flaw::SelfCountedBehind | Flaw::SelfAsNinth | Flaw::SelfDelayedRefused => fault_by_rule,
         Flaw::LinksByTable | Flaw::SevenByTable | Flaw::NineByTable | Flaw::AheadFromTheEnd => fault_by_rule,
@@ -76,16 +80,39 @@ fn with_self_links_mended(state: &State) -> State {
     mended
 }
 
-/// Whether all would be well if a task with a self link had one position more.
-fn broken_by_one_position(state: &State) -> bool {
+/// Whether nothing is broken but that a position is none of its task's.
+fn broken_in_positions(state: &State) -> bool {
     let of_positions = [Clause::Newest, Clause::Previous, Clause::Pointer];
     let broken = broken_clauses(state);
-    if broken.is_empty() || broken.iter().any(|clause| !of_positions.contains(clause)) {
-        return false;
-    }
-    let more = |task: usize| state.self_links_of(1 << task).count();
-    let inside = |position: u8, task: usize| usize::from(position) <= state.positions(task) + more(task);
+    !broken.is_empty() && broken.iter().all(|clause| of_positions.contains(clause))
+}
+
+/// Whether each `newest`, `previous` and pointer would be a position of its task,
+/// if the task had so many.
+fn within(state: &State, positions: impl Fn(usize) -> usize) -> bool {
+    let inside = |position: u8, task: usize| usize::from(position) <= positions(task);
     let named = |position: u8, task: usize| position > 0 && inside(position, task);
     (0..usize::from(state.tasks)).all(|task| named(state.newest[task], task) && named(state.previous[task], task))
         && !any_link(state, |link| !inside(state.pointer[link], usize::from(state.writer[link])))
+}
+
+fn positions_with_self_links(state: &State, task: usize) -> usize {
+    state.positions(task) + state.self_links_of(1 << task).count()
+}
+
+/// The state with its tasks in the table's order.
+fn by_table(state: &State) -> State {
+    State { policy: FIXED, ..*state }
+}
+
+fn within_by_table(state: &State) -> bool {
+    let by_table = by_table(state);
+    within(state, |task| by_table.positions(task))
+}
+
+/// Whether an idle reader has a pointer from a writer earlier in the table.
+fn idle_with_pointer_by_table(state: &State) -> bool {
+    let by_table = by_table(state);
+    let idle = |link: usize| !state.active(usize::from(state.reader[link]));
+    any_link(state, |link| idle(link) && by_table.reader_behind(link) && state.pointer[link] != ABSENT)
 }
