@@ -5,7 +5,7 @@ use oracle::example::own_output_example;
 use oracle::format::{encode, untimed, Event, Link, Recording, Table};
 use oracle::pointers::Pointers;
 use oracle::reach::Reached;
-use oracle::sizes::RecordingKind;
+use oracle::sizes::{RecordingKind, KINDS};
 use oracle::subject::{Oracle, Subject};
 use Event::{Arrival as A, Finish as F, Read as R, Start as S};
 
@@ -14,11 +14,11 @@ fn all_that_was_not_reached_is_named() {
     let missing = Reached::default().missing();
     // 20 refusals in recordings of each kind and 4 more in dated ones, 2 of none, 10 of one event, 11 of tables, 19 of
     // writing each kind and 4 more of a dated one, 1 of none; then recordings written again and refused alike, and wide
-    // sets; then states of the other policy, either way; then the lines: 6, 4 and 4 of a kind, and 4 first bytes; then
+    // sets; then states of the other policy, either way; then the lines: 8, 6 and 6 of a kind, and 4 first bytes; then
     // how deep and how far; and in recordings and saved states 9 items of start values and marks, 9 of self links, 11 of
     // the last task and link, and 14 of ticks.
     let refusals = 3 * 20 + 4 + 2 + 10 + 11 + 3 * 19 + 4 + 1;
-    assert_eq!(missing.len(), refusals + 3 + 2 + 6 + 4 + 4 + 4 + 6 + 2 * (9 + 9 + 11 + 14));
+    assert_eq!(missing.len(), refusals + 3 + 2 + 8 + 6 + 6 + 4 + 6 + 2 * (9 + 9 + 11 + 14));
     let named = [
         "refusal 18 in recordings of 253",
         "refusal 20 in recordings of 254",
@@ -32,6 +32,8 @@ fn all_that_was_not_reached_is_named() {
         "refusal 2 of writing no kind",
         "20 recordings of 253 refused for links for which a state has room: 0",
         "20 recordings of 254 accepted with the most tasks: 0",
+        "5 recordings of 255 accepted with the most events: 0",
+        "5 recordings of 255 refused with one event more: 0",
         "20 recordings that begin with 252: 0",
         "20 reads by link 95 in recordings: 0",
         "20 finishes of task 31 in saved states: 0",
@@ -135,7 +137,20 @@ fn what_the_last_task_and_link_did_is_counted() {
 
 /// Notes a recording of one event, which is refused with the answer.
 fn note(reached: &mut Reached, kind: RecordingKind, table: &Table, event: Event) -> u8 {
-    let bytes = encode(&Recording { kind, table: table.clone(), events: untimed(&[event]) });
+    note_whole(reached, Recording { kind, table: table.clone(), events: untimed(&[event]) })
+}
+
+/// The same of the first so many events of a task that runs again and again; where
+/// there are ticks all are at 0.
+fn note_runs(reached: &mut Reached, kind: RecordingKind, count: usize) -> u8 {
+    let deadlines = Some(vec![1]).filter(|_| kind.dated);
+    let table = Table { deadlines, ..Table::undated(vec![0], Vec::new()) };
+    let events: Vec<Event> = [A(1), S(0), F(0, 5)].into_iter().cycle().take(count).collect();
+    note_whole(reached, Recording { kind, table, events: untimed(&events) })
+}
+
+fn note_whole(reached: &mut Reached, recording: Recording) -> u8 {
+    let bytes = encode(&recording);
     let answer = Oracle.replay(&bytes, &[]);
     reached.note_recording(&bytes, &answer);
     answer.refusal
@@ -177,4 +192,19 @@ fn either_side_of_the_limits_is_counted_by_kind() {
             "20 recordings that begin with 252: 2",
         ],
     );
+}
+
+#[test]
+fn either_side_of_the_most_events_is_counted_by_kind() {
+    let mut reached = Reached::default();
+    let refusals = KINDS.map(|kind| {
+        let most = kind.most_events;
+        [most - 1, most, most + 1, most + 2].map(|count| note_runs(&mut reached, kind, count))
+    });
+    assert_eq!(refusals, [[0, 0, 10, 10]; 3]);
+    for kind in [253, 254, 255] {
+        let accepted = format!("5 recordings of {} accepted with the most events: 1", kind);
+        let refused = format!("5 recordings of {} refused with one event more: 1", kind);
+        assert_all(&reached.missing(), &[&accepted, &refused]);
+    }
 }
