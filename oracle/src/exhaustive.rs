@@ -1,6 +1,7 @@
 //! Every sequence of events up to a depth over small tables, or about the last
-//! tasks and links of large ones: `Pointers` against `ZeroTime`, and the subject against both; and a sequence to each
-//! state, with one more event, written by the subject.
+//! tasks and links of large ones: `Pointers` against `ZeroTime`, and the
+//! subject against both; and a sequence to each state, with one more event,
+//! written by the subject.
 //!
 //! Finish values are all different, and neither engine looks at a value, so
 //! two histories whose states differ only by a renaming of values have the

@@ -1,5 +1,5 @@
 //! Request 2026-06, thirty-two tasks: cases worked out by hand, on either side of
-//! each line of either kind of recording.
+//! each line of 253 and 254.
 
 mod common;
 

@@ -373,13 +373,14 @@ pub fn rest<'a>(bytes: &'a [u8], answer: &Answer) -> &'a [u8] {
 
 /// Writes a recording of a kind, `BASE_KIND`, `WIDE_KIND` or `DATED_KIND`, into the buffer. `tasks` has the default of each task, with `DATED_KIND`
 /// its default and its relative deadline; `links` writer, reader, kind and start value of each link; `events` the kind of each event, with
-/// `DATED_KIND` its tick, and what it has: 1 and a set, 2 and a task, 3 and a link, 4, a task and a value. What is written `replay` accepts, with room for the numbers, as the same table, links and events.
+/// `DATED_KIND` its tick, and what it has: 1 and a set, 2 and a task, 3 and a link, 4, a task and a value. What is written `replay` accepts, with
+/// room for the numbers, as the same table, links and events.
 ///
-/// Refusals are the reader's, by the kind's limits, at the place where it would find the fault; a kind that is none of the three is 2 at 0.
-/// No number is cut to its field: a task 256 is not in the table, nor is with `BASE_KIND` a task above 15 in a set, and a relative deadline above
-/// 65,535 is 24, as 0 is. A task, link or event whose numbers are not all there counts, and is refusal 1; an unknown kind of event counts, is 11, and nothing after it is looked at. Last comes
-/// 18, a buffer too short, with the length of the whole recording as its place. A refusal touches no byte of the buffer, and an acceptance
-/// none past those written.
+/// Refusals are the reader's, by the kind's limits, at the place where it would find the fault; a kind that is none of the three is 2 at 0. No
+/// number is cut to its field: a task 256 is not in the table, nor is with `BASE_KIND` a task above 15 in a set, and a relative deadline above
+/// 65,535 is 24, as 0 is. A task, link or event whose numbers are not all there counts, and is refusal 1; an unknown kind of event counts, is 11,
+/// and nothing after it is looked at. Last comes 18, a buffer too short, with the length of the whole recording as its place. A refusal touches no
+/// byte of the buffer, and an acceptance none past those written.
 pub fn write(kind: u32, tasks: &[u32], links: &[u32], events: &[u32], bytes: &mut [u8]) -> Written {
     let mut place = usize::MAX;
     // SAFETY: each slice passes with its own length, and its pointer is not null even where it is empty. The buffer is lent to this

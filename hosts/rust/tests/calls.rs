@@ -1,5 +1,5 @@
-//! Each call of the library from Rust, in both kinds of recording with fixed priorities (tests/dated.rs has the third): the long example, edge sizes, limits, refusals and what they leave; what is
-//! written, and read again.
+//! Each call of the library from Rust, in both kinds of recording with fixed priorities (tests/dated.rs has the third): the long example, edge
+//! sizes, limits, refusals and what they leave; what is written, and read again.
 use parnusild::{
     replay, rest, write, Answer, Event, State, Table, Written, BASE_KIND, DATED_KIND, LINKS, RECORDING, TASKS,
     WIDE_KIND,
@@ -181,8 +181,8 @@ fn room_for_the_numbers() {
     }
 }
 
-/// The refusal and the place of a recording that is refused at its first byte, in its table or at a count: nothing is counted, the list is untouched, the state
-/// is that of a single task, and the rest begins at the place.
+/// The refusal and the place of a recording that is refused at its first byte, in its table or at a count: nothing is counted, the list is
+/// untouched, the state is that of a single task, and the rest begins at the place.
 fn early(bytes: &[u8]) -> (u8, usize) {
     let mut list = [77; 3];
     let a = replay(bytes, &mut list);

@@ -1,4 +1,4 @@
-//! Counts, sets, tasks and links at the limits of either kind of recording, and
+//! Counts, sets, tasks and links at the limits of each kind of recording, and
 //! past them: the bytes of what is handed over there.
 
 use super::Case;

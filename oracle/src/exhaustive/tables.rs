@@ -37,11 +37,12 @@ impl Explored {
     }
 }
 
-/// Every table of one task and of two, and each of them at the end of the room. Of three tasks: without self links every
-/// one with four links; with self links every one with up to one link between
-/// different tasks, and with two such links every one in which each task has a
-/// self link. With `long` every one of three tasks in which none or each has a
-/// self link, and every one with up to three links between different tasks.
+/// Every table of one task and of two, and each of them at the end of the room.
+/// Of three tasks: without self links every one with four links; with self
+/// links every one with up to one link between different tasks, and with two
+/// such links every one in which each task has a self link. With `long` every
+/// one of three tasks in which none or each has a self link, and every one with
+/// up to three links between different tasks.
 ///
 /// From its task's first arrival on a self link points to `previous`, and it is
 /// marked until the second. So it adds reads but no states: where each task has

@@ -4,13 +4,13 @@ use super::Lent;
 use crate::sizes::{RecordingKind, UNDATED};
 use crate::writing::Handover;
 
-/// Of either kind with fixed priorities in turn: every slice of links of up to five numbers from 0 to 3, with none to three
-/// tasks, and of up to eight numbers from 0 to 2, with two tasks and with
-/// three; every slice of events of up to seven numbers from 0 to 4, with two
-/// tasks and the link between them, and of up to five without the link. Of a dated
-/// recording: every slice of tasks of up to six numbers from 0 to 2, and after the
-/// start of one of two tasks every slice of events of up to six numbers from 0 to
-/// 4.
+/// Of either kind with fixed priorities in turn: every slice of links of up to
+/// five numbers from 0 to 3, with none to three tasks, and of up to eight
+/// numbers from 0 to 2, with two tasks and with three; every slice of events of
+/// up to seven numbers from 0 to 4, with two tasks and the link between them,
+/// and of up to five without the link. Of a dated recording: every slice of
+/// tasks of up to six numbers from 0 to 2, and after the start of one of two
+/// tasks every slice of events of up to six numbers from 0 to 4.
 pub fn every_short() -> impl Iterator<Item = Lent> {
     let links = (0..=3).flat_map(|tasks| slices(4, 5).map(move |links| (tasks, links, Vec::new())));
     let pairs = (2..=3).flat_map(|tasks| slices(3, 8).map(move |links| (tasks, links, Vec::new())));

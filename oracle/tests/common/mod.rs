@@ -54,7 +54,8 @@ pub fn verdict_in(kind: RecordingKind, tasks: u32, links: &[Link]) -> (u8, usize
     verdict(&encode(&Recording { kind, table: table(tasks, links), events: Vec::new() }))
 }
 
-/// The same, alike in either kind; the table by itself must earn the same refusal.
+/// The same, alike in either kind with fixed priorities; the table by itself must
+/// earn the same refusal.
 pub fn verdict_on_links(tasks: u32, links: &[Link]) -> (u8, usize) {
     let made = Oracle.fresh(&LentTable::of(&table(tasks, links)));
     let [(refusal, place), larger] = UNDATED.map(|kind| verdict_in(kind, tasks, links));
