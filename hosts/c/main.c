@@ -1,10 +1,11 @@
 /* A host in C. It asks the library for its sizes, and sees that they are the header's; replays a recording and prints what was read and
  * counted, then gives the same events one by one to a saved state of its own and sees that both end in the same state; then gives some
- * events that are refused; then tries each call at edge sizes; then writes the recording itself, in both kinds, replays what it wrote, and
- * has some writing refused; then holds each kind to its limits, and a state to its room; then reads the start value of a delayed link up to
- * its writer's second arrival, and has a state refused after each change that makes it unsound; then has a task read its own last output;
- * then gives events at ticks to a state by deadlines, has ticks, deadlines and states refused there, and writes and replays a dated recording;
- * then sees that each named field of a state stands where the library has it.
+ * events that are refused; then tries each call at edge sizes; then writes the recording itself, in both kinds with fixed priorities, replays
+ * what it wrote, and has some writing refused; then holds each kind to its limits; then reads the start value of a delayed link up to its
+ * writer's second arrival, and has a state refused after each change that makes it unsound; then has a task read its own last output; then
+ * holds a state to its room; then gives events at ticks to a state by deadlines, and has ticks, deadlines and states refused there; then writes
+ * a dated recording, replays it, gives the same events one by one and sees that both end in the same state, and has some writing refused; then
+ * sees that each named field of a state stands where the library has it.
  *
  *     host FILE       the long example of docs/FORMAT.md (recordings/figure-17.rec)
  */
@@ -246,8 +247,8 @@ static void edge_sizes(size_t size)
     least_dated();
 }
 
-/* the buffer that is written to, 77 in each byte before; the longest that is written here has 1258 */
-static uint8_t written[1280];
+/* the buffer that is written to, 77 in each byte before */
+static uint8_t written[PARNUSILD_RECORDING];
 
 /* whether a byte of the buffer is no longer 77, from a place on */
 static int touched(size_t from)
@@ -426,6 +427,28 @@ static size_t round_as_numbers(uint32_t *list, uint32_t set, size_t tasks, size_
     return size;
 }
 
+/* makes what is handed over dated: each task has the relative deadline 9, so that the order is still the table's, and each event the tick 7 */
+static void date(struct handover *h)
+{
+    static uint32_t tasks[2 * (PARNUSILD_TASKS + 1)], events[4 * (PARNUSILD_EVENTS + 1)];
+    size_t at, of_event, size = 0;
+    for (at = 0; at < h->tasks_size; at++) {
+        tasks[2 * at] = h->tasks[at];
+        tasks[2 * at + 1] = 9;
+    }
+    for (at = 0; at < h->events_size; at += of_event) {
+        of_event = h->events[at] == PARNUSILD_FINISH ? 3 : 2;
+        events[size++] = h->events[at];
+        events[size++] = 7;
+        memcpy(&events[size], &h->events[at + 1], (of_event - 1) * sizeof events[0]);
+        size += of_event - 1;
+    }
+    h->tasks = tasks;
+    h->tasks_size *= 2;
+    h->events = events;
+    h->events_size = size;
+}
+
 /* a round of so many tasks and links, written in a kind; how many bytes were written */
 static size_t put_rings(uint32_t kind, size_t tasks, size_t links, uint32_t set)
 {
@@ -436,11 +459,13 @@ static size_t put_rings(uint32_t kind, size_t tasks, size_t links, uint32_t set)
     h.tasks_size = tasks;
     h.links_size = rings_as_numbers(list, tasks, links);
     h.events_size = round_as_numbers(events, set, tasks, links);
+    if (kind == PARNUSILD_KIND_DATED)
+        date(&h);
     printf("kind %u, %zu tasks, %zu links, set %x, ", (unsigned)kind, tasks, links, (unsigned)set);
     return put("to be written", &h, sizeof written);
 }
 
-/* likewise, and then replayed: what is said of it, and the last number read; then with the other kind in its first byte */
+/* likewise, and then replayed: what is said of it, and the last number read; then with another kind in its first byte */
 static void try_rings(uint32_t kind, size_t tasks, size_t links, uint32_t set)
 {
     const size_t size = put_rings(kind, tasks, links, set);
@@ -448,8 +473,27 @@ static void try_rings(uint32_t kind, size_t tasks, size_t links, uint32_t set)
         return;
     edge("replayed", written, size, numbers, links);
     printf("the last number read: %u\n", (unsigned)numbers[links - 1]);
-    written[0] = kind == PARNUSILD_KIND_BASE ? PARNUSILD_KIND_WIDE : PARNUSILD_KIND_BASE;
-    edge("replayed in the other kind", written, size, numbers, links);
+    written[0] = kind == PARNUSILD_KIND_WIDE ? PARNUSILD_KIND_BASE : PARNUSILD_KIND_WIDE;
+    edge("replayed in another kind", written, size, numbers, links);
+}
+
+/* so many events of one task, which runs again and again, written in a kind and then replayed */
+static void try_events(uint32_t kind, size_t count)
+{
+    static const uint32_t task[] = { 5 }, run_of_it[] = { PARNUSILD_ARRIVAL, 1, PARNUSILD_START, 0, PARNUSILD_FINISH, 0, 9 };
+    static uint32_t events[3 * (PARNUSILD_EVENTS + 1)];
+    struct handover h = { 0, task, 1, NULL, 0, events, 0 };
+    size_t i, size;
+    h.kind = kind;
+    h.events_size = count / 3 * 7 + count % 3 * 2; /* the arrival and the start have two numbers, the finish three */
+    for (i = 0; i < h.events_size; i++)
+        events[i] = run_of_it[i % 7];
+    if (kind == PARNUSILD_KIND_DATED)
+        date(&h);
+    printf("kind %u, %zu events, ", (unsigned)kind, count);
+    size = put("to be written", &h, sizeof written);
+    if (size != 0)
+        edge("replayed", written, size, NULL, 0);
 }
 
 /* either side of the first kind's limits, 16 tasks, 32 links, and task 15 in a set, for a recording of any kind */
@@ -461,15 +505,28 @@ static void base_limits(uint32_t kind)
     try_rings(kind, 16, 32, 0x1ffff);
 }
 
-/* these in both kinds, and the other kind's, 32, 96 and 31 */
+/* likewise of the other two kinds, 32, 96 and 31 */
+static void wide_limits(uint32_t kind)
+{
+    try_rings(kind, 32, 96, 0xffffffff);
+    try_rings(kind, 33, 96, 0xffffffff);
+    try_rings(kind, 32, 97, 0xffffffff);
+    try_rings(kind, 31, 93, 0xffffffff);
+}
+
+/* the first kind's in both kinds with fixed priorities, the other two's, and either side of the most events of each */
 static void limits(void)
 {
     base_limits(PARNUSILD_KIND_BASE);
     base_limits(PARNUSILD_KIND_WIDE);
-    try_rings(PARNUSILD_KIND_WIDE, 32, 96, 0xffffffff);
-    try_rings(PARNUSILD_KIND_WIDE, 33, 96, 0xffffffff);
-    try_rings(PARNUSILD_KIND_WIDE, 32, 97, 0xffffffff);
-    try_rings(PARNUSILD_KIND_WIDE, 31, 93, 0xffffffff);
+    wide_limits(PARNUSILD_KIND_WIDE);
+    wide_limits(PARNUSILD_KIND_DATED);
+    try_events(PARNUSILD_KIND_BASE, PARNUSILD_EVENTS);
+    try_events(PARNUSILD_KIND_BASE, PARNUSILD_EVENTS + 1);
+    try_events(PARNUSILD_KIND_WIDE, PARNUSILD_EVENTS);
+    try_events(PARNUSILD_KIND_WIDE, PARNUSILD_EVENTS + 1);
+    try_events(PARNUSILD_KIND_DATED, PARNUSILD_EVENTS_DATED);
+    try_events(PARNUSILD_KIND_DATED, PARNUSILD_EVENTS_DATED + 1);
 }
 
 /* a waiting task starts and finishes; 0 where neither is refused */
@@ -685,6 +742,33 @@ static void ticks(struct parnusild_state *state)
     give("late task finishes", state, PARNUSILD_LAST_TICK, PARNUSILD_FINISH, 1, 0);
 }
 
+/* two tasks with one relative deadline that arrive at once: the order of the table decides */
+static void tie_by_table(void)
+{
+    static const struct parnusild_table two = { .tasks = 2 };
+    static const uint16_t alike[PARNUSILD_TASKS] = { 4, 4 };
+    struct parnusild_state state;
+    unsigned refusals = parnusild_state_fresh_dated(&state, &two, alike);
+    refusals |= parnusild_state_arrival_at(&state, 3, 0x3);
+    printf("both arrive: %s\n", refusals ? "REFUSED" : "accepted");
+    give("start of the later in the table", &state, 3, PARNUSILD_START, 1, 0);
+    give("start of the earlier in the table", &state, 3, PARNUSILD_START, 0, 0);
+}
+
+/* the largest relative deadline: a finish one tick after it, and at it */
+static void largest_deadline(void)
+{
+    static const struct parnusild_table one = { .tasks = 1 };
+    static const uint16_t largest[PARNUSILD_TASKS] = { 65535 };
+    struct parnusild_state state;
+    unsigned refusals = parnusild_state_fresh_dated(&state, &one, largest);
+    refusals |= parnusild_state_arrival_at(&state, 1000, 0x1);
+    refusals |= parnusild_state_start_at(&state, 1000, 0);
+    printf("relative deadline 65535, from 1000 on: %s\n", refusals ? "REFUSED" : "accepted");
+    give("finish one tick after its deadline", &state, 1000 + 65536, PARNUSILD_FINISH, 0, 5);
+    give("finish at its deadline", &state, 1000 + 65535, PARNUSILD_FINISH, 0, 5);
+}
+
 /* a number of the times changed, which is then put back: the arrival of task 0 */
 static void arrive_with(const char *what, struct parnusild_state *state, uint32_t *field, uint32_t changed)
 {
@@ -723,10 +807,32 @@ static void unsound_times(void)
     refuse("fixed priorities with a relative deadline", &fixed, PARNUSILD_ARRIVAL, 1);
 }
 
-/* a dated recording written, replayed and compared with the same events one by one; then refused */
+/* the events of a dated recording as they are handed over, one by one on the fresh state of the dated table; then whether numbers and state
+ * are those of the replay */
+static void one_by_one_at(const uint32_t *events, size_t size, const struct parnusild_state *replayed)
+{
+    struct parnusild_state state;
+    size_t at, of_event, all = 0, done = 0, reads = 0, alike = 0;
+    uint32_t number;
+    printf("fresh %u\n", parnusild_state_fresh_dated(&state, &dated_table, relative));
+    for (at = 0; at < size; at += of_event, all++) {
+        const uint8_t kind = (uint8_t)events[at];
+        of_event = kind == PARNUSILD_FINISH ? 4 : 3;
+        if (parnusild_state_event_at(&state, events[at + 1], kind, events[at + 2], of_event == 4 ? events[at + 3] : 0, &number) == 0)
+            done++;
+        if (kind == PARNUSILD_READ)
+            alike += number == numbers[reads++];
+    }
+    printf("accepted %zu of %zu, numbers alike %zu of %zu\n", done, all, alike, reads);
+    printf("states %s\n", same(&state, replayed) ? "alike" : "DIFFER");
+}
+
+/* a dated recording, of the dated table, written, replayed and compared with the same events one by one; then an arrival at the last tick
+ * there is; then refused */
 static void writing_dated(void)
 {
     static const uint32_t tasks[] = { 100, 5, 101, 2, 7 }, links[] = { 1, 0, 0, 0, 0, 1, 1, 40 };
+    static const uint32_t at_the_limit[] = { PARNUSILD_ARRIVAL, PARNUSILD_LAST_TICK, 1 };
     static uint32_t events[] = { 1, 0, 1, 2, 1, 0, 1, 3, 2, 2, 3, 1, 3, 3, 1, 4, 3, 1, 11, 3, 5, 0, 4, 5, 0, 5 };
     const size_t all = sizeof events / sizeof events[0];
     const struct handover whole = { PARNUSILD_KIND_DATED, tasks, 4, links, 8, events, all };
@@ -735,6 +841,11 @@ static void writing_dated(void)
     const size_t size = put("written, dated", &whole, sizeof written);
     replay(written, size, &state);
     printf("last %u, policy %u\n", (unsigned)state.times.last, (unsigned)state.times.policy);
+    one_by_one_at(events, all, &state);
+    other.events = at_the_limit;
+    other.events_size = 3;
+    put("tick at the limit", &other, sizeof written);
+    other = whole;
     put("one byte short", &whole, size - 1);
     other.tasks_size = 5;
     put("task begun", &other, sizeof written);
@@ -1029,6 +1140,8 @@ int main(int argc, char **argv)
     dated_tables();
     by_deadlines(&state);
     ticks(&state);
+    tie_by_table();
+    largest_deadline();
     unsound_times();
     writing_dated();
     layout(&state);
