@@ -96,16 +96,27 @@ fn after(state: &State, events: &[(u32, Event)]) -> State {
     s
 }
 
-/// The refusal that a state gives an event at a tick, 0 for none; a refusal has the number 0 and leaves the state as it was.
+/// An event as a call takes it: its kind, its set, task or link, and its value.
+fn in_numbers(event: Event) -> (u8, u32, u32) {
+    match event {
+        Arrival(set) => (1, set, 0),
+        Start(task) => (2, task, 0),
+        Read(link) => (3, link, 0),
+        Finish(task, value) => (4, task, value),
+    }
+}
+
+/// The refusal that a state gives an event at a tick, 0 for none, by either call; a refusal has the number 0 and leaves the state as it was.
 fn refusal(s: &State, tick: u32, event: Event) -> u8 {
     let mut after = s.clone();
-    match after.event_at(tick, event) {
-        Ok(_) => 0,
-        Err(refusal) => {
-            assert_eq!(&after, s, "the state after a refused event");
-            refusal
-        }
+    let (kind, which, value) = in_numbers(event);
+    let (refusal, number) = after.call_at(tick, kind, which, value);
+    if refusal != 0 {
+        assert_eq!(number, 0, "the number of a refused event");
+        assert_eq!(&after, s, "the state after a refused event");
     }
+    assert_eq!(s.clone().event_at(tick, event), if refusal == 0 { Ok(number) } else { Err(refusal) });
+    refusal
 }
 
 #[test]
@@ -255,6 +266,44 @@ fn which_job_may_run() {
     assert_eq!(starts(&[1, 2], 1), [0, 16]);
 }
 
+/// A finish passes so many ticks after the arrival, and is 23 one tick later.
+#[test]
+fn the_largest_relative_deadline() {
+    let one = fresh(&table(&[0], &[]), &[65_535]);
+    for since in [0, 1, 1_000, LAST_TICK - 65_536] {
+        let s = after(&one, &[(since, Arrival(1)), (since, Start(0))]);
+        assert_eq!([65_535, 65_536].map(|ticks: u32| refusal(&s, since + ticks, Finish(0, 1))), [0, 23]);
+    }
+}
+
+/// A saved state may have a relative deadline that no recording has, and a job that is due at a tick that 32 bits can't hold: it goes after
+/// those that are due earlier, and is never late.
+#[test]
+fn relative_deadlines_that_no_recording_has() {
+    let since = LAST_TICK - 70_000;
+    let begun = after(&fresh(&table(&[0; 2], &[]), &[9, 9]), &[(since, Arrival(0b11))]);
+    let saved = |deadlines: [u32; 2]| {
+        let mut s = begun.clone();
+        s.times.deadline[..2].copy_from_slice(&deadlines);
+        s
+    };
+    let starts = |deadlines: [u32; 2]| [0, 1].map(|task| refusal(&saved(deadlines), LAST_TICK, Start(task)));
+    // with this one a job is due at 2^32, which is 0 in 32 bits
+    let past_32_bits = u32::MAX - since + 1;
+    assert_eq!(starts([65_536, 65_537]), [0, 16]);
+    assert_eq!(starts([65_537, 65_536]), [16, 0]);
+    assert_eq!(starts([past_32_bits - 1, past_32_bits]), [0, 16]);
+    assert_eq!(starts([past_32_bits, past_32_bits - 1]), [16, 0]);
+    assert_eq!(starts([u32::MAX, 1]), [16, 0]);
+    assert_eq!(starts([u32::MAX, u32::MAX]), [0, 16]);
+    let finish = |deadline: u32, ticks: u32| {
+        let s = after(&saved([deadline, u32::MAX]), &[(since, Start(0))]);
+        refusal(&s, since + ticks, Finish(0, 1))
+    };
+    assert_eq!([65_536, 65_537].map(|ticks| finish(65_536, ticks)), [0, 23]);
+    assert_eq!([past_32_bits - 1, past_32_bits, u32::MAX].map(|deadline| finish(deadline, 70_000)), [0; 3]);
+}
+
 /// What soundness asks of times, each by one change of a sound state.
 #[test]
 fn unsound_times() {
@@ -336,6 +385,8 @@ fn writing_is_refused_as_reading_is() {
     }
     assert_eq!(given(&[9, 1, 9, 65_535], &[]), (0, 17));
     assert_eq!(given(&[9; 65], &[]), (2, 1));
+    assert_eq!(given(&[9, 1], &[1, LAST_TICK, 1]), (0, 20));
+    assert_eq!(given(&[9, 1], &[1, LAST_TICK + 1, 1]), (22, 11));
     let then = |events: &[u32]| given(&[9, 2, 9, 9], &[&[1, 5, 3, 2, 5, 0], events].concat());
     assert_eq!(then(&[2, LAST_TICK + 1, 256]), (12, 32));
     assert_eq!(then(&[2, LAST_TICK + 1, 0]), (22, 32));
