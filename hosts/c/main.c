@@ -430,7 +430,7 @@ static size_t round_as_numbers(uint32_t *list, uint32_t set, size_t tasks, size_
 /* makes what is handed over dated: each task has the relative deadline 9, so that the order is still the table's, and each event the tick 7 */
 static void date(struct handover *h)
 {
-    static uint32_t tasks[2 * (PARNUSILD_TASKS + 1)], events[4 * (PARNUSILD_EVENTS + 1)];
+    static uint32_t tasks[2 * (PARNUSILD_TASKS + 1)], events[4 * (PARNUSILD_EVENTS_DATED + 1)];
     size_t at, of_event, size = 0;
     for (at = 0; at < h->tasks_size; at++) {
         tasks[2 * at] = h->tasks[at];
