@@ -44,7 +44,7 @@ enum {
 };
 
 /* The last tick there is; a later one is refusal 22. */
-#define PARNUSILD_LAST_TICK UINT32_C(4000000000)
+#define PARNUSILD_MOST_TICK UINT32_C(4000000000)
 
 /* The kinds of a recording, by its first byte. Any other first byte is refusal 2, at place 0. */
 enum {
@@ -260,7 +260,7 @@ static inline uint8_t parnusild_state_event(struct parnusild_state *PARNUSILD_RE
                            (uint32_t *)&state->values, (uint32_t *)&state->times);
 }
 
-/* One event given at a tick to a state by deadlines; one of fixed priorities is 19. After 11 and 12 come 22 a tick above PARNUSILD_LAST_TICK and 21
+/* One event given at a tick to a state by deadlines; one of fixed priorities is 19. After 11 and 12 come 22 a tick above PARNUSILD_MOST_TICK and 21
  * one below the last; then 13 to 16; then 23, a finish after its deadline. */
 static inline uint8_t parnusild_state_event_at(struct parnusild_state *PARNUSILD_RESTRICT state, uint32_t tick, uint8_t kind,
                                                uint32_t which, uint32_t value, uint32_t *PARNUSILD_RESTRICT number)

@@ -1,6 +1,6 @@
 //! The two policies, as the ordinary replay asks for them. With fixed priorities there are no ticks, and nothing is done about them.
 use crate::answer::IDLE;
-use parnusild::{State, BY_DEADLINE, LAST_TICK};
+use parnusild::{State, BY_DEADLINE, MOST_TICK};
 
 pub trait Policy {
     /// Whether a task is ahead of another.
@@ -67,7 +67,7 @@ impl Policy for ByDeadline {
     }
 
     fn judge_tick(state: &State, tick: u32) -> Result<(), u8> {
-        if tick > LAST_TICK {
+        if tick > MOST_TICK {
             return Err(22);
         }
         if tick < state.times.last {

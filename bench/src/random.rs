@@ -2,7 +2,7 @@
 use crate::answer::DELAYED;
 use crate::kind::{Kind, KINDS};
 use crate::make::{link, Link, Maker};
-use parnusild::LAST_TICK;
+use parnusild::MOST_TICK;
 
 /// Random numbers (splitmix64).
 pub struct Random(pub u64);
@@ -125,7 +125,7 @@ impl Jobs {
         let until = self.top().map_or(last + 9, |top| self.due[top]).max(last);
         let late = u32::from(random.one_in(300));
         let tick = [last, last, last + 1, until, last + (until - last) / 2][random.below(5)].min(until) + late;
-        tick.min(LAST_TICK)
+        tick.min(MOST_TICK)
     }
 }
 
@@ -135,14 +135,14 @@ fn some_dated_events(random: &mut Random, kind: Kind, deadlines: &[u16], links: 
     let mut m = Maker::made(kind, deadlines, links, random.below(400));
     let mut jobs = Jobs::new(deadlines);
     let wild = random.one_in(3);
-    m.tick = [0, 1, LAST_TICK - 20][random.below(3)];
+    m.tick = [0, 1, MOST_TICK - 20][random.below(3)];
     let mut tries = 0;
     while !m.full() && tries < 4_000 {
         tries += 1;
         let last = m.tick;
         m.tick = jobs.next_tick(random, last);
         if wild && random.one_in(40) {
-            m.tick = [last, last.saturating_sub(1), LAST_TICK + 1, last + 9][random.below(4)];
+            m.tick = [last, last.saturating_sub(1), MOST_TICK + 1, last + 9][random.below(4)];
             any_event(random, &mut m, tasks, links.len());
             m.tick = last;
             continue;

@@ -732,14 +732,14 @@ static void ticks(struct parnusild_state *state)
     give("empty set", state, 4, PARNUSILD_ARRIVAL, 0, 0);
     give("task 256", state, 0xffffffff, PARNUSILD_START, 256, 0);
     give("active task arrives", state, 4, PARNUSILD_ARRIVAL, 0x2, 0);
-    give("active task arrives", state, PARNUSILD_LAST_TICK + 1, PARNUSILD_ARRIVAL, 0x2, 0);
-    give("active task arrives", state, PARNUSILD_LAST_TICK, PARNUSILD_ARRIVAL, 0x2, 0);
+    give("active task arrives", state, PARNUSILD_MOST_TICK + 1, PARNUSILD_ARRIVAL, 0x2, 0);
+    give("active task arrives", state, PARNUSILD_MOST_TICK, PARNUSILD_ARRIVAL, 0x2, 0);
     give("idle task starts", state, 4, PARNUSILD_START, 0, 0);
     give("idle task starts", state, 5, PARNUSILD_START, 0, 0);
     give("waiting task finishes", state, 9, PARNUSILD_FINISH, 1, 0);
-    give("waiting task starts late", state, PARNUSILD_LAST_TICK, PARNUSILD_START, 1, 0);
-    give("idle task arrives", state, PARNUSILD_LAST_TICK, PARNUSILD_ARRIVAL, 0x1, 0);
-    give("late task finishes", state, PARNUSILD_LAST_TICK, PARNUSILD_FINISH, 1, 0);
+    give("waiting task starts late", state, PARNUSILD_MOST_TICK, PARNUSILD_START, 1, 0);
+    give("idle task arrives", state, PARNUSILD_MOST_TICK, PARNUSILD_ARRIVAL, 0x1, 0);
+    give("late task finishes", state, PARNUSILD_MOST_TICK, PARNUSILD_FINISH, 1, 0);
 }
 
 /* two tasks with one relative deadline that arrive at once: the order of the table decides */
@@ -788,7 +788,7 @@ static void unsound_times(void)
     parnusild_state_arrival_at(&state, 4, 0x2);
     arrive_with("as it is", &state, &state.times.last, 4);
     arrive_with("last tick below an arrival", &state, &state.times.last, 3);
-    arrive_with("last tick above the limit", &state, &state.times.last, PARNUSILD_LAST_TICK + 1);
+    arrive_with("last tick above the limit", &state, &state.times.last, PARNUSILD_MOST_TICK + 1);
     arrive_with("arrival above the last tick", &state, &state.times.since[1], 5);
     arrive_with("arrival tick of an idle task", &state, &state.times.since[0], 1);
     arrive_with("no relative deadline", &state, &state.times.deadline[0], 0);
@@ -832,7 +832,7 @@ static void one_by_one_at(const uint32_t *events, size_t size, const struct parn
 static void writing_dated(void)
 {
     static const uint32_t tasks[] = { 100, 5, 101, 2, 7 }, links[] = { 1, 0, 0, 0, 0, 1, 1, 40 };
-    static const uint32_t at_the_limit[] = { PARNUSILD_ARRIVAL, PARNUSILD_LAST_TICK, 1 };
+    static const uint32_t at_the_limit[] = { PARNUSILD_ARRIVAL, PARNUSILD_MOST_TICK, 1 };
     static uint32_t events[] = { 1, 0, 1, 2, 1, 0, 1, 3, 2, 2, 3, 1, 3, 3, 1, 4, 3, 1, 11, 3, 5, 0, 4, 5, 0, 5 };
     const size_t all = sizeof events / sizeof events[0];
     const struct handover whole = { PARNUSILD_KIND_DATED, tasks, 4, links, 8, events, all };
@@ -856,7 +856,7 @@ static void writing_dated(void)
     put("event begun", &other, sizeof written);
     put_with("finish after its deadline", &whole, &events[all - 3], 6, sizeof written);
     put_with("tick below the last", &whole, &events[7], 0, sizeof written);
-    put_with("tick above the limit", &whole, &events[7], PARNUSILD_LAST_TICK + 1, sizeof written);
+    put_with("tick above the limit", &whole, &events[7], PARNUSILD_MOST_TICK + 1, sizeof written);
     put_with("start of task 256, dated", &whole, &events[11], 256, sizeof written);
 }
 

@@ -31,7 +31,7 @@ pub const SIZES: usize = 5;
 /// each event, a finish.
 pub const RECORDING: usize = 5 + 6 * TASKS + 7 * LINKS + 10 * DATED_EVENTS;
 /// The last tick there is; a later one is refusal 22.
-pub const LAST_TICK: u32 = 4_000_000_000;
+pub const MOST_TICK: u32 = 4_000_000_000;
 
 /// The kind of recording that has at most 16 tasks and 32 links, by its first byte; the set of an arrival has 2 bytes.
 pub const BASE_KIND: u32 = 253;

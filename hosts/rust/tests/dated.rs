@@ -1,7 +1,7 @@
 //! Each call of the library from Rust for dated recordings and states by deadlines: an example, either side of each tick and deadline, refusals and
 //! what they leave, and what is written, and read again.
 use parnusild::{
-    replay, rest, write, Event, State, Table, Written, BY_DEADLINE, DATED_KIND, FIXED, LAST_TICK, LINKS, RECORDING,
+    replay, rest, write, Event, State, Table, Written, BY_DEADLINE, DATED_KIND, FIXED, MOST_TICK, LINKS, RECORDING,
     TASKS,
 };
 use Event::{Arrival, Finish, Read, Start};
@@ -239,18 +239,18 @@ fn a_call_is_for_a_state_of_its_policy() {
 #[test]
 fn ticks_and_deadlines() {
     let s = after(&fresh(&table(&[0; 2], &[]), &[2, 9]), &[(5, Arrival(0b11)), (5, Start(0))]);
-    for tick in [4, LAST_TICK + 1, u32::MAX] {
+    for tick in [4, MOST_TICK + 1, u32::MAX] {
         for event in [Arrival(0), Arrival(4), Start(2), Read(0), Finish(2, 0), Start(256), Finish(u32::MAX, 0)] {
             assert_eq!(refusal(&s, tick, event), 12);
         }
     }
     for event in [Arrival(1), Start(0), Finish(1, 0), Start(1), Finish(0, 1)] {
-        assert_eq!((refusal(&s, 4, event), refusal(&s, LAST_TICK + 1, event)), (21, 22));
+        assert_eq!((refusal(&s, 4, event), refusal(&s, MOST_TICK + 1, event)), (21, 22));
     }
     assert_eq!([Arrival(1), Start(0), Finish(1, 0), Start(1)].map(|e| refusal(&s, 8, e)), [13, 14, 15, 16]);
-    assert_eq!([5, 6, 7, 8, LAST_TICK].map(|tick| refusal(&s, tick, Finish(0, 1))), [0, 0, 0, 23, 23]);
-    let last = after(&fresh(&table(&[0; 2], &[]), &[65_535, 1]), &[(LAST_TICK, Arrival(1))]);
-    assert_eq!((refusal(&last, LAST_TICK, Arrival(2)), refusal(&last, LAST_TICK - 1, Arrival(2))), (0, 21));
+    assert_eq!([5, 6, 7, 8, MOST_TICK].map(|tick| refusal(&s, tick, Finish(0, 1))), [0, 0, 0, 23, 23]);
+    let last = after(&fresh(&table(&[0; 2], &[]), &[65_535, 1]), &[(MOST_TICK, Arrival(1))]);
+    assert_eq!((refusal(&last, MOST_TICK, Arrival(2)), refusal(&last, MOST_TICK - 1, Arrival(2))), (0, 21));
 }
 
 /// Of two jobs the one that is due first; of those due at once the one with the smaller relative deadline, then the earlier in the table.
@@ -270,7 +270,7 @@ fn which_job_may_run() {
 #[test]
 fn the_largest_relative_deadline() {
     let one = fresh(&table(&[0], &[]), &[65_535]);
-    for since in [0, 1, 1_000, LAST_TICK - 65_536] {
+    for since in [0, 1, 1_000, MOST_TICK - 65_536] {
         let s = after(&one, &[(since, Arrival(1)), (since, Start(0))]);
         assert_eq!([65_535, 65_536].map(|ticks: u32| refusal(&s, since + ticks, Finish(0, 1))), [0, 23]);
     }
@@ -280,14 +280,14 @@ fn the_largest_relative_deadline() {
 /// those that are due earlier, and is never late.
 #[test]
 fn relative_deadlines_that_no_recording_has() {
-    let since = LAST_TICK - 70_000;
+    let since = MOST_TICK - 70_000;
     let begun = after(&fresh(&table(&[0; 2], &[]), &[9, 9]), &[(since, Arrival(0b11))]);
     let saved = |deadlines: [u32; 2]| {
         let mut s = begun.clone();
         s.times.deadline[..2].copy_from_slice(&deadlines);
         s
     };
-    let starts = |deadlines: [u32; 2]| [0, 1].map(|task| refusal(&saved(deadlines), LAST_TICK, Start(task)));
+    let starts = |deadlines: [u32; 2]| [0, 1].map(|task| refusal(&saved(deadlines), MOST_TICK, Start(task)));
     // with this one a job is due at 2^32, which is 0 in 32 bits
     let past_32_bits = u32::MAX - since + 1;
     assert_eq!(starts([65_536, 65_537]), [0, 16]);
@@ -311,7 +311,7 @@ fn unsound_times() {
     let answer = |change: fn(&mut State)| {
         let mut s = good.clone();
         change(&mut s);
-        s.event_at(LAST_TICK, Arrival(1))
+        s.event_at(MOST_TICK, Arrival(1))
     };
     assert_eq!(answer(|_| ()), Ok(0));
     assert_eq!(answer(|s| s.times.deadline[0] = 0), Err(19));
@@ -320,8 +320,8 @@ fn unsound_times() {
     assert_eq!(answer(|s| s.times.since[1] = 6), Ok(0));
     assert_eq!(answer(|s| s.times.since[1] = 7), Err(19), "after the last tick");
     assert_eq!(answer(|s| s.times.since[0] = 1), Err(19), "of an idle task");
-    assert_eq!(answer(|s| s.times.last = LAST_TICK), Ok(0));
-    assert_eq!(answer(|s| s.times.last = LAST_TICK + 1), Err(19));
+    assert_eq!(answer(|s| s.times.last = MOST_TICK), Ok(0));
+    assert_eq!(answer(|s| s.times.last = MOST_TICK + 1), Err(19));
     assert_eq!(answer(|s| s.times.last = 3), Err(19), "before an arrival");
     assert_eq!(answer(|s| s.times.policy = 0), Err(19));
     assert_eq!(answer(|s| s.times.policy = 2), Err(19));
@@ -385,11 +385,11 @@ fn writing_is_refused_as_reading_is() {
     }
     assert_eq!(given(&[9, 1, 9, 65_535], &[]), (0, 17));
     assert_eq!(given(&[9; 65], &[]), (2, 1));
-    assert_eq!(given(&[9, 1], &[1, LAST_TICK, 1]), (0, 20));
-    assert_eq!(given(&[9, 1], &[1, LAST_TICK + 1, 1]), (22, 11));
+    assert_eq!(given(&[9, 1], &[1, MOST_TICK, 1]), (0, 20));
+    assert_eq!(given(&[9, 1], &[1, MOST_TICK + 1, 1]), (22, 11));
     let then = |events: &[u32]| given(&[9, 2, 9, 9], &[&[1, 5, 3, 2, 5, 0], events].concat());
-    assert_eq!(then(&[2, LAST_TICK + 1, 256]), (12, 32));
-    assert_eq!(then(&[2, LAST_TICK + 1, 0]), (22, 32));
+    assert_eq!(then(&[2, MOST_TICK + 1, 256]), (12, 32));
+    assert_eq!(then(&[2, MOST_TICK + 1, 0]), (22, 32));
     assert_eq!(then(&[2, 4, 0]), (21, 32));
     assert_eq!(then(&[2, 5, 0]), (14, 32));
     assert_eq!(then(&[2, 5, 1]), (16, 32));
