@@ -1,6 +1,6 @@
 // What the first links of a table, no more than there is room for, say of one link more, and of a task.
 ghost use mathlib.Core.Path.{_≡_};
-ghost use mathlib.Core.Bool.{Bool, _&&_};
+ghost use mathlib.Core.Bool.{Bool, cond, _&&_};
 ghost use Prim.Native.Nat.{ℕ, _≤_, min};
 ghost use lib.Dec.{eqb};
 ghost use Rattle.lists.specs.Lists.{some};
@@ -9,7 +9,6 @@ ghost use Rattle.protocol_state.specs.Saved.{at, stateRoom};
 ghost use Rattle.mailbox_layout.specs.Layout.{writerIn, readerIn};
 ghost use Rattle.mailbox_plan.specs.Plan.{Planned};
 use lists::few;
-use lists::one_if;
 use mailbox_base::numbers::LINKS;
 use mailbox_free::table::PLAN;
 use mailbox_layout::CONTROL;
@@ -52,17 +51,25 @@ fn is_behind(w: u8, behind: bool, t: usize) -> bool
     (w as usize == t) & behind
 }
 
-// N: how many of the first `n` links are task `t`'s to readers behind, by their plan.
+// What a test adds to a count of links, as a byte.
+fn byte_if(b: bool) -> u8
+    ensures { λ r. ⌜ r ≡ cond b 1 0 ⌝ }
+{
+    if b { 1 } else { 0 }
+}
+
+// N: how many of the first `n` links are task `t`'s to readers behind, by their plan. It counts in a byte, so that the compiler asks sixteen links
+// at once.
 pub fn readers_behind(plan: &[u8; PLAN], control: &[u8; CONTROL], n: usize, t: usize) -> usize
     ensures count { λ r. ⌜ ((ahead : ℕ → ℕ → Bool) → Planned ahead (at (writerIn (now (control .entry)))) (at (readerIn (now (control .entry)))) (min n (stateRoom .links)) (now (plan .entry)) → r ≡ behinds ahead (at (writerIn (now (control .entry)))) (at (readerIn (now (control .entry)))) t (min n (stateRoom .links))) ⌝ }
     ensures bound { λ r. ⌜ r ≤ stateRoom .links ⌝ }
 {
     let end = few(n, LINKS);
-    let mut c = 0;
+    let mut c: u8 = 0;
     let mut l = 0;
     while l < end {
-        c += one_if(is_behind(control_at(control, WRITER, l), goes_behind(plan, l), t));
+        c += byte_if(is_behind(control_at(control, WRITER, l), goes_behind(plan, l), t));
         l += 1;
     }
-    c
+    c as usize
 }

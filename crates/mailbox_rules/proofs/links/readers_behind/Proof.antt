@@ -45,8 +45,8 @@ goes-behind-requires c κs = search needs
 is-behind-requires : tie.Need-is-behind-requires Inv-loop μ-loop
 is-behind-requires c κs = search needs
 
-one-if-requires : tie.Need-one-if-requires Inv-loop μ-loop
-one-if-requires c κs = search needs
+byte-if-requires : tie.Need-byte-if-requires Inv-loop μ-loop
+byte-if-requires c κs = search needs
 
 add-c : tie.Need-add-c Inv-loop μ-loop
 add-c c =
@@ -56,7 +56,7 @@ add-c c =
       arith,
       count-le (flagged (a .plan .now) (a .control .now) (a .t)) (l .l),
       l .inv .1,
-      c .one-if .ensures,
+      c .byte-if .ensures,
       cond-small (c .before .is-behind .result) {x = 1} {y = 0} {m = 1} (omega arith) (omega arith),
     )
 
@@ -71,8 +71,13 @@ loop-again c =
     let a = c .before .before .before .before .before .before .before .args in (
       omega arith,
       count-more (flagged (a .plan .now) (a .control .now) (a .t)) _
-          (rw (c .before .before .before .control-at .ensures, c .before .before .goes-behind .ensures) at (c .before .is-behind .ensures)) (c .before .before .before .before .before .loop .inv .1) (c .one-if .ensures),
+          (rw (c .before .before .before .control-at .ensures, c .before .before .goes-behind .ensures) at (c .before .is-behind .ensures)) (c .before .before .before .before .before .loop .inv .1) (c .byte-if .ensures),
     )
+
+cast-result : tie.Need-cast-result Inv-loop μ-loop
+cast-result c =
+    let a = c .before .before .before .args in
+    omega (arith, count-le (flagged (a .plan .now) (a .control .now) (a .t)) (c .before .loop .l), c .before .loop .inv .1)
 
 returns : tie.Need-returns Inv-loop μ-loop
 returns c =
@@ -91,9 +96,10 @@ readers-behind-spec =
     control-at-requires
     goes-behind-requires
     is-behind-requires
-    one-if-requires
+    byte-if-requires
     add-c
     add-l
     loop-less
     loop-again
+    cast-result
     returns)
