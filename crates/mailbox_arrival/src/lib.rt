@@ -11,6 +11,7 @@ ghost use Rattle.protocol.specs.Free.{holds, lowestFree};
 ghost use Rattle.protocol_state.specs.Saved.{at, stateRoom, delayedKind};
 ghost use Rattle.protocol_state.specs.Next.{arrived};
 ghost use Rattle.mailbox_free.specs.Bits.{lastBit};
+ghost use Rattle.mailbox_free.specs.Pattern.{AllLowest};
 ghost use Rattle.mailbox_layout.specs.Layout.{Becomes, newestIn, previousIn, pointerIn, writerIn, readerIn};
 ghost use Rattle.mailbox_plan.specs.Plan.{Planned};
 ghost use Rattle.mailbox_arrival.specs.Arrives.{movedAt, moved, pointedAt, pointed};
@@ -23,7 +24,7 @@ use mailbox_base::numbers::has;
 use mailbox_base::numbers::pick;
 use mailbox_free::bits::lowest_outside;
 use mailbox_free::bits::taken_bit;
-use mailbox_free::table::PLAN;
+use mailbox_free::table::PATTERNS;
 use mailbox_layout::CONTROL;
 use mailbox_layout::KIND;
 use mailbox_layout::MARK;
@@ -53,7 +54,7 @@ fn holds_at(w: u8, behind: bool, x: u8, t: u8, p: u8) -> bool
 }
 
 // Whether one of the links holds position `p` of task `t`.
-fn held(plan: &[u8; PLAN], control: &[u8; CONTROL], links: usize, t: u8, p: u8) -> bool
+fn held(plan: &[u8; LINKS], control: &[u8; CONTROL], links: usize, t: u8, p: u8) -> bool
     ensures { λ r. ⌜ ((ahead : ℕ → ℕ → Bool) → Planned ahead (at (writerIn (now (control .entry)))) (at (readerIn (now (control .entry)))) links (now (plan .entry)) → r ≡ some (holds ahead (at (writerIn (now (control .entry)))) (at (readerIn (now (control .entry)))) (at (pointerIn (now (control .entry)))) t p) links) ⌝ }
 {
     let mut found = false;
@@ -73,7 +74,7 @@ fn held(plan: &[u8; PLAN], control: &[u8; CONTROL], links: usize, t: u8, p: u8) 
 }
 
 // The bits of the positions of task `t` that the links hold.
-fn held_bits(plan: &[u8; PLAN], control: &[u8; CONTROL], links: usize, t: u8) -> u16
+fn held_bits(plan: &[u8; LINKS], control: &[u8; CONTROL], links: usize, t: u8) -> u16
     ensures { λ r. ⌜ ((ahead : ℕ → ℕ → Bool) → Planned ahead (at (writerIn (now (control .entry)))) (at (readerIn (now (control .entry)))) links (now (plan .entry)) → (p : ℕ) → p < lastBit → has r p ≡ some (holds ahead (at (writerIn (now (control .entry)))) (at (readerIn (now (control .entry)))) (at (pointerIn (now (control .entry)))) t p) links) ⌝ }
 {
     let mut bits = 0;
@@ -89,15 +90,22 @@ fn held_bits(plan: &[u8; PLAN], control: &[u8; CONTROL], links: usize, t: u8) ->
 
 // The lowest free position of task `t`, whose newest is `x`. Mostly no link holds the lowest position other than `x`, and one look at the
 // links shows it; else it is looked up. Where the links keep the rules at most nine of ten positions are taken, so the tenth needs no test.
-fn lowest_free(plan: &[u8; PLAN], control: &[u8; CONTROL], links: usize, t: u8, x: u8) -> u8
-    ensures { λ r. ⌜ ((ahead : ℕ → ℕ → Bool) → Planned ahead (at (writerIn (now (control .entry)))) (at (readerIn (now (control .entry)))) links (now (plan .entry)) → r ≡ lowestFree ahead (at (writerIn (now (control .entry)))) (at (readerIn (now (control .entry)))) (at (pointerIn (now (control .entry)))) links t x) ⌝ }
+fn lowest_free(
+    lowest: &[u8; PATTERNS],
+    plan: &[u8; LINKS],
+    control: &[u8; CONTROL],
+    links: usize,
+    t: u8,
+    x: u8,
+) -> u8
+    ensures { λ r. ⌜ (AllLowest (now (lowest .entry)) → (ahead : ℕ → ℕ → Bool) → Planned ahead (at (writerIn (now (control .entry)))) (at (readerIn (now (control .entry)))) links (now (plan .entry)) → r ≡ lowestFree ahead (at (writerIn (now (control .entry)))) (at (readerIn (now (control .entry)))) (at (pointerIn (now (control .entry)))) links t x) ⌝ }
 {
     let next = pick(x == 1, 2, 1);
     if !held(plan, control, links, t, next) {
         return next;
     }
     lowest_outside(
-        plan,
+        lowest,
         taken_bit(true, x) | held_bits(plan, control, links, t),
     )
 }
@@ -111,15 +119,22 @@ fn seen_once(a: u8) -> u8
 
 // The writers' part for task `t`, where it is in the set: its newest position becomes its previous, its lowest free one its newest,
 // one more of its arrivals is seen, and it is waiting.
-fn move_task(plan: &[u8; PLAN], set: u32, t: usize, links: usize, control: &mut [u8; CONTROL])
+fn move_task(
+    lowest: &[u8; PATTERNS],
+    plan: &[u8; LINKS],
+    set: u32,
+    t: usize,
+    links: usize,
+    control: &mut [u8; CONTROL],
+)
     requires { ⌜ t < stateRoom .tasks ⌝ }
-    ensures { λ _. ⌜ ((ahead : ℕ → ℕ → Bool) → Planned ahead (at (writerIn (now (control .entry)))) (at (readerIn (now (control .entry)))) links (now (plan .entry)) → (T : ℕ) → Becomes (movedAt ahead set t) T links (now (control .entry)) (now (control .exit))) ⌝ }
+    ensures { λ _. ⌜ (AllLowest (now (lowest .entry)) → (ahead : ℕ → ℕ → Bool) → Planned ahead (at (writerIn (now (control .entry)))) (at (readerIn (now (control .entry)))) links (now (plan .entry)) → (T : ℕ) → Becomes (movedAt ahead set t) T links (now (control .entry)) (now (control .exit))) ⌝ }
 {
     if !has(set, t) {
         return;
     }
     let x = control_at(control, NEWEST, t);
-    let free = lowest_free(plan, control, links, t as u8, x);
+    let free = lowest_free(lowest, plan, control, links, t as u8, x);
     let phase = decide(ARRIVAL, control_at(control, PHASE, t));
     let seen = seen_once(control_at(control, SEEN, t));
     put_control(control, PREVIOUS, t, x);
@@ -129,13 +144,20 @@ fn move_task(plan: &[u8; PLAN], set: u32, t: usize, links: usize, control: &mut 
 }
 
 // The writers' part: each task of the set moves.
-fn move_tasks(plan: &[u8; PLAN], set: u32, tasks: usize, links: usize, control: &mut [u8; CONTROL])
+fn move_tasks(
+    lowest: &[u8; PATTERNS],
+    plan: &[u8; LINKS],
+    set: u32,
+    tasks: usize,
+    links: usize,
+    control: &mut [u8; CONTROL],
+)
     requires { ⌜ tasks ≤ stateRoom .tasks ⌝ }
-    ensures { λ _. ⌜ ((ahead : ℕ → ℕ → Bool) → Planned ahead (at (writerIn (now (control .entry)))) (at (readerIn (now (control .entry)))) links (now (plan .entry)) → (T : ℕ) → Becomes (moved ahead set tasks) T links (now (control .entry)) (now (control .exit))) ⌝ }
+    ensures { λ _. ⌜ (AllLowest (now (lowest .entry)) → (ahead : ℕ → ℕ → Bool) → Planned ahead (at (writerIn (now (control .entry)))) (at (readerIn (now (control .entry)))) links (now (plan .entry)) → (T : ℕ) → Becomes (moved ahead set tasks) T links (now (control .entry)) (now (control .exit))) ⌝ }
 {
     let mut t = 0;
     while t < tasks {
-        move_task(plan, set, t, links, control);
+        move_task(lowest, plan, set, t, links, control);
         t += 1;
     }
 }
@@ -187,10 +209,17 @@ fn point_links(set: u32, links: usize, control: &mut [u8; CONTROL])
 
 // An arrival that is allowed. The order matters: the readers' part comes after the writers'. Counts above the room are taken as the room.
 // What is done is said under any order that the plan is right for. The plan is lent so that it is not made anew at each arrival.
-pub fn arrive(plan: &[u8; PLAN], set: u32, tasks: usize, links: usize, control: &mut [u8; CONTROL])
-    ensures { λ _. ⌜ ((ahead : ℕ → ℕ → Bool) → Planned ahead (at (writerIn (now (control .entry)))) (at (readerIn (now (control .entry)))) (min links (stateRoom .links)) (now (plan .entry)) → Becomes (arrived ahead set) (min tasks (stateRoom .tasks)) (min links (stateRoom .links)) (now (control .entry)) (now (control .exit))) ⌝ }
+pub fn arrive(
+    lowest: &[u8; PATTERNS],
+    plan: &[u8; LINKS],
+    set: u32,
+    tasks: usize,
+    links: usize,
+    control: &mut [u8; CONTROL],
+)
+    ensures { λ _. ⌜ (AllLowest (now (lowest .entry)) → (ahead : ℕ → ℕ → Bool) → Planned ahead (at (writerIn (now (control .entry)))) (at (readerIn (now (control .entry)))) (min links (stateRoom .links)) (now (plan .entry)) → Becomes (arrived ahead set) (min tasks (stateRoom .tasks)) (min links (stateRoom .links)) (now (control .entry)) (now (control .exit))) ⌝ }
 {
     let n = few(links, LINKS);
-    move_tasks(plan, set, few(tasks, TASKS), n, control);
+    move_tasks(lowest, plan, set, few(tasks, TASKS), n, control);
     point_links(set, n, control);
 }

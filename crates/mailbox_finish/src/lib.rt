@@ -14,7 +14,6 @@ use mailbox_base::decision::FINISH;
 use mailbox_base::decision::decide;
 use mailbox_base::numbers::LINKS;
 use mailbox_base::numbers::pick;
-use mailbox_free::table::PLAN;
 use mailbox_layout::CONTROL;
 use mailbox_layout::MARK;
 use mailbox_layout::NEWEST;
@@ -63,7 +62,7 @@ fn freed_at(t: u8, r: u8, behind: bool, x: u8) -> u8
 }
 
 // The pointer of link `l` becomes absent and its mark goes, if `t` reads by it from a writer ahead of it.
-fn free_link(plan: &[u8; PLAN], t: u8, l: usize, control: &mut [u8; CONTROL])
+fn free_link(plan: &[u8; LINKS], t: u8, l: usize, control: &mut [u8; CONTROL])
     ensures { λ _. ⌜ ((ahead : ℕ → ℕ → Bool) (n : ℕ) → Planned ahead (at (writerIn (now (control .entry)))) (at (readerIn (now (control .entry)))) n (now (plan .entry)) → l < n → (T L : ℕ) → Becomes (freedOne ahead t l) T L (now (control .entry)) (now (control .exit))) ⌝ }
 {
     let r = control_at(control, READER, l);
@@ -75,7 +74,7 @@ fn free_link(plan: &[u8; PLAN], t: u8, l: usize, control: &mut [u8; CONTROL])
 }
 
 // The pointers by which `t` reads from writers ahead of it become absent, and their marks go.
-fn free_links(plan: &[u8; PLAN], t: u8, links: usize, control: &mut [u8; CONTROL])
+fn free_links(plan: &[u8; LINKS], t: u8, links: usize, control: &mut [u8; CONTROL])
     ensures { λ _. ⌜ ((ahead : ℕ → ℕ → Bool) → Planned ahead (at (writerIn (now (control .entry)))) (at (readerIn (now (control .entry)))) links (now (plan .entry)) → (T L : ℕ) → Becomes (freedFirst ahead t links) T L (now (control .entry)) (now (control .exit))) ⌝ }
 {
     let mut l = 0;
@@ -87,7 +86,7 @@ fn free_links(plan: &[u8; PLAN], t: u8, links: usize, control: &mut [u8; CONTROL
 
 // What a finish that is allowed does to the control: pointers become absent, their marks go, and `t` is idle.
 // A count above the room is taken as the room. It is said under any order that the plan is right for.
-pub fn release(plan: &[u8; PLAN], t: u8, links: usize, control: &mut [u8; CONTROL])
+pub fn release(plan: &[u8; LINKS], t: u8, links: usize, control: &mut [u8; CONTROL])
     ensures { λ _. ⌜ ((ahead : ℕ → ℕ → Bool) → Planned ahead (at (writerIn (now (control .entry)))) (at (readerIn (now (control .entry)))) (min links (stateRoom .links)) (now (plan .entry)) → (T : ℕ) → Becomes (released ahead t) T (min links (stateRoom .links)) (now (control .entry)) (now (control .exit))) ⌝ }
 {
     free_links(plan, t, few(links, LINKS), control);
@@ -96,7 +95,7 @@ pub fn release(plan: &[u8; PLAN], t: u8, links: usize, control: &mut [u8; CONTRO
 
 // A finish that is allowed: the value goes to the newest position besides.
 pub fn finish(
-    plan: &[u8; PLAN],
+    plan: &[u8; LINKS],
     t: u8,
     v: u32,
     links: usize,

@@ -25,6 +25,6 @@ entry i [] e k h = absurd (omega arith)
 entry i (x ∷ xs) e zero h = eqb-true _ _ (and-left (eqb x (lowestIn i)) (tested (suc i) xs) e) ∙ ap lowestIn (omega arith)
 entry i (x ∷ xs) e (suc k) h = entry (suc i) xs (and-right (eqb x (lowestIn i)) (tested (suc i) xs) e) k (omega arith) ∙ ap lowestIn (omega arith)
 
--- a plan that passes the test at all patterns
+-- a table that passes the test at all patterns
 pub all-lowest : (t : List ℕ) → length (take patterns t) ≡ patterns → tested 0 (take patterns t) ≡ true → AllLowest t
 all-lowest t n e = record { entry = λ k h. sym (getD-take patterns t k 0 h) ∙ entry 0 (take patterns t) e k (omega (arith, n)) ∙ ap lowestIn (omega arith) }

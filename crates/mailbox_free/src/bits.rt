@@ -7,7 +7,6 @@ ghost use Rattle.protocol.specs.Event.{has};
 ghost use Rattle.mailbox_free.specs.Bits.{lastBit, bitWord};
 ghost use Rattle.mailbox_free.specs.Pattern.{AllLowest};
 use crate::table::PATTERNS;
-use crate::table::PLAN;
 use mailbox_base::numbers::POSITIONS;
 use mailbox_base::numbers::pick;
 
@@ -32,10 +31,10 @@ pub fn taken_bit(b: bool, p: u8) -> u16
 }
 
 // The lowest position that is not taken; the tenth where the nine before it are, whether it is or not. Bit `p` of the word is bit
-// `p` - 1 of the pattern. The plan begins with the table of free positions; of any other array that may be lent nothing is said.
-pub fn lowest_outside(plan: &[u8; PLAN], taken: u16) -> u8
-    ensures { λ r. ⌜ (AllLowest (now (plan .entry)) → r ≡ first (has taken) 9 1) ⌝ }
+// `p` - 1 of the pattern. Of an array that is not the table nothing is said.
+pub fn lowest_outside(lowest: &[u8; PATTERNS], taken: u16) -> u8
+    ensures { λ r. ⌜ (AllLowest (now (lowest .entry)) → r ≡ first (has taken) 9 1) ⌝ }
 {
-    let p = plan[taken as usize / 2 % PATTERNS];
+    let p = lowest[taken as usize / 2 % PATTERNS];
     pick(p == 0, TENTH, p)
 }

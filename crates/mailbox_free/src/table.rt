@@ -1,16 +1,12 @@
 // The table of free positions: from a pattern of taken positions to the lowest one that is not taken.
 ghost use Rattle.mailbox_free.specs.Pattern.{AllLowest};
-use mailbox_base::numbers::LINKS;
 
 // The number of patterns of ten positions.
 pub const PATTERNS: usize = 1024;
 
-// The bytes of a plan: the table, then a flag of each link.
-pub const PLAN: usize = PATTERNS + LINKS;
-
-// The lowest position that each pattern leaves free, 0 for the full one; then every flag 0. Sixteen to a line, as bytes: the layout would
+// The lowest position that each pattern leaves free, 0 for the full one. Sixteen to a line, as bytes: the layout would
 // put the numbers of an array one to a line.
-const LOWEST: [u8; PLAN] = *b"\
+const LOWEST: [u8; PATTERNS] = *b"\
     \x01\x02\x01\x03\x01\x02\x01\x04\x01\x02\x01\x03\x01\x02\x01\x05\
     \x01\x02\x01\x03\x01\x02\x01\x04\x01\x02\x01\x03\x01\x02\x01\x06\
     \x01\x02\x01\x03\x01\x02\x01\x04\x01\x02\x01\x03\x01\x02\x01\x05\
@@ -74,17 +70,11 @@ const LOWEST: [u8; PLAN] = *b"\
     \x01\x02\x01\x03\x01\x02\x01\x04\x01\x02\x01\x03\x01\x02\x01\x05\
     \x01\x02\x01\x03\x01\x02\x01\x04\x01\x02\x01\x03\x01\x02\x01\x06\
     \x01\x02\x01\x03\x01\x02\x01\x04\x01\x02\x01\x03\x01\x02\x01\x05\
-    \x01\x02\x01\x03\x01\x02\x01\x04\x01\x02\x01\x03\x01\x02\x01\x00\
-    \x00\x00\x00\x00\x00\x00\x00\x00\x00\x00\x00\x00\x00\x00\x00\x00\
-    \x00\x00\x00\x00\x00\x00\x00\x00\x00\x00\x00\x00\x00\x00\x00\x00\
-    \x00\x00\x00\x00\x00\x00\x00\x00\x00\x00\x00\x00\x00\x00\x00\x00\
-    \x00\x00\x00\x00\x00\x00\x00\x00\x00\x00\x00\x00\x00\x00\x00\x00\
-    \x00\x00\x00\x00\x00\x00\x00\x00\x00\x00\x00\x00\x00\x00\x00\x00\
-    \x00\x00\x00\x00\x00\x00\x00\x00\x00\x00\x00\x00\x00\x00\x00\x00";
+    \x01\x02\x01\x03\x01\x02\x01\x04\x01\x02\x01\x03\x01\x02\x01\x00";
 
-// The plan of a table without links: the lowest position of each pattern, every flag 0. It is lent to the searches of a whole replay: a
-// constant that is read at a pattern known only at run time would be filled anew at each search.
-pub fn plan_without_links() -> [u8; PLAN]
+// The table. A copy is lent to the searches of a whole replay: a constant that is read at a pattern known only at run time would be filled anew
+// at each search.
+pub fn lowest_table() -> [u8; PATTERNS]
     ensures { λ r. ⌜ AllLowest r ⌝ }
 {
     LOWEST

@@ -1,20 +1,15 @@
-// What is found once for many events: the lowest free position of each pattern of taken ones, and of each link whether it goes to a
-// reader behind.
+// The order of two tasks, and what is found once for many events: of each link whether it goes to a reader behind.
 ghost use mathlib.Core.Path.{_≡_};
 ghost use mathlib.Core.Bool.{cond};
-ghost use Prim.Native.Nat.{_+_, min};
+ghost use Prim.Native.Nat.{min};
 ghost use lib.Dec.{eqb};
 ghost use lib.ListN.{set};
 ghost use Rattle.protocol_state.specs.Saved.{at, stateRoom};
-ghost use Rattle.mailbox_free.specs.Pattern.{patterns};
 ghost use Rattle.mailbox_layout.specs.Layout.{writerIn, readerIn, aheadAmong};
-ghost use Rattle.mailbox_plan.specs.Plan.{flagAt, Planned};
+ghost use Rattle.mailbox_plan.specs.Plan.{Planned};
 use lists::few;
 use mailbox_base::numbers::LINKS;
 use mailbox_base::numbers::pick;
-use mailbox_free::table::PATTERNS;
-use mailbox_free::table::PLAN;
-use mailbox_free::table::plan_without_links;
 use mailbox_layout::CONTROL;
 use mailbox_layout::DEADLINE;
 use mailbox_layout::READER;
@@ -34,33 +29,29 @@ pub fn is_ahead(times: &[u32; TIMES], u: usize, t: usize) -> bool
 }
 
 // Whether link `l` goes to a reader behind, by its flag.
-pub fn goes_behind(plan: &[u8; PLAN], l: usize) -> bool
-    ensures { λ r. ⌜ r ≡ eqb (flagAt (now (plan .entry)) l) 1 ⌝ }
+pub fn goes_behind(plan: &[u8; LINKS], l: usize) -> bool
+    ensures { λ r. ⌜ r ≡ eqb (at (now (plan .entry)) l) 1 ⌝ }
 {
     let all: &[u8] = plan;
-    if l < LINKS {
-        all[PATTERNS + l] == 1
-    } else {
-        false
-    }
+    if l < LINKS { all[l] == 1 } else { false }
 }
 
 // Sets the flag of link `l`, where there is room for such a link.
-pub fn put_flag(plan: &mut [u8; PLAN], l: usize, behind: bool)
-    ensures { λ _. ⌜ now (plan .exit) ≡ set (now (plan .entry)) (patterns + l) (cond behind 1 0) ⌝ }
+pub fn put_flag(plan: &mut [u8; LINKS], l: usize, behind: bool)
+    ensures { λ _. ⌜ now (plan .exit) ≡ set (now (plan .entry)) l (cond behind 1 0) ⌝ }
 {
     let all: &mut [u8] = plan;
     if l < LINKS {
-        all[PATTERNS + l] = pick(behind, 1, 0);
+        all[l] = pick(behind, 1, 0);
     }
 }
 
 // The plan of the first links of a state; a count above the room is taken as the room.
-pub fn plan_of(links: usize, control: &[u8; CONTROL], times: &[u32; TIMES]) -> [u8; PLAN]
+pub fn plan_of(links: usize, control: &[u8; CONTROL], times: &[u32; TIMES]) -> [u8; LINKS]
     ensures { λ r. ⌜ Planned (aheadAmong (now (times .entry))) (at (writerIn (now (control .entry)))) (at (readerIn (now (control .entry)))) (min links (stateRoom .links)) r ⌝ }
 {
     let n = few(links, LINKS);
-    let mut plan = plan_without_links();
+    let mut plan = [0u8; LINKS];
     let mut l = 0;
     while l < n {
         let w = control_at(control, WRITER, l);

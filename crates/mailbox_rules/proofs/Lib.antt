@@ -1,2 +1,3 @@
--- Laws that several proofs cite.
+-- Laws that the proofs cite.
+pub mod Front
 pub mod Judged

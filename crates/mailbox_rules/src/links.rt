@@ -10,7 +10,6 @@ ghost use Rattle.mailbox_layout.specs.Layout.{writerIn, readerIn};
 ghost use Rattle.mailbox_plan.specs.Plan.{Planned};
 use lists::few;
 use mailbox_base::numbers::LINKS;
-use mailbox_free::table::PLAN;
 use mailbox_layout::CONTROL;
 use mailbox_layout::READER;
 use mailbox_layout::WRITER;
@@ -60,7 +59,7 @@ fn byte_if(b: bool) -> u8
 
 // N: how many of the first `n` links are task `t`'s to readers behind, by their plan. It counts in a byte, so that the compiler asks sixteen links
 // at once.
-pub fn readers_behind(plan: &[u8; PLAN], control: &[u8; CONTROL], n: usize, t: usize) -> usize
+pub fn readers_behind(plan: &[u8; LINKS], control: &[u8; CONTROL], n: usize, t: usize) -> usize
     ensures count { λ r. ⌜ ((ahead : ℕ → ℕ → Bool) → Planned ahead (at (writerIn (now (control .entry)))) (at (readerIn (now (control .entry)))) (min n (stateRoom .links)) (now (plan .entry)) → r ≡ behinds ahead (at (writerIn (now (control .entry)))) (at (readerIn (now (control .entry)))) t (min n (stateRoom .links))) ⌝ }
     ensures bound { λ r. ⌜ r ≤ stateRoom .links ⌝ }
 {

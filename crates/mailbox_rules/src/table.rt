@@ -15,7 +15,6 @@ use crate::links::readers_behind;
 use mailbox_base::numbers::LINKS;
 use mailbox_base::numbers::TASKS;
 use mailbox_base::numbers::pick;
-use mailbox_free::table::PLAN;
 use mailbox_layout::CONTROL;
 use mailbox_layout::KIND;
 use mailbox_layout::Link;
@@ -48,7 +47,7 @@ fn fault_of(tasks: usize, link: Link, behind: bool, front: bool, twice: bool, n:
 // The refusal that a link earns after the first `n` links, no more than there is room for, whose plan is lent. Whatever start values
 // these have, it is the same.
 pub fn fault_after(
-    plan: &[u8; PLAN],
+    plan: &[u8; LINKS],
     tasks: usize,
     control: &[u8; CONTROL],
     times: &[u32; TIMES],
@@ -62,13 +61,13 @@ pub fn fault_after(
     let twice = has_pair(control, n, w, r);
     let count = readers_behind(plan, control, n, w as usize);
     let behind = is_ahead(times, w as usize, r as usize);
-    let front = is_ahead(times, r as usize, w as usize);
+    let front = !(w == r) & !behind;
     fault_of(tasks, link, behind, front, twice, count)
 }
 
 // The refusal that link `l` earns, 0 for none.
 fn fault_at(
-    plan: &[u8; PLAN],
+    plan: &[u8; LINKS],
     tasks: usize,
     control: &[u8; CONTROL],
     values: &[u32; VALUES],
@@ -90,7 +89,7 @@ fn fault_at(
 // The first fault: `before` where there is one, else that of link `l`.
 fn fault_or(
     before: u8,
-    plan: &[u8; PLAN],
+    plan: &[u8; LINKS],
     tasks: usize,
     control: &[u8; CONTROL],
     values: &[u32; VALUES],
@@ -109,7 +108,7 @@ fn fault_or(
 
 // The refusal of the first link at fault, 0 for none.
 fn first_fault(
-    plan: &[u8; PLAN],
+    plan: &[u8; LINKS],
     tasks: usize,
     links: usize,
     control: &[u8; CONTROL],
@@ -130,7 +129,7 @@ fn first_fault(
 
 // The refusal that a table earns, 0 for none: its counts, then the first link at fault. The plan of its links is lent.
 pub fn judge_table(
-    plan: &[u8; PLAN],
+    plan: &[u8; LINKS],
     tasks: usize,
     links: usize,
     control: &[u8; CONTROL],

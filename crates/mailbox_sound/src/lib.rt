@@ -8,8 +8,8 @@ ghost use Rattle.protocol_state.specs.Saved.{at, stateRoom};
 ghost use Rattle.protocol_state.specs.Sound.{within, taskIs, seenIs, sinceIs, deadlineIs, clockIs, markIs, taskOk, timeOk, pointerIs, pointerOk, markOk, taskStands, linkStands, isSound};
 ghost use Rattle.mailbox_layout.specs.Layout.{writerIn, readerIn, aheadAmong, stateOf};
 ghost use Rattle.mailbox_plan.specs.Plan.{Planned};
+use mailbox_base::numbers::LINKS;
 use mailbox_base::numbers::MOST_TICK;
-use mailbox_free::table::PLAN;
 use mailbox_layout::CONTROL;
 use mailbox_layout::DEADLINE;
 use mailbox_layout::KIND;
@@ -56,7 +56,7 @@ fn seen_is(phase: u8, seen: u8) -> bool
 }
 
 // Whether task `t` has a phase and positions that it may have: its links to readers behind are counted.
-fn task_ok(plan: &[u8; PLAN], links: usize, control: &[u8; CONTROL], t: usize) -> bool
+fn task_ok(plan: &[u8; LINKS], links: usize, control: &[u8; CONTROL], t: usize) -> bool
     requires { ⌜ links ≤ stateRoom .links ⌝ }
     ensures { λ r. ⌜ ((ahead : ℕ → ℕ → Bool) → Planned ahead (at (writerIn (now (control .entry)))) (at (readerIn (now (control .entry)))) links (now (plan .entry)) → (T : ℕ) (v x : List ℕ) → r ≡ taskOk ahead (stateOf T links (now (control .entry)) v x) t) ⌝ }
 {
@@ -106,7 +106,7 @@ fn clock_is(policy: u32, last: u32) -> bool
 
 // Whether task `t` is as it may be.
 fn task_stands(
-    plan: &[u8; PLAN],
+    plan: &[u8; LINKS],
     links: usize,
     control: &[u8; CONTROL],
     times: &[u32; TIMES],
@@ -122,7 +122,7 @@ fn task_stands(
 
 // Whether each task is as it may be.
 fn tasks_stand(
-    plan: &[u8; PLAN],
+    plan: &[u8; LINKS],
     tasks: usize,
     links: usize,
     control: &[u8; CONTROL],
@@ -157,7 +157,7 @@ fn pointer_is(behind: bool, y: u8, phase: u8, n: usize) -> bool
 }
 
 // Whether link `l` has a pointer that it may have: its reader's phase is looked up, its writer's links are counted.
-fn pointer_ok(plan: &[u8; PLAN], links: usize, control: &[u8; CONTROL], l: usize) -> bool
+fn pointer_ok(plan: &[u8; LINKS], links: usize, control: &[u8; CONTROL], l: usize) -> bool
     requires { ⌜ (l < links) × (links ≤ stateRoom .links) ⌝ }
     ensures { λ r. ⌜ ((ahead : ℕ → ℕ → Bool) → Planned ahead (at (writerIn (now (control .entry)))) (at (readerIn (now (control .entry)))) links (now (plan .entry)) → (T : ℕ) (v x : List ℕ) → r ≡ pointerOk ahead (stateOf T links (now (control .entry)) v x) l) ⌝ }
 {
@@ -196,7 +196,7 @@ fn mark_ok(control: &[u8; CONTROL], l: usize) -> bool
 }
 
 // Whether link `l` is as it may be.
-fn link_stands(plan: &[u8; PLAN], links: usize, control: &[u8; CONTROL], l: usize) -> bool
+fn link_stands(plan: &[u8; LINKS], links: usize, control: &[u8; CONTROL], l: usize) -> bool
     requires { ⌜ (l < links) × (links ≤ stateRoom .links) ⌝ }
     ensures { λ r. ⌜ ((ahead : ℕ → ℕ → Bool) → Planned ahead (at (writerIn (now (control .entry)))) (at (readerIn (now (control .entry)))) links (now (plan .entry)) → (T : ℕ) (v x : List ℕ) → r ≡ linkStands ahead (stateOf T links (now (control .entry)) v x) l) ⌝ }
 {
@@ -205,7 +205,7 @@ fn link_stands(plan: &[u8; PLAN], links: usize, control: &[u8; CONTROL], l: usiz
 }
 
 // Whether each link is as it may be.
-fn links_stand(plan: &[u8; PLAN], links: usize, control: &[u8; CONTROL]) -> bool
+fn links_stand(plan: &[u8; LINKS], links: usize, control: &[u8; CONTROL]) -> bool
     requires { ⌜ links ≤ stateRoom .links ⌝ }
     ensures { λ r. ⌜ ((ahead : ℕ → ℕ → Bool) → Planned ahead (at (writerIn (now (control .entry)))) (at (readerIn (now (control .entry)))) links (now (plan .entry)) → (T : ℕ) (v x : List ℕ) → r ≡ every (linkStands ahead (stateOf T links (now (control .entry)) v x)) links) ⌝ }
 {
@@ -220,7 +220,7 @@ fn links_stand(plan: &[u8; PLAN], links: usize, control: &[u8; CONTROL]) -> bool
 
 // Whether a state is sound: its table keeps the rules, and its clock, each task and each link is as it may be. The plan of its links is lent.
 pub fn is_sound(
-    plan: &[u8; PLAN],
+    plan: &[u8; LINKS],
     tasks: usize,
     links: usize,
     control: &[u8; CONTROL],

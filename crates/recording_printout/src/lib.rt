@@ -11,7 +11,6 @@ use mailbox_base::numbers::LINKS;
 use mailbox_base::numbers::POSITIONS;
 use mailbox_base::numbers::TASKS;
 use mailbox_event::Event;
-use mailbox_free::table::PLAN;
 use mailbox_layout::CONTROL;
 use mailbox_layout::LAST;
 use mailbox_layout::MARK;
@@ -135,7 +134,7 @@ pub fn print_replay(s: &[u8], out: &mut [u32])
 
 // Writes the line of a task: it has as many positions as links to readers behind, and two more.
 fn print_task(
-    plan: &[u8; PLAN],
+    plan: &[u8; LINKS],
     task: u8,
     links: usize,
     control: &[u8; CONTROL],

@@ -18,10 +18,10 @@ point-links-requires : tie.Need-point-links-requires
 point-links-requires c κs = search needs
 
 returns : tie.Need-returns
-returns c ahead right v x =
+returns c table ahead right v x =
     let m = c .before .before in
     rw (← m .before .before .before .few .ensures, ← m .before .before .few2 .ensures)
-    (both ahead _ _ (m .move-tasks .ensures ahead (rw (m .before .before .before .few .ensures) right) _ v x) (c .point-links .ensures _ _ v x))
+    (both ahead _ _ (m .move-tasks .ensures table ahead (rw (m .before .before .before .few .ensures) right) _ v x) (c .point-links .ensures _ _ v x))
 
 pub arrive-spec : {M : Type 1} → statement M
 arrive-spec =

@@ -25,7 +25,7 @@ held-requires : tie.Need-held-requires
 held-requires c κs = search needs
 
 returns : tie.Need-returns
-returns c ahead right =
+returns c table ahead right =
     let a = c .before .before .before .args in
     let taken : ℕ → Bool = λ (p : ℕ). some (holds ahead (at (writerIn (a .control .now))) (at (readerIn (a .control .now))) (at (pointerIn (a .control .now))) (a .t) p) (a .links) in
     c .before .before .pick .ensures
@@ -41,9 +41,9 @@ lowest-outside-requires : tie.Need-lowest-outside-requires
 lowest-outside-requires c κs = search needs
 
 returns-2 : tie.Need-returns-2
-returns-2 c ahead right =
+returns-2 c table ahead right =
     let x = c .before .before .before .before .before .before .args .x in
-    c .lowest-outside .ensures (right .lowest)
+    c .lowest-outside .ensures table
     ∙ first-same _ _ 9 1
     (λ p l h. has-or _ _ p
     ∙ ap₂ _||_

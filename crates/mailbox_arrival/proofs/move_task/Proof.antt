@@ -11,7 +11,7 @@ has-requires : tie.Need-has-requires
 has-requires c κs = search needs
 
 returns : tie.Need-returns
-returns c ahead right T v x = stays ahead _ _ _ _ (c .before .has .ensures) (c .if1 .taken)
+returns c table ahead right T v x = stays ahead _ _ _ _ (c .before .has .ensures) (c .if1 .taken)
 
 control-at-requires : tie.Need-control-at-requires
 control-at-requires c κs = search needs
@@ -47,14 +47,14 @@ put-control-requires-4 : tie.Need-put-control-requires-4
 put-control-requires-4 c κs = search needs
 
 returns-2 : tie.Need-returns-2
-returns-2 c ahead right T v x =
+returns-2 c table ahead right T v x =
     let p = c .before .before .before .before .before .before in
     let o = p .before .before in
     let d = o .before .before .before in
     let f = d .before .before .before in
     let h = f .before .before .before .before in
     let a = h .before .before .args in
-    moves ahead _ _ (stateOf T (a .links) (a .control .now) v x) _ (h .before .has .ensures) (h .if1 .left) (f .before .before .control-at .ensures) (f .lowest-free .ensures ahead right)
+    moves ahead _ _ (stateOf T (a .links) (a .control .now) v x) _ (h .before .has .ensures) (h .if1 .left) (f .before .before .control-at .ensures) (f .lowest-free .ensures table ahead right)
     (rw (d .before .control-at2 .ensures) at (d .decide .ensures)) (rw (o .before .control-at3 .ensures) at (o .seen-once .ensures))
     (previous-put T _ _ _ v x (p .put-control .ensures)) (newest-put T _ _ _ v x (c .before .before .before .before .put-control2 .ensures))
     (seen-put T _ _ _ v x (c .before .before .put-control3 .ensures)) (phase-put T _ _ _ v x (c .put-control4 .ensures))

@@ -7,6 +7,9 @@ use Rattle.mailbox_parts.proofs.do_plainly.Tie as tie
 enum-known-e : tie.Need-enum-known-e
 enum-known-e c = search needs
 
+lowest-table-requires : tie.Need-lowest-table-requires
+lowest-table-requires c κs = search needs
+
 arrive-requires : tie.Need-arrive-requires
 arrive-requires c κs = search needs
 
@@ -26,7 +29,7 @@ finish-requires : tie.Need-finish-requires
 finish-requires c κs = search needs
 
 returns : tie.Need-returns
-returns c ahead right x = rw (c .before .before .before .e .given .1) (c .arrive .ensures ahead right _ x)
+returns c ahead right x = rw (c .before .before .before .before .before .e .given .1) (c .arrive .ensures (c .before .before .before .lowest-table .ensures) ahead right _ x)
 
 returns-2 : tie.Need-returns-2
 returns-2 c ahead right x = rw (c .before .before .before .e2 .given .1) (c .advance .ensures _ _ _ x)
@@ -42,6 +45,7 @@ do-plainly-spec =
     tie.close
     (tie.spec
     enum-known-e
+    lowest-table-requires
     arrive-requires
     enum-known-e-2
     advance-requires

@@ -1,17 +1,12 @@
 -- `mailbox_plan::goes_behind` meets its contract: past the room the plan has ended.
 -- Assumes nothing.
 use mathlib.Core.Path.{_≡_}
-use Prim.Native.Nat.{_+_}
 use native.Mathlib.Omega.{arith}
 use lib.ListN.{List·getD-eq-default}
 use borrow.Author.Needs.{needs}
-use Rattle.mailbox_free.specs.Pattern.{patterns}
-use Rattle.mailbox_plan.specs.Plan.{flagAt}
+use Rattle.protocol_state.specs.Saved.{at}
 use Rattle.mailbox_plan.proofs.goes_behind.Statement.{statement}
 use Rattle.mailbox_plan.proofs.goes_behind.Tie as tie
-
-add-result : tie.Need-add-result
-add-result c = search needs
 
 shared-slice-read-result : tie.Need-shared-slice-read-result
 shared-slice-read-result c = search needs
@@ -22,8 +17,8 @@ returns c = search needs
 returns-2 : tie.Need-returns-2
 returns-2 c =
     let a = c .before .before .args in
-    let e : flagAt (a .plan .now) (a .l) ≡ 0 = List·getD-eq-default (a .plan .now) 0 {n = patterns + a .l} (omega arith) in
+    let e : at (a .plan .now) (a .l) ≡ 0 = List·getD-eq-default (a .plan .now) 0 {n = a .l} (omega arith) in
     rw e
 
 pub goes-behind-spec : {M : Type 1} → statement M
-goes-behind-spec = tie.close (tie.spec add-result shared-slice-read-result returns returns-2)
+goes-behind-spec = tie.close (tie.spec shared-slice-read-result returns returns-2)

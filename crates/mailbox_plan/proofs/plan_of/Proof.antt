@@ -5,16 +5,16 @@ use Prim.Native.Nat.{_≤_, _-_}
 use native.Mathlib.Omega.{arith}
 use lib.ListN.{length, length-set}
 use borrow.Author.Needs.{needs}
-use Rattle.protocol_state.specs.Saved.{at}
+use Rattle.protocol_state.specs.Saved.{at, stateRoom}
 use Rattle.mailbox_layout.specs.Layout.{writerIn, readerIn, aheadAmong}
-use Rattle.mailbox_plan.specs.Plan.{planSize, Planned}
+use Rattle.mailbox_plan.specs.Plan.{Planned}
 use Rattle.mailbox_plan.proofs.Plans.{plan-none, plan-first, plan-more}
 use Rattle.mailbox_plan.proofs.plan_of.Statement.{statement}
 use Rattle.mailbox_plan.proofs.plan_of.Tie as tie
 
 abbrev Inv-loop : tie.InvT-loop
 Inv-loop links control times n plan₀ l₀ plan l =
-    (l ≤ n) × (length plan ≡ planSize) × Planned (aheadAmong times) (at (writerIn control)) (at (readerIn control)) l plan
+    (l ≤ n) × (length plan ≡ stateRoom .links) × Planned (aheadAmong times) (at (writerIn control)) (at (readerIn control)) l plan
 
 abbrev μ-loop : tie.MeasureT-loop
 μ-loop links control times n plan₀ l₀ plan l = n - l
@@ -22,11 +22,8 @@ abbrev μ-loop : tie.MeasureT-loop
 few-requires : tie.Need-few-requires Inv-loop μ-loop
 few-requires c κs = search needs
 
-plan-without-links-requires : tie.Need-plan-without-links-requires Inv-loop μ-loop
-plan-without-links-requires c κs = search needs
-
 loop-holds : tie.Need-loop-holds Inv-loop μ-loop
-loop-holds c = (omega arith, search needs, plan-none (c .plan-without-links .ensures))
+loop-holds c = (omega arith, search needs, plan-none)
 
 control-at-requires : tie.Need-control-at-requires Inv-loop μ-loop
 control-at-requires c κs = search needs
@@ -62,7 +59,7 @@ loop-again c =
     )
 
 returns : tie.Need-returns Inv-loop μ-loop
-returns c = rw (← c .before .before .before .few .ensures) (plan-first (c .loop-test .left) (c .before .loop .inv .2))
+returns c = rw (← c .before .before .few .ensures) (plan-first (c .loop-test .left) (c .before .loop .inv .2))
 
 pub plan-of-spec : {M : Type 1} → statement M
 plan-of-spec =
@@ -71,7 +68,6 @@ plan-of-spec =
     Inv-loop
     μ-loop
     few-requires
-    plan-without-links-requires
     loop-holds
     control-at-requires
     control-at-requires-2

@@ -10,9 +10,6 @@ use Rattle.mailbox_plan.proofs.put_flag.Tie as tie
 pick-requires : tie.Need-pick-requires
 pick-requires c κs = search needs
 
-add-all : tie.Need-add-all
-add-all c = search needs
-
 slice-write-all : tie.Need-slice-write-all
 slice-write-all c = search needs
 
@@ -23,4 +20,4 @@ returns-2 : tie.Need-returns-2
 returns-2 c = sym (set-out _ _ _ (omega arith))
 
 pub put-flag-spec : {M : Type 1} → statement M
-put-flag-spec = tie.close (tie.spec pick-requires add-all slice-write-all returns returns-2)
+put-flag-spec = tie.close (tie.spec pick-requires slice-write-all returns returns-2)
