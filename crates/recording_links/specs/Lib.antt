@@ -1,0 +1,2 @@
+-- What the section of the links holds.
+pub mod Links

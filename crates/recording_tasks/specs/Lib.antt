@@ -1,0 +1,2 @@
+-- What the section of the tasks holds.
+pub mod Tasks
