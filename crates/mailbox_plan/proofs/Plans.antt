@@ -3,15 +3,19 @@
 use mathlib.Core.Path.{_≡_, refl, ap, _∙_}
 use mathlib.Core.Bool.{Bool, true, false, cond, _&&_}
 use mathlib.Core.List.{List}
-use Prim.Native.Nat.{ℕ, _+_, _≤_, _<_}
+use Prim.Native.Nat.{ℕ, _+_, _%_, _≤_, _<_}
 use native.Mathlib.Omega.{arith}
 use borrow.Author.Tests.{eqb-true, eqb-false}
 use lib.Dec.{eqb}
 use lib.ListN.{length, set}
 use lib.Seq.{getD-set-same, getD-set-other}
-use Rattle.lists.proofs.Bools.{digit}
 use Rattle.protocol_state.specs.Saved.{at, stateRoom}
-use Rattle.mailbox_plan.specs.Plan.{Planned}
+use Rattle.mailbox_plan.specs.Plan.{isFlagged, Planned}
+
+-- a flag that is put is set where it was told so
+odd : (b : Bool) → eqb (cond b 1 0 % 2) 1 ≡ b
+odd true = refl
+odd false = refl
 
 -- a test of x where x is y is one of y
 tested-at : (f : ℕ → Bool) (x y : ℕ) → (eqb x y && f x) ≡ (eqb x y && f y)
@@ -48,15 +52,15 @@ module _ {ahead : ℕ → ℕ → Bool} {W R : ℕ → ℕ} where
         getD-set-other plan n l x 0 (omega (arith, other)) ∙ p .flag l (omega arith)
 
   -- what the flag of a link says
-  pub flag-says : {n : ℕ} {plan : List ℕ} (l : ℕ) → Planned ahead W R n plan → l < n → eqb (at plan l) 1 ≡ ahead (W l) (R l)
-  flag-says l p h = ap (λ (x : ℕ). eqb x 1) (p .flag l h) ∙ digit (ahead (W l) (R l))
+  pub flag-says : {n : ℕ} {plan : List ℕ} (l : ℕ) → Planned ahead W R n plan → l < n → isFlagged plan l ≡ ahead (W l) (R l)
+  flag-says l p h = ap (λ (x : ℕ). eqb (x % 2) 1) (p .flag l h) ∙ odd (ahead (W l) (R l))
 
   -- so where task t writes by it, that t is ahead of its reader
-  pub flag-from : {n : ℕ} {plan : List ℕ} (l t : ℕ) → Planned ahead W R n plan → l < n → (eqb (W l) t && eqb (at plan l) 1) ≡ (eqb (W l) t && ahead t (R l))
+  pub flag-from : {n : ℕ} {plan : List ℕ} (l t : ℕ) → Planned ahead W R n plan → l < n → (eqb (W l) t && isFlagged plan l) ≡ (eqb (W l) t && ahead t (R l))
   flag-from l t p h = rw (flag-says l p h) (tested-at (λ w. ahead w (R l)) (W l) t)
 
   -- and where t reads by it, that its writer is ahead of t
-  pub flag-to : {n : ℕ} {plan : List ℕ} (l t : ℕ) → Planned ahead W R n plan → l < n → (eqb (R l) t && eqb (at plan l) 1) ≡ (eqb (R l) t && ahead (W l) t)
+  pub flag-to : {n : ℕ} {plan : List ℕ} (l t : ℕ) → Planned ahead W R n plan → l < n → (eqb (R l) t && isFlagged plan l) ≡ (eqb (R l) t && ahead (W l) t)
   flag-to l t p h = rw (flag-says l p h) (tested-at (ahead (W l)) (R l) t)
 
 -- the plan of links is that of others that agree with them

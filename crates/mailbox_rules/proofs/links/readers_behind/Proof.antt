@@ -14,13 +14,14 @@ use Rattle.lists.proofs.Bools.{cond-small}
 use Rattle.protocol.specs.Table.{toBehind}
 use Rattle.protocol_state.specs.Saved.{at}
 use Rattle.protocol_state.proofs.Places.{count-same}
+use Rattle.mailbox_plan.specs.Plan.{isFlagged}
 use Rattle.mailbox_plan.proofs.Plans.{flag-from}
 use Rattle.mailbox_rules.proofs.links.readers_behind.Statement.{statement}
 use Rattle.mailbox_rules.proofs.links.readers_behind.Tie as tie
 
 -- link j is task t's and has its flag
 abbrev flagged : List ℕ → List ℕ → ℕ → ℕ → Bool
-flagged plan control t j = eqb (at (writerIn control) j) t && eqb (at plan j) 1
+flagged plan control t j = eqb (at (writerIn control) j) t && isFlagged plan j
 
 abbrev Inv-loop : tie.InvT-loop
 Inv-loop plan control n t end c₀ l₀ c l =
