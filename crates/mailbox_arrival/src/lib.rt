@@ -208,7 +208,8 @@ fn point_links(set: u32, links: usize, control: &mut [u8; CONTROL])
 }
 
 // An arrival that is allowed. The order matters: the readers' part comes after the writers'. Counts above the room are taken as the room.
-// What is done is said under any order that the plan is right for. The plan is lent so that it is not made anew at each arrival.
+// What is done is said where `lowest` is the table of free positions, under any order that the plan is right for. Both are lent so that a replay makes
+// them once.
 pub fn arrive(
     lowest: &[u8; PATTERNS],
     plan: &[u8; LINKS],

@@ -53,7 +53,7 @@ fn try_tick(refusal: u8, tick: u32, late: u8, times: &[u32; TIMES]) -> u8
 }
 
 // Whether the policy is earliest deadline first: under fixed priorities there are no ticks to look at or to keep, and no other function of
-// this crate is called. Who gives many events asks once.
+// this crate is called. Who gives many events asks before them, not at each.
 pub fn is_dated(times: &[u32; TIMES]) -> bool
     ensures { λ r. ⌜ r ≡ not (eqb (policyIn (now (times .entry))) 0) ⌝ }
 {

@@ -13,7 +13,6 @@ use lib.Dec.{eqb, leb}
 use lib.Pow.{field, mod-mod-pow, shl-exact, shr-shr}
 use mir.Val.{boolByte}
 use Rattle.lists.specs.Lists.{every, first}
-use Rattle.lists.proofs.Bools.{digit}
 use Rattle.lists.proofs.Lists.{every-at}
 use Rattle.lists.proofs.Search.{first-from, first-same, first-less}
 use Rattle.protocol.specs.Event.{has}
@@ -43,6 +42,10 @@ pub has-none : (p : ℕ) → has 0 p ≡ false
 has-none p = has-not 0 0 p (omega arith) (omega arith)
 
 -- ---- one bit
+digit : (b : Bool) → eqb (cond b 1 0) 1 ≡ b
+digit true = refl
+digit false = refl
+
 -- a word with one bit has that bit: computed, for the bits of a word
 has-bit : (n p : ℕ) → n < 16 → p < 16 → has (2 ^ n) p ≡ eqb n p
 unfolding has every

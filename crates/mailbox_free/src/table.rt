@@ -72,7 +72,7 @@ const LOWEST: [u8; PATTERNS] = *b"\
     \x01\x02\x01\x03\x01\x02\x01\x04\x01\x02\x01\x03\x01\x02\x01\x05\
     \x01\x02\x01\x03\x01\x02\x01\x04\x01\x02\x01\x03\x01\x02\x01\x00";
 
-// The table. A copy is lent to the searches of a whole replay: a constant that is read at a pattern known only at run time would be filled anew
+// The table. A copy is lent to the searches of a whole replay, or of one arrival: a constant that is read at a pattern known only at run time would be filled anew
 // at each search.
 pub fn lowest_table() -> [u8; PATTERNS]
     ensures { λ r. ⌜ AllLowest r ⌝ }

@@ -27,8 +27,8 @@ pub fn is_ahead(times: &[u32; TIMES], u: usize, t: usize) -> bool
     (x < y) | ((x == y) & (u < t))
 }
 
-// Whether link `l` goes to a reader behind, by its flag. The last bit is asked for, and not the whole byte: the compiler then compares eight links at
-// once where fewer than 32 are left, and else four.
+// Whether link `l` goes to a reader behind, by its flag. The last bit is asked for, and not the whole byte: where fewer than 32 links are left, the
+// compiler then compares eight at once in place of four.
 pub fn goes_behind(plan: &[u8; LINKS], l: usize) -> bool
     ensures { λ r. ⌜ r ≡ isFlagged (now (plan .entry)) l ⌝ }
 {

@@ -61,6 +61,7 @@ pub fn fault_after(
     let twice = has_pair(control, n, w, r);
     let count = readers_behind(plan, control, n, w as usize);
     let behind = is_ahead(times, w as usize, r as usize);
+    // of two different tasks one is ahead, so that this is not looked up
     let front = !(w == r) & !behind;
     fault_of(tasks, link, behind, front, twice, count)
 }

@@ -25,21 +25,21 @@ use Rattle.recording_head.specs.declared.Section.{Section}
 use Rattle.recording_tasks.specs.Tasks.{tasksPlayed, tasksAt, dateFault, HasTasks, NoTasks, HoldsTasks}
 
 -- what an answer holds, an equal one holds
-held-so : {k : ℕ} {y z : Verdict (List Task)} {t : Section} {v x : List ℕ} → HoldsTasks k y t v x → y ≡ z → HoldsTasks k z t v x
-held-so {k} {t = t} {v} {x} h e = subst (λ (y : Verdict (List Task)). HoldsTasks k y t v x) e h
+tasks-so : {k : ℕ} {y z : Verdict (List Task)} {t : Section} {v x : List ℕ} → HoldsTasks k y t v x → y ≡ z → HoldsTasks k z t v x
+tasks-so {k} {t = t} {v} {x} h e = subst (λ (y : Verdict (List Task)). HoldsTasks k y t v x) e h
 
 -- the section after its count
 pub tasks-counted :
     (which : WhichKind) (s : List ℕ) {n q : ℕ} {t : Section} {v x : List ℕ} → taskCountAt (anyKind which) s taskPlace ≡ got n q →
     HoldsTasks (anyKind which .policy) (tasksPlayed which n s q) t v x → HoldsTasks (anyKind which .policy) (tasksAt which s) t v x
-tasks-counted which s e h = held-so h (sym (section-counted (tasks (anyKind which)) (taskLimit (anyKind which)) (taskFault (anyKind which)) andTask [] [] s taskPlace e))
+tasks-counted which s e h = tasks-so h (sym (section-counted (tasks (anyKind which)) (taskLimit (anyKind which)) (taskFault (anyKind which)) andTask [] [] s taskPlace e))
 
 -- or without one
 pub tasks-lost :
     (which : WhichKind) (s : List ℕ) {r : ℕ} {v x : List ℕ} → taskCountAt (anyKind which) s taskPlace ≡ stop r → NoTasks (anyKind which .policy) v x →
     HoldsTasks (anyKind which .policy) (tasksAt which s) (record { refusal = r; place = taskPlace; count = 0 }) v x
 tasks-lost which s e h =
-    held-so (record { refusal = refl; place = refl; count = refl; tasks = h })
+    tasks-so (record { refusal = refl; place = refl; count = refl; tasks = h })
     (sym (section-refused (tasks (anyKind which)) (taskLimit (anyKind which)) (taskFault (anyKind which)) andTask [] [] s taskPlace e))
 
 -- at turn i of n: i tasks are read, up to p, and the others are left
@@ -62,7 +62,7 @@ module _ {which : WhichKind} {n : ℕ} {s : List ℕ} {from : ℕ} {v x : List �
   found f = record { refusal = f; place = p; count = i }
 
   holds : (f : ℕ) {y : Verdict (List Task)} → verdict f p (t .read) ≡ y → HoldsTasks (anyKind which .policy) y (found f) v x
-  holds f e = held-so (record { refusal = refl; place = refl; count = t .count; tasks = t .held }) e
+  holds f e = tasks-so (record { refusal = refl; place = refl; count = t .count; tasks = t .held }) e
 
   -- no record is left
   pub tasks-end : n ≤ i → HoldsTasks (anyKind which .policy) (tasksPlayed which n s from) (found r) v x
