@@ -5,44 +5,12 @@ ghost use Rattle.protocol_state.specs.Give.{reply};
 ghost use Rattle.mailbox_layout.specs.Layout.{stateOf};
 ghost use Rattle.mailbox_event.specs.declared.When.the-variants.{Untimed, At};
 ghost use Rattle.mailbox_call.specs.Calls.{requested, requestReply};
-ghost use Rattle.mailbox_call.specs.Replies.{heard};
-use mailbox_call::Asked;
 use mailbox_call::ask;
-use mailbox_call::number_of;
-use mailbox_event::When;
 use mailbox_give::give;
-use mailbox_give::is_for;
+use mailbox_give::give_at;
 use mailbox_layout::CONTROL;
 use mailbox_layout::TIMES;
 use mailbox_layout::VALUES;
-use mailbox_plan::plan_of;
-use mailbox_sound::is_sound;
-
-// The answer to what is asked, without a tick or at one. What is no event is answered after 19.
-fn hear(
-    when: When,
-    asked: Asked,
-    number: &mut u32,
-    tasks: usize,
-    links: usize,
-    control: &mut [u8; CONTROL],
-    values: &mut [u32; VALUES],
-    times: &mut [u32; TIMES],
-) -> u8
-    ensures answer { λ r. ⌜ reply (stateOf tasks links (now (control .exit)) (now (values .exit)) (now (times .exit))) r (now (number .exit)) ≡ heard when (stateOf tasks links (now (control .entry)) (now (values .entry)) (now (times .entry))) asked ⌝ }
-    ensures kept { λ r. ⌜ (r ≢ 0 → (now (control .exit) ≡ now (control .entry)) × ((now (values .exit) ≡ now (values .entry)) × (now (times .exit) ≡ now (times .entry)))) ⌝ }
-{
-    let Asked::Known(e) = asked else {
-        *number = 0;
-        let plan = plan_of(links, control, times);
-        let sound = is_sound(&plan, tasks, links, control, values, times);
-        if !(sound & is_for(when, times)) {
-            return 19;
-        }
-        return number_of(asked);
-    };
-    give(when, e, number, tasks, links, control, values, times)
-}
 
 // One event given to a state under fixed priorities: 19 where the state isn't sound or has deadlines, then 11 for an unknown kind, then 12 to
 // 16, else it is done. A refusal leaves the three arrays as they were lent.
@@ -62,16 +30,7 @@ pub extern "C" fn parnusild_event_32_96_66(
     ensures kept { λ r. ⌜ (r ≢ 0 → (now (control .exit) ≡ now (control .entry)) × ((now (values .exit) ≡ now (values .entry)) × (now (times .exit) ≡ now (times .entry)))) ⌝ }
 {
     let asked = ask(kind, which, value);
-    hear(
-        When::Untimed,
-        asked,
-        number,
-        tasks,
-        links,
-        control,
-        values,
-        times,
-    )
+    give(asked, number, tasks, links, control, values, times)
 }
 
 // One event given to a state with deadlines at a tick: 19 where the state isn't sound or is one under fixed priorities, then 11, 12, 22, 21, 13
@@ -93,14 +52,5 @@ pub extern "C" fn parnusild_event_at_32_96_66(
     ensures kept { λ r. ⌜ (r ≢ 0 → (now (control .exit) ≡ now (control .entry)) × ((now (values .exit) ≡ now (values .entry)) × (now (times .exit) ≡ now (times .entry)))) ⌝ }
 {
     let asked = ask(kind, which, value);
-    hear(
-        When::At(tick),
-        asked,
-        number,
-        tasks,
-        links,
-        control,
-        values,
-        times,
-    )
+    give_at(tick, asked, number, tasks, links, control, values, times)
 }

@@ -19,9 +19,11 @@ use crate::tables::values_of;
 use mailbox_base::numbers::EVENTS;
 use mailbox_base::numbers::LINKS;
 use mailbox_base::numbers::TASKS;
+use mailbox_call::Asked;
 use mailbox_event::Event;
 use mailbox_event::When;
 use mailbox_give::give;
+use mailbox_give::give_at;
 use mailbox_layout::CELL;
 use mailbox_layout::CONTROL;
 use mailbox_layout::DEADLINE;
@@ -171,7 +173,15 @@ impl State {
         let values = self.values;
         let times = self.times;
         let plan = plan_of(self.links, &control, &times);
-        let table = judge_table(&plan, self.tasks, self.links, &control, &values, &times);
+        let mut counts = [0u8; TASKS];
+        let table = judge_table(
+            &mut counts,
+            &plan,
+            self.tasks,
+            self.links,
+            &control,
+            &values,
+        );
         let refusal = then_dates(table, self.tasks, &times);
         if refusal != 0 {
             return Made {
@@ -283,16 +293,27 @@ impl State {
         let mut values = self.values;
         let mut times = self.times;
         let mut value: u32 = 0;
-        let refusal = give(
-            when,
-            e,
-            &mut value,
-            tasks,
-            links,
-            &mut control,
-            &mut values,
-            &mut times,
-        );
+        let refusal = match when {
+            When::Untimed => give(
+                Asked::Known(e),
+                &mut value,
+                tasks,
+                links,
+                &mut control,
+                &mut values,
+                &times,
+            ),
+            When::At(tick) => give_at(
+                tick,
+                Asked::Known(e),
+                &mut value,
+                tasks,
+                links,
+                &mut control,
+                &mut values,
+                &mut times,
+            ),
+        };
         self.control = control;
         self.values = values;
         self.times = times;

@@ -1,6 +1,6 @@
 // An event, as it is given to the mailboxes and stands in a recording.
 ghost use mathlib.Core.Path.{_≡_};
-ghost use Rattle.mailbox_event.specs.Plain.{policyFor, tickFor};
+ghost use Rattle.mailbox_event.specs.Plain.{policyFor};
 
 // The arrival of a set of tasks, the start of a task, a read by a link, the finish of a task with a value.
 pub enum Event {
@@ -23,15 +23,5 @@ pub fn policy_for(when: When) -> u32
     match when {
         When::Untimed => 0,
         When::At(_) => 1,
-    }
-}
-
-// The tick: under fixed priorities every tick is 0.
-pub fn tick_for(when: When) -> u32
-    ensures { λ r. ⌜ r ≡ tickFor when ⌝ }
-{
-    match when {
-        When::Untimed => 0,
-        When::At(x) => x,
     }
 }

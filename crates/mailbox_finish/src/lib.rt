@@ -28,7 +28,7 @@ use mailbox_layout::control_at;
 use mailbox_layout::put_cell;
 use mailbox_layout::put_control;
 use mailbox_layout::value_at;
-use mailbox_plan::goes_behind;
+use mailbox_plan::flag_is_one;
 
 // The next phase of task `t`, at an event of this kind.
 pub fn advance(kind: usize, t: u8, control: &mut [u8; CONTROL])
@@ -66,7 +66,7 @@ fn free_link(plan: &[u8; LINKS], t: u8, l: usize, control: &mut [u8; CONTROL])
     ensures { λ _. ⌜ ((ahead : ℕ → ℕ → Bool) (n : ℕ) → Planned ahead (at (writerIn (now (control .entry)))) (at (readerIn (now (control .entry)))) n (now (plan .entry)) → l < n → (T L : ℕ) → Becomes (freedOne ahead t l) T L (now (control .entry)) (now (control .exit))) ⌝ }
 {
     let r = control_at(control, READER, l);
-    let behind = goes_behind(plan, l);
+    let behind = flag_is_one(plan, l);
     let x = freed_at(t, r, behind, control_at(control, POINTER, l));
     let m = freed_at(t, r, behind, control_at(control, MARK, l));
     put_control(control, POINTER, l, x);

@@ -1,2 +1,2 @@
--- Laws that the proof cites.
+-- Laws that the proofs cite.
 pub mod Ways

@@ -92,6 +92,16 @@ module _ (before : ℕ → ℕ → Bool) (k t T : ℕ) (ph : ℕ → ℕ) where
   unfolding judgedTask
   judged-inside l ep eb er = rw (lt-leb T t l, er, eb, ep)
 
+  -- d is what the phase decides: where it refuses, nobody else is asked
+  pub judged-refused : {p d : ℕ} → t < T → p ≡ ph t → d ≡ decided k p → 12 ≤ d → d ≡ judgedTask before k t T ph
+  judged-refused {p} {d} l ep ed h = judged-inside l ep refl (rw (← ed, le-ltb d 12 h))
+
+  -- where it allows the event, t may have to wait
+  pub judged-allowed :
+      {p d r : ℕ} {b : Bool} → t < T → p ≡ ph t → d ≡ decided k p → d < 12 → b ≡ preempted before t T ph → r ≡ cond b 16 0 →
+      r ≡ judgedTask before k t T ph
+  judged-allowed {p} {d} l ep ed h eb er = judged-inside l ep eb (rw (← ed, lt-ltb d 12 h) er)
+
 module _ (before : ℕ → ℕ → Bool) (l T L : ℕ) (R ph : ℕ → ℕ) where
   pub read-outside : L ≤ l → 12 ≡ judgedRead before l T L R ph
   unfolding judgedRead

@@ -124,14 +124,6 @@ fn some_sooner(t: usize, tasks: usize, control: &[u8; CONTROL], times: &[u32; TI
     found
 }
 
-// The refusal of an event of this kind in this phase, 0 for none: as the phase decides, then 16 for a task that has to wait.
-fn judge_turn(kind: usize, phase: u8, wait: bool) -> u8
-    ensures { λ r. ⌜ r ≡ cond (allows (decided kind phase)) (cond wait 16 0) (decided kind phase) ⌝ }
-{
-    let next = decide(kind, phase);
-    pick(next < REFUSALS, pick(wait, 16, 0), next)
-}
-
 // The refusal of a start, a read or a finish by task `t` under fixed priorities, 0 for none. It is small enough to be put in line, where its
 // kind is known: with the search by deadlines in it, it would be called, and read the decision table at each event.
 pub fn judge_task(kind: usize, t: u8, tasks: usize, control: &[u8; CONTROL]) -> u8
@@ -141,8 +133,13 @@ pub fn judge_task(kind: usize, t: u8, tasks: usize, control: &[u8; CONTROL]) -> 
     if few(tasks, TASKS) <= i {
         return 12;
     }
-    let wait = some_before(i, phases_in(control));
-    judge_turn(kind, control_at(control, PHASE, i), wait)
+    // Its phase is asked before the tasks ahead: what is refused by its phase needs no search, and an event that is done asks for the phase
+    // once.
+    let next = decide(kind, control_at(control, PHASE, i));
+    if REFUSALS <= next {
+        return next;
+    }
+    pick(some_before(i, phases_in(control)), 16, 0)
 }
 
 // The refusal of a read by link `l` under fixed priorities, 0 for none: its reader is the task that reads.
@@ -154,6 +151,14 @@ pub fn judge_read(l: u8, tasks: usize, links: usize, control: &[u8; CONTROL]) ->
         return 12;
     }
     judge_task(READ, control_at(control, READER, i), tasks, control)
+}
+
+// The refusal of an event of this kind in this phase, 0 for none: as the phase decides, then 16 for a task that has to wait.
+fn judge_turn(kind: usize, phase: u8, wait: bool) -> u8
+    ensures { λ r. ⌜ r ≡ cond (allows (decided kind phase)) (cond wait 16 0) (decided kind phase) ⌝ }
+{
+    let next = decide(kind, phase);
+    pick(next < REFUSALS, pick(wait, 16, 0), next)
 }
 
 // The refusal of a start, a read or a finish by task `t` with deadlines, ticks left aside: the job that is due earlier goes before, ties by the

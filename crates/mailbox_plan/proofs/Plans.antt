@@ -10,12 +10,12 @@ use lib.Dec.{eqb}
 use lib.ListN.{length, set}
 use lib.Seq.{getD-set-same, getD-set-other}
 use Rattle.protocol_state.specs.Saved.{at, stateRoom}
-use Rattle.mailbox_plan.specs.Plan.{isFlagged, Planned}
+use Rattle.mailbox_plan.specs.Plan.{isFlagged, isOne, Planned}
 
--- a flag that is put is set where it was told so
-odd : (b : Bool) → eqb (cond b 1 0 % 2) 1 ≡ b
-odd true = refl
-odd false = refl
+-- a test that tells 1 from 0 says of a flag what it was put by
+told : (f : ℕ → Bool) (b : Bool) → f 1 ≡ true → f 0 ≡ false → f (cond b 1 0) ≡ b
+told f true one none = one
+told f false one none = none
 
 -- a test of x where x is y is one of y
 tested-at : (f : ℕ → Bool) (x y : ℕ) → (eqb x y && f x) ≡ (eqb x y && f y)
@@ -51,17 +51,25 @@ module _ {ahead : ℕ → ℕ → Bool} {W R : ℕ → ℕ} where
         let other = eqb-false l n i in
         getD-set-other plan n l x 0 (omega (arith, other)) ∙ p .flag l (omega arith)
 
-  -- what the flag of a link says
+  -- what the flag of a link says, by any test that tells 1 from 0
+  flag-by : (f : ℕ → Bool) → f 1 ≡ true → f 0 ≡ false → {n : ℕ} {plan : List ℕ} (l : ℕ) → Planned ahead W R n plan → l < n → f (at plan l) ≡ ahead (W l) (R l)
+  flag-by f one none l p h = ap f (p .flag l h) ∙ told f (ahead (W l) (R l)) one none
+
+  -- by its last bit
   pub flag-says : {n : ℕ} {plan : List ℕ} (l : ℕ) → Planned ahead W R n plan → l < n → isFlagged plan l ≡ ahead (W l) (R l)
-  flag-says l p h = ap (λ (x : ℕ). eqb (x % 2) 1) (p .flag l h) ∙ odd (ahead (W l) (R l))
+  flag-says = flag-by (λ x. eqb (x % 2) 1) refl refl
+
+  -- and by the whole byte
+  byte-says : {n : ℕ} {plan : List ℕ} (l : ℕ) → Planned ahead W R n plan → l < n → isOne plan l ≡ ahead (W l) (R l)
+  byte-says = flag-by (λ x. eqb x 1) refl refl
 
   -- so where task t writes by it, that t is ahead of its reader
   pub flag-from : {n : ℕ} {plan : List ℕ} (l t : ℕ) → Planned ahead W R n plan → l < n → (eqb (W l) t && isFlagged plan l) ≡ (eqb (W l) t && ahead t (R l))
   flag-from l t p h = rw (flag-says l p h) (tested-at (λ w. ahead w (R l)) (W l) t)
 
   -- and where t reads by it, that its writer is ahead of t
-  pub flag-to : {n : ℕ} {plan : List ℕ} (l t : ℕ) → Planned ahead W R n plan → l < n → (eqb (R l) t && isFlagged plan l) ≡ (eqb (R l) t && ahead (W l) t)
-  flag-to l t p h = rw (flag-says l p h) (tested-at (ahead (W l)) (R l) t)
+  pub flag-to : {n : ℕ} {plan : List ℕ} (l t : ℕ) → Planned ahead W R n plan → l < n → (eqb (R l) t && isOne plan l) ≡ (eqb (R l) t && ahead (W l) t)
+  flag-to l t p h = rw (byte-says l p h) (tested-at (ahead (W l)) (R l) t)
 
 -- the plan of links is that of others that agree with them
 pub plan-same : {ahead : ℕ → ℕ → Bool} {W R W′ R′ : ℕ → ℕ} {n : ℕ} {plan : List ℕ} → ((l : ℕ) → l < n → W l ≡ W′ l) → ((l : ℕ) → l < n → R l ≡ R′ l) → Planned ahead W R n plan →

@@ -5,7 +5,7 @@ ghost use Prim.Native.Nat.{min};
 ghost use lib.ListN.{set};
 ghost use Rattle.protocol_state.specs.Saved.{at, stateRoom};
 ghost use Rattle.mailbox_layout.specs.Layout.{writerIn, readerIn, aheadAmong};
-ghost use Rattle.mailbox_plan.specs.Plan.{isFlagged, Planned};
+ghost use Rattle.mailbox_plan.specs.Plan.{isFlagged, isOne, Planned};
 use lists::few;
 use mailbox_base::numbers::LINKS;
 use mailbox_base::numbers::pick;
@@ -34,6 +34,15 @@ pub fn goes_behind(plan: &[u8; LINKS], l: usize) -> bool
 {
     let all: &[u8] = plan;
     if l < LINKS { all[l] % 2 == 1 } else { false }
+}
+
+// The same by the whole byte: in a loop that writes bytes by it, as a finish has, the compiler then keeps to bytes, where it would widen the last
+// bit first.
+pub fn flag_is_one(plan: &[u8; LINKS], l: usize) -> bool
+    ensures { λ r. ⌜ r ≡ isOne (now (plan .entry)) l ⌝ }
+{
+    let all: &[u8] = plan;
+    if l < LINKS { all[l] == 1 } else { false }
 }
 
 // Sets the flag of link `l`, where there is room for such a link.

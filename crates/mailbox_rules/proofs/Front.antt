@@ -2,11 +2,18 @@
 -- Assumes nothing.
 use mathlib.Core.Path.{_≡_, refl, sym}
 use mathlib.Core.Bool.{Bool, true, false, not, _&&_}
+use mathlib.Core.List.{List}
 use Prim.Native.Nat.{ℕ}
 use borrow.Author.Tests.{eqb-true, eqb-false}
 use lib.Dec.{eqb}
 use Rattle.protocol_deadlines.specs.Deadline.{Ranks}
-use Rattle.protocol_deadlines.proofs.Orders.{not-both}
+use Rattle.protocol_deadlines.proofs.Orders.{ahead-order, not-both}
+use Rattle.protocol_state.specs.Saved.{at}
+use Rattle.mailbox_layout.specs.Layout.{deadlineIn, aheadAmong}
+
+-- the order of tasks by their relative deadlines, as the times hold them, is one
+pub ranks-among : (x : List ℕ) → Ranks (aheadAmong x)
+ranks-among x = ahead-order (at (deadlineIn x))
 
 -- t is ahead of u where they differ and u is not ahead of t
 pub ahead-other : {ahead : ℕ → ℕ → Bool} → Ranks ahead → (u t : ℕ) → (not (eqb u t) && not (ahead u t)) ≡ ahead t u

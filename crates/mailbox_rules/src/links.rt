@@ -1,8 +1,9 @@
 // What the first links of a table, no more than there is room for, say of one link more, and of a task.
 ghost use mathlib.Core.Path.{_≡_};
 ghost use mathlib.Core.Bool.{Bool, cond, _&&_};
-ghost use Prim.Native.Nat.{ℕ, _≤_, min};
+ghost use Prim.Native.Nat.{ℕ, _+_, _≤_, _<_, min};
 ghost use lib.Dec.{eqb};
+ghost use lib.ListN.{set};
 ghost use Rattle.lists.specs.Lists.{some};
 ghost use Rattle.protocol.specs.Table.{behinds};
 ghost use Rattle.protocol_state.specs.Saved.{at, stateRoom};
@@ -10,6 +11,7 @@ ghost use Rattle.mailbox_layout.specs.Layout.{writerIn, readerIn};
 ghost use Rattle.mailbox_plan.specs.Plan.{Planned};
 use lists::few;
 use mailbox_base::numbers::LINKS;
+use mailbox_base::numbers::TASKS;
 use mailbox_layout::CONTROL;
 use mailbox_layout::READER;
 use mailbox_layout::WRITER;
@@ -71,4 +73,23 @@ pub fn readers_behind(plan: &[u8; LINKS], control: &[u8; CONTROL], n: usize, t: 
         l += 1;
     }
     c as usize
+}
+
+// N of task `t` by the counts; 0 for a task that there is no room for.
+pub fn count_at(counts: &[u8; TASKS], t: usize) -> u8
+    ensures { λ r. ⌜ r ≡ at (now (counts .entry)) t ⌝ }
+{
+    let all: &[u8] = counts;
+    if t < TASKS { all[t] } else { 0 }
+}
+
+// Counts a link of task `w`, where it goes to a reader behind and there is room for such a task.
+pub(crate) fn count_link(counts: &mut [u8; TASKS], w: usize, behind: bool)
+    requires { ⌜ (w < stateRoom .tasks → at (now counts) w < stateRoom .links) ⌝ }
+    ensures { λ _. ⌜ now (counts .exit) ≡ set (now (counts .entry)) w (at (now (counts .entry)) w + cond behind 1 0) ⌝ }
+{
+    let all: &mut [u8] = counts;
+    if w < TASKS {
+        all[w] += byte_if(behind);
+    }
 }

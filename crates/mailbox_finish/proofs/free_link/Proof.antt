@@ -11,8 +11,8 @@ use Rattle.mailbox_finish.proofs.free_link.Tie as tie
 control-at-requires : tie.Need-control-at-requires
 control-at-requires c κs = search needs
 
-goes-behind-requires : tie.Need-goes-behind-requires
-goes-behind-requires c κs = search needs
+flag-is-one-requires : tie.Need-flag-is-one-requires
+flag-is-one-requires c κs = search needs
 
 control-at-requires-2 : tie.Need-control-at-requires-2
 control-at-requires-2 c κs = search needs
@@ -41,9 +41,9 @@ returns c ahead n right l T L v x =
     let a = r .before .before .args in
     let gone = flag-to (a .l) (a .t) right l in
     freed-link ahead (a .t) (a .l) (stateOf T L (a .control .now) v x)
-    (rw (r .control-at .ensures, b .goes-behind .ensures, p .before .control-at2 .ensures, gone) at (p .freed-at .ensures))
-    (rw (r .control-at .ensures, b .goes-behind .ensures, f .before .control-at3 .ensures, gone) at (f .freed-at2 .ensures))
+    (rw (r .control-at .ensures, b .flag-is-one .ensures, p .before .control-at2 .ensures, gone) at (p .freed-at .ensures))
+    (rw (r .control-at .ensures, b .flag-is-one .ensures, f .before .control-at3 .ensures, gone) at (f .freed-at2 .ensures))
     (pointer-put T L _ _ v x (c .before .before .put-control .ensures)) (mark-put T L _ _ v x (c .put-control2 .ensures))
 
 pub free-link-spec : {M : Type 1} → statement M
-free-link-spec = tie.close (tie.spec control-at-requires goes-behind-requires control-at-requires-2 freed-at-requires control-at-requires-3 freed-at-requires-2 put-control-requires put-control-requires-2 returns)
+free-link-spec = tie.close (tie.spec control-at-requires flag-is-one-requires control-at-requires-2 freed-at-requires control-at-requires-3 freed-at-requires-2 put-control-requires put-control-requires-2 returns)

@@ -1,8 +1,9 @@
--- `mailbox_give::give` meets its contract: unsound or of the other policy, refused, or done.
+-- `mailbox_give::give` meets its contract: unsound or with deadlines, no event, refused, or done.
 -- Assumes nothing.
 use mathlib.Core.Path.{refl}
 use Rattle.mailbox_layout.specs.Layout.{aheadAmong}
-use Rattle.mailbox_give.proofs.Ways.{given-unsound, given-refused, given-done}
+use Rattle.mailbox_event.specs.declared.When.the-variants.{Untimed}
+use Rattle.mailbox_give.proofs.Ways.{heard-unsound, heard-none, heard-refused, heard-done}
 use borrow.Author.Needs.{needs}
 use Rattle.mailbox_give.proofs.give.Statement.{statement}
 use Rattle.mailbox_give.proofs.give.Tie as tie
@@ -13,59 +14,75 @@ plan-of-requires c κs = search needs
 is-sound-requires : tie.Need-is-sound-requires
 is-sound-requires c κs = search needs
 
-is-for-requires : tie.Need-is-for-requires
-is-for-requires c κs = search needs
+time-at-requires : tie.Need-time-at-requires
+time-at-requires c κs = search needs
 
 returns : tie.Need-returns
 returns c =
-    let f = c .before in
-    let s = f .before .before in
-    let p = s .before .before .before .before .before in
-    let a = p .before .before .before .args in (
-      given-unsound (a .tasks) (a .links) (a .control .now) (a .values .now) (a .times .now) (a .when) (a .e) (s .is-sound .ensures (p .plan-of .ensures)) (f .is-for .ensures) (c .if1 .taken),
-      λ z. (refl, (refl, refl)),
+    let t = c .before in
+    let s = t .before in
+    let p = s .before .before .before .before in
+    let a = p .before .before .args in (
+      heard-unsound (a .tasks) (a .links) (a .control .now) (a .values .now) (a .times .now) Untimed (a .asked) (s .is-sound .ensures (p .plan-of .ensures)) (t .time-at .ensures) (c .if1 .taken),
+      λ z. (refl, refl),
     )
 
-tick-for-requires : tie.Need-tick-for-requires
-tick-for-requires c κs = search needs
+enum-known-asked : tie.Need-enum-known-asked
+enum-known-asked c = search needs
 
-judge-requires : tie.Need-judge-requires
-judge-requires c κs = search needs
+number-of-requires : tie.Need-number-of-requires
+number-of-requires c κs = search needs
 
 returns-2 : tie.Need-returns-2
 returns-2 c =
+    let m = c .before in
+    let i = m .before in
+    let t = i .before in
+    let s = t .before in
+    let p = s .before .before .before .before in
+    let a = p .before .before .args in (
+      heard-none (a .tasks) (a .links) (a .control .now) (a .values .now) (a .times .now) Untimed (a .asked) (s .is-sound .ensures (p .plan-of .ensures)) (t .time-at .ensures) (i .if1 .left)
+          (m .match .keys2) (c .number-of .ensures),
+      λ z. (refl, refl),
+    )
+
+judge-fixed-requires : tie.Need-judge-fixed-requires
+judge-fixed-requires c κs = search needs
+
+returns-3 : tie.Need-returns-3
+returns-3 c =
     let j = c .before in
     let k = j .before .before .before in
-    let t = k .before in
-    let f = t .before in
-    let s = f .before .before in
-    let p = s .before .before .before .before .before in
-    let a = p .before .before .before .args in (
-      given-refused (a .tasks) (a .links) (a .control .now) (a .values .now) (a .times .now) (a .when) (a .e) (s .is-sound .ensures (p .plan-of .ensures)) (f .is-for .ensures)
-          (t .if1 .left) (k .tick-for .ensures) (j .judge .ensures (a .values .now)) (c .if2 .taken),
-      λ z. (refl, (refl, refl)),
+    let i = k .before .before in
+    let t = i .before in
+    let s = t .before in
+    let p = s .before .before .before .before in
+    let a = p .before .before .args in (
+      heard-refused (a .tasks) (a .links) (a .control .now) (a .values .now) (a .times .now) Untimed (a .asked) (s .is-sound .ensures (p .plan-of .ensures)) (t .time-at .ensures) (i .if1 .left)
+          (k .asked .given .1) (j .judge-fixed .ensures 0 (a .values .now) (a .times .now)) (c .if2 .taken),
+      λ z. (refl, refl),
     )
 
 value-of-requires : tie.Need-value-of-requires
 value-of-requires c κs = search needs
 
-do-event-requires : tie.Need-do-event-requires
-do-event-requires c κs = search needs
+do-fixed-requires : tie.Need-do-fixed-requires
+do-fixed-requires c κs = search needs
 
-returns-3 : tie.Need-returns-3
-returns-3 c =
-    let n = c .before .before .before .before .before in
-    let i = n .before .before .before in
-    let j = i .before in
+returns-4 : tie.Need-returns-4
+returns-4 c =
+    let n = c .before .before .before .before in
+    let r = n .before .before .before in
+    let j = r .before in
     let k = j .before .before .before in
-    let t = k .before in
-    let f = t .before in
-    let s = f .before .before in
-    let p = s .before .before .before .before .before in
-    let a = p .before .before .before .args in (
-      given-done (a .tasks) (a .links) (a .control .now) (a .values .now) (a .times .now) (a .when) (a .e) (s .is-sound .ensures (p .plan-of .ensures)) (f .is-for .ensures)
-          (t .if1 .left) (k .tick-for .ensures) (j .judge .ensures (a .values .now)) _ _ _ (i .if2 .left) (n .value-of .ensures (a .tasks) (a .links) (a .times .now))
-          (c .do-event .ensures (aheadAmong (a .times .now)) (p .plan-of .ensures)),
+    let i = k .before .before in
+    let t = i .before in
+    let s = t .before in
+    let p = s .before .before .before .before in
+    let a = p .before .before .args in (
+      heard-done (a .tasks) (a .links) (a .control .now) (a .values .now) (a .times .now) Untimed (a .asked) (s .is-sound .ensures (p .plan-of .ensures)) (t .time-at .ensures) (i .if1 .left)
+          (k .asked .given .1) (j .judge-fixed .ensures 0 (a .values .now) (a .times .now)) _ _ _ (r .if2 .left) (n .value-of .ensures (a .tasks) (a .links) (a .times .now))
+          (c .do-fixed .ensures (aheadAmong (a .times .now)) (p .plan-of .ensures) 0 (a .times .now)),
       λ z. absurd (z refl),
     )
 
@@ -75,11 +92,13 @@ give-spec =
     (tie.spec
     plan-of-requires
     is-sound-requires
-    is-for-requires
+    time-at-requires
     returns
-    tick-for-requires
-    judge-requires
+    enum-known-asked
+    number-of-requires
     returns-2
+    judge-fixed-requires
+    returns-3
     value-of-requires
-    do-event-requires
-    returns-3)
+    do-fixed-requires
+    returns-4)

@@ -1,11 +1,14 @@
 -- `mailbox_sound::is_sound` meets its contract: a table with a refusal, and one without, which has room.
 -- Assumes nothing.
-use Prim.Native.Nat.{_≤_}
+use mathlib.Core.Path.{sym, _∙_}
 use native.Mathlib.Nat.{min-eq-left}
-use Rattle.mailbox_layout.specs.Layout.{aheadAmong, stateOf}
-use borrow.Author.Needs.{needs}
+use native.Mathlib.Omega.{arith}
 use Rattle.protocol_state.specs.Saved.{stateRoom}
+use Rattle.protocol_state.proofs.Rules.{judged-keeps}
+use Rattle.mailbox_layout.specs.Layout.{aheadAmong, linkHeld, stateOf}
+use Rattle.mailbox_rules.proofs.Front.{ranks-among}
 use Rattle.mailbox_sound.proofs.Judged.{unsound, sound}
+use borrow.Author.Needs.{needs}
 use Rattle.mailbox_sound.proofs.is_sound.Statement.{statement}
 use Rattle.mailbox_sound.proofs.is_sound.Tie as tie
 
@@ -14,8 +17,9 @@ judge-table-requires c κs = search needs
 
 returns : tie.Need-returns
 returns c plan =
-    let a = c .before .before .args in
-    unsound (aheadAmong (a .times .now)) (stateOf (a .tasks) (a .links) (a .control .now) (a .values .now) (a .times .now)) (c .before .judge-table .ensures .0 plan) (c .if1 .taken)
+    let a = c .before .before .before .args in
+    unsound (aheadAmong (a .times .now)) (stateOf (a .tasks) (a .links) (a .control .now) (a .values .now) (a .times .now))
+    (c .before .judge-table .ensures .0 (aheadAmong (a .times .now)) (ranks-among (a .times .now)) plan) (c .if1 .taken)
 
 time-at-requires : tie.Need-time-at-requires
 time-at-requires c κs = search needs
@@ -27,27 +31,29 @@ clock-is-requires : tie.Need-clock-is-requires
 clock-is-requires c κs = search needs
 
 tasks-stand-requires : tie.Need-tasks-stand-requires
-tasks-stand-requires c κs =
-    let i = c .before .before .before in
-    i .before .judge-table .ensures .1 (i .if1 .left)
+tasks-stand-requires c κs = search needs
 
 links-stand-requires : tie.Need-links-stand-requires
-links-stand-requires c κs =
-    let i = c .before .before .before .before in
-    i .before .judge-table .ensures .1 (i .if1 .left)
+links-stand-requires c κs = search needs
 
 returns-2 : tie.Need-returns-2
 returns-2 c plan =
-    let k = c .before .before in
+    let t = c .before .before in
+    let k = t .before .before in
     let i = k .before .before .before in
     let j = i .before in
-    let a = j .before .args in
+    let a = j .before .before .args in
     let ahead = aheadAmong (a .times .now) in
-    let fits : a .links ≤ stateRoom .links = j .judge-table .ensures .1 (i .if1 .left) in
-    let all = rw (min-eq-left fits) at plan in
-    sound ahead (stateOf (a .tasks) (a .links) (a .control .now) (a .values .now) (a .times .now)) (j .judge-table .ensures .0 plan) (i .if1 .left)
+    let ranks = ranks-among (a .times .now) in
+    let zero = i .if1 .left in
+    let judged = j .judge-table .ensures .0 ahead ranks plan in
+    let keeps = judged-keeps ahead (a .tasks) (linkHeld (a .control .now) (a .values .now)) stateRoom (a .links) (sym judged ∙ zero) in
+    let all = rw (min-eq-left (keeps .links)) at plan in
+    let counted = j .judge-table .ensures .1 zero ahead ranks plan in
+    sound ahead (stateOf (a .tasks) (a .links) (a .control .now) (a .values .now) (a .times .now)) judged zero
     (rw (k .before .time-at2 .ensures, k .before .before .time-at .ensures) at (k .clock-is .ensures))
-    (c .before .tasks-stand .ensures ahead all (a .tasks) (a .values .now)) (c .links-stand .ensures ahead all (a .tasks) (a .values .now) (a .times .now))
+    (t .tasks-stand .ensures (keeps .tasks .1) ahead (a .links) counted (a .tasks) (a .values .now))
+    (c .links-stand .ensures (λ l h. omega (arith, keeps .each l h .writer, keeps .tasks .1)) ahead all counted (a .tasks) (a .values .now) (a .times .now))
 
 pub is-sound-spec : {M : Type 1} → statement M
 is-sound-spec =

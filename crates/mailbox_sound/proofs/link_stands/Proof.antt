@@ -11,7 +11,7 @@ pointer-ok-requires : tie.Need-pointer-ok-requires
 pointer-ok-requires c κs = search needs
 
 returns : tie.Need-returns
-returns c ahead plan T v x = rw (c .pointer-ok .ensures ahead plan T v x, c .before .mark-ok .ensures T (c .before .before .args .links) v x)
+returns c room ahead L plan counted below T v x = rw (c .pointer-ok .ensures room ahead L plan counted below T v x, c .before .mark-ok .ensures T L v x)
 
 pub link-stands-spec : {M : Type 1} → statement M
 link-stands-spec = tie.close (tie.spec mark-ok-requires pointer-ok-requires returns)

@@ -1,9 +1,8 @@
 -- `mailbox_sound::pointer_ok` meets its contract: what the calls ensure, put together.
 -- Assumes nothing.
 use mathlib.Core.Path.{_∙_}
-use native.Mathlib.Nat.{min-eq-left}
-use borrow.Author.Needs.{needs}
 use Rattle.mailbox_plan.proofs.Plans.{flag-says}
+use borrow.Author.Needs.{needs}
 use Rattle.mailbox_sound.proofs.pointer_ok.Statement.{statement}
 use Rattle.mailbox_sound.proofs.pointer_ok.Tie as tie
 
@@ -19,11 +18,11 @@ cast-control-at c = search needs
 control-at-requires-3 : tie.Need-control-at-requires-3
 control-at-requires-3 c κs = search needs
 
-cast-readers-behind : tie.Need-cast-readers-behind
-cast-readers-behind c = search needs
+cast-count-at : tie.Need-cast-count-at
+cast-count-at c = search needs
 
-readers-behind-requires : tie.Need-readers-behind-requires
-readers-behind-requires c κs = search needs
+count-at-requires : tie.Need-count-at-requires
+count-at-requires c κs = search needs
 
 goes-behind-requires : tie.Need-goes-behind-requires
 goes-behind-requires c κs = search needs
@@ -35,16 +34,19 @@ pointer-is-requires : tie.Need-pointer-is-requires
 pointer-is-requires c κs = search needs
 
 returns : tie.Need-returns
-returns c ahead plan T v x =
+returns c room ahead L plan counted below T v x =
     let n = c .before .before .before in
-    let pre = n .before .before .before .before .pre in
+    let r = n .before .before in
+    let w = r .before in
+    let writer = w .control-at .ensures in
     rw (
-      c .pointer-is .ensures ahead _ _ (c .before .before .goes-behind .ensures ∙ flag-says _ plan (pre .0)),
-      rw (min-eq-left (pre .1)) at (n .readers-behind .ensures .0 ahead) plan,
+      c .pointer-is .ensures ahead _ _ (c .before .before .goes-behind .ensures ∙ flag-says _ plan below),
+      n .count-at .ensures,
+      writer,
+      counted .count _ room,
       n .before .control-at3 .ensures,
       c .before .control-at4 .ensures,
-      n .before .before .control-at2 .ensures,
-      n .before .before .before .control-at .ensures,
+      r .control-at2 .ensures,
     )
 
 pub pointer-ok-spec : {M : Type 1} → statement M
@@ -55,8 +57,8 @@ pointer-ok-spec =
     control-at-requires-2
     cast-control-at
     control-at-requires-3
-    cast-readers-behind
-    readers-behind-requires
+    cast-count-at
+    count-at-requires
     goes-behind-requires
     control-at-requires-4
     pointer-is-requires

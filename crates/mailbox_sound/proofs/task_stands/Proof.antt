@@ -20,16 +20,24 @@ task-ok-requires : tie.Need-task-ok-requires
 task-ok-requires c κs = search needs
 
 returns : tie.Need-returns
-returns c ahead plan T v =
+returns c room ahead L counted T v =
     let s = c .before .before in
     let a = s .before .before .before .args in
     rw (
-      c .task-ok .ensures ahead plan T v (a .times .now),
-      c .before .time-ok .ensures T (a .links) v,
+      c .task-ok .ensures room ahead L counted T v (a .times .now),
+      c .before .time-ok .ensures T L v,
       s .seen-is .ensures,
       s .before .control-at2 .ensures,
       s .before .before .control-at .ensures,
     )
 
 pub task-stands-spec : {M : Type 1} → statement M
-task-stands-spec = tie.close (tie.spec control-at-requires control-at-requires-2 seen-is-requires time-ok-requires task-ok-requires returns)
+task-stands-spec =
+    tie.close
+    (tie.spec
+    control-at-requires
+    control-at-requires-2
+    seen-is-requires
+    time-ok-requires
+    task-ok-requires
+    returns)

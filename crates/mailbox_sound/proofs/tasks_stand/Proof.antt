@@ -9,21 +9,22 @@ use borrow.Author.Needs.{needs}
 use Rattle.lists.specs.Lists.{every}
 use Rattle.lists.proofs.Lists.{every-none, every-more, every-end}
 use Rattle.protocol_state.specs.Sound.{taskStands}
-use Rattle.protocol_state.specs.Saved.{at}
+use Rattle.protocol_state.specs.Saved.{at, stateRoom}
 use Rattle.mailbox_layout.specs.Layout.{writerIn, readerIn, stateOf}
-use Rattle.mailbox_plan.specs.Plan.{Planned}
+use Rattle.mailbox_rules.specs.Counts.{Counted}
 use Rattle.mailbox_sound.proofs.tasks_stand.Statement.{statement}
 use Rattle.mailbox_sound.proofs.tasks_stand.Tie as tie
 
 abbrev Inv-loop : tie.InvT-loop
-Inv-loop plan tasks links control times ok₀ t₀ ok t =
-    (t ≤ tasks) × ((ahead : ℕ → ℕ → Bool) → Planned ahead (at (writerIn control)) (at (readerIn control)) links plan → (T : ℕ) (v : List ℕ) → ok ≡ every (taskStands ahead (stateOf T links control v times)) t)
+Inv-loop counts tasks control times ok₀ t₀ ok t =
+    (t ≤ tasks)
+    × (tasks ≤ stateRoom .tasks → (ahead : ℕ → ℕ → Bool) (L : ℕ) → Counted ahead (at (writerIn control)) (at (readerIn control)) L counts → (T : ℕ) (v : List ℕ) → ok ≡ every (taskStands ahead (stateOf T L control v times)) t)
 
 abbrev μ-loop : tie.MeasureT-loop
-μ-loop plan tasks links control times ok₀ t₀ ok t = tasks - t
+μ-loop counts tasks control times ok₀ t₀ ok t = tasks - t
 
 loop-holds : tie.Need-loop-holds Inv-loop μ-loop
-loop-holds c = (omega arith, λ ahead p T v. every-none _)
+loop-holds c = (omega arith, λ room ahead L n T v. every-none _)
 
 task-stands-requires : tie.Need-task-stands-requires Inv-loop μ-loop
 task-stands-requires c κs = search needs
@@ -38,11 +39,11 @@ loop-again : tie.Need-loop-again Inv-loop μ-loop
 loop-again c =
     let a = c .before .before .before .args in (
       omega arith,
-      λ ahead p T v. every-more (taskStands ahead (stateOf T (a .links) (a .control .now) v (a .times .now))) _ (c .task-stands .ensures ahead p T v) (c .before .before .loop .inv .1 ahead p T v),
+      λ room ahead L n T v. every-more (taskStands ahead (stateOf T L (a .control .now) v (a .times .now))) _ (c .task-stands .ensures (omega arith) ahead L n T v) (c .before .before .loop .inv .1 room ahead L n T v),
     )
 
 returns : tie.Need-returns Inv-loop μ-loop
-returns c ahead p T v = every-end _ _ _ (c .before .loop .inv .1 ahead p T v) (c .before .loop .inv .0) (c .loop-test .left)
+returns c room ahead L n T v = every-end _ _ _ (c .before .loop .inv .1 room ahead L n T v) (c .before .loop .inv .0) (c .loop-test .left)
 
 pub tasks-stand-spec : {M : Type 1} → statement M
 tasks-stand-spec =

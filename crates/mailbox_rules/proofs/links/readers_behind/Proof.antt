@@ -1,31 +1,21 @@
 -- `mailbox_rules::links::readers_behind` meets its contract: after l turns `c` counts those of the first l links whose flag says so, at most l.
 -- Assumes nothing.
 use mathlib.Core.Path.{_≡_, _∙_}
-use mathlib.Core.Bool.{Bool, _&&_}
-use mathlib.Core.List.{List}
-use Prim.Native.Nat.{ℕ, _≤_, _-_}
+use Prim.Native.Nat.{_≤_, _-_}
 use native.Mathlib.Omega.{arith}
-use Rattle.mailbox_layout.specs.Layout.{writerIn, readerIn}
-use lib.Dec.{eqb}
+use Rattle.mailbox_layout.specs.Layout.{writerIn}
 use borrow.Author.Needs.{needs}
 use Rattle.lists.specs.Lists.{count}
 use Rattle.lists.proofs.Lists.{count-none, count-more, count-end, count-le}
 use Rattle.lists.proofs.Bools.{cond-small}
-use Rattle.protocol.specs.Table.{toBehind}
 use Rattle.protocol_state.specs.Saved.{at}
-use Rattle.protocol_state.proofs.Places.{count-same}
-use Rattle.mailbox_plan.specs.Plan.{isFlagged}
-use Rattle.mailbox_plan.proofs.Plans.{flag-from}
+use Rattle.mailbox_rules.proofs.Counts.{flagged, flagged-behind}
 use Rattle.mailbox_rules.proofs.links.readers_behind.Statement.{statement}
 use Rattle.mailbox_rules.proofs.links.readers_behind.Tie as tie
 
--- link j is task t's and has its flag
-abbrev flagged : List ℕ → List ℕ → ℕ → ℕ → Bool
-flagged plan control t j = eqb (at (writerIn control) j) t && isFlagged plan j
-
 abbrev Inv-loop : tie.InvT-loop
 Inv-loop plan control n t end c₀ l₀ c l =
-    (l ≤ end) × (c ≡ count (flagged plan control t) l)
+    (l ≤ end) × (c ≡ count (flagged (at (writerIn control)) plan t) l)
 
 abbrev μ-loop : tie.MeasureT-loop
 μ-loop plan control n t end c₀ l₀ c l = end - l
@@ -54,7 +44,7 @@ add-c c =
     let l = c .before .before .before .before .before .loop in
     omega (
       arith,
-      count-le (flagged (a .plan .now) (a .control .now) (a .t)) (l .l),
+      count-le (flagged (at (writerIn (a .control .now))) (a .plan .now) (a .t)) (l .l),
       l .inv .1,
       c .byte-if .ensures,
       cond-small (c .before .is-behind .result) {x = 1} {y = 0} {m = 1} (omega arith) (omega arith),
@@ -70,20 +60,20 @@ loop-again : tie.Need-loop-again Inv-loop μ-loop
 loop-again c =
     let a = c .before .before .before .before .before .before .before .args in (
       omega arith,
-      count-more (flagged (a .plan .now) (a .control .now) (a .t)) _
+      count-more (flagged (at (writerIn (a .control .now))) (a .plan .now) (a .t)) _
           (rw (c .before .before .before .control-at .ensures, c .before .before .goes-behind .ensures) at (c .before .is-behind .ensures)) (c .before .before .before .before .before .loop .inv .1) (c .byte-if .ensures),
     )
 
 cast-result : tie.Need-cast-result Inv-loop μ-loop
 cast-result c =
     let a = c .before .before .before .args in
-    omega (arith, count-le (flagged (a .plan .now) (a .control .now) (a .t)) (c .before .loop .l), c .before .loop .inv .1)
+    omega (arith, count-le (flagged (at (writerIn (a .control .now))) (a .plan .now) (a .t)) (c .before .loop .l), c .before .loop .inv .1)
 
 returns : tie.Need-returns Inv-loop μ-loop
 returns c =
     let a = c .before .before .before .args in
-    let e = count-end (flagged (a .plan .now) (a .control .now) (a .t)) _ _ (c .before .loop .inv .1) (c .before .loop .inv .0) (c .loop-test .left) in
-    (rw (← c .before .before .few .ensures) λ ahead p. e ∙ count-same (flagged (a .plan .now) (a .control .now) (a .t)) (toBehind ahead (at (writerIn (a .control .now))) (at (readerIn (a .control .now))) (a .t)) _ (λ j h. flag-from j (a .t) p h), omega (arith, count-le (flagged (a .plan .now) (a .control .now) (a .t)) (c .before .loop .l), c .before .loop .inv .1))
+    let e = count-end (flagged (at (writerIn (a .control .now))) (a .plan .now) (a .t)) _ _ (c .before .loop .inv .1) (c .before .loop .inv .0) (c .loop-test .left) in
+    (rw (← c .before .before .few .ensures) λ ahead p. e ∙ flagged-behind (a .t) p, omega (arith, count-le (flagged (at (writerIn (a .control .now))) (a .plan .now) (a .t)) (c .before .loop .l), c .before .loop .inv .1))
 
 pub readers-behind-spec : {M : Type 1} → statement M
 readers-behind-spec =

@@ -1,6 +1,10 @@
 -- `mailbox_rules::table::fault_of` meets its contract: what the seven calls ensure, put together.
 -- Assumes nothing.
+use mathlib.Core.Path.{ap, _∙_}
+use mathlib.Core.Bool.{Bool, not, _&&_}
+use lib.Dec.{eqb}
 use borrow.Author.Needs.{needs}
+use Rattle.mailbox_rules.proofs.Front.{ahead-other}
 use Rattle.mailbox_rules.proofs.table.fault_of.Statement.{statement}
 use Rattle.mailbox_rules.proofs.table.fault_of.Tie as tie
 
@@ -32,10 +36,12 @@ pick-requires-7 : tie.Need-pick-requires-7
 pick-requires-7 c κs = search needs
 
 returns : tie.Need-returns
-returns c ahead b f =
+returns c ahead ranks b =
+    let link = c .before .before .before .before .before .before .before .before .args .link in
+    let front = ap (λ (b : Bool). not (eqb (link .writer) (link .reader)) && not b) b ∙ ahead-other ranks (link .writer) (link .reader) in
     rw (
+      ← front,
       ← b,
-      ← f,
       c .pick7 .ensures,
       c .before .pick6 .ensures,
       c .before .before .pick5 .ensures,

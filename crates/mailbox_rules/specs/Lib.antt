@@ -1,0 +1,2 @@
+-- What is counted while links are judged.
+pub mod Counts
