@@ -173,6 +173,7 @@ impl State {
         let values = self.values;
         let times = self.times;
         let plan = plan_of(self.links, &control, &times);
+        // what is counted is not asked for here
         let mut counts = [0u8; TASKS];
         let table = judge_table(
             &mut counts,

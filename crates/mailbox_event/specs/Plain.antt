@@ -21,11 +21,7 @@ abbrev pub callOf : When → Event → Call
 callOf Untimed e = plainly (plain e)
 callOf (At x) e = ticked x (plain e)
 
--- the policy of the states that it is for (`policy-called`), and its tick (`tick-called`)
+-- the policy of the states that it is for (`policy-called`)
 abbrev pub policyFor : When → ℕ
 policyFor Untimed = 0
 policyFor (At x) = 1
-
-abbrev pub tickFor : When → ℕ
-tickFor Untimed = 0
-tickFor (At x) = x

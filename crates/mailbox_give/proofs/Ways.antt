@@ -20,10 +20,10 @@ use Rattle.protocol_state.proofs.Give.{unsound, refused, give-unsound, give-ref
 use Rattle.protocol_state.proofs.Sound.{sound-room}
 use Rattle.mailbox_layout.specs.Layout.{aheadAmong, policyIn, stateOf, viewOf}
 use Rattle.mailbox_layout.proofs.Room.{view-within}
-use Rattle.mailbox_event.specs.Plain.{plain, callOf, policyFor, tickFor}
+use Rattle.mailbox_event.specs.Plain.{plain, callOf, policyFor}
 use Rattle.mailbox_event.specs.declared.Event.{Event}
 use Rattle.mailbox_event.specs.declared.When.{When}
-use Rattle.mailbox_event.proofs.Handed.{policy-called, tick-called, event-called}
+use Rattle.mailbox_event.proofs.Handed.{policy-called, tickFor, tick-called, event-called}
 use Rattle.mailbox_call.specs.Calls.{soundWhen}
 use Rattle.mailbox_call.specs.Replies.{heard, askedNumber}
 use Rattle.mailbox_call.specs.declared.Asked.{Asked}

@@ -1,4 +1,4 @@
-// What is asked of a lent state: 19 where the state isn't sound or of the other policy, then the number of what is no event, then the refusals
+// What is asked of a lent state: 19 where the state isn't sound or is of the other policy, then the number of what is no event, then the refusals
 // of an event in their order, else it is done.
 //
 // A function for each policy: one for both asked for the policy at each step of an event, and a single event took longer for it.
@@ -15,9 +15,9 @@ use mailbox_layout::POLICY;
 use mailbox_layout::TIMES;
 use mailbox_layout::VALUES;
 use mailbox_layout::time_at;
-use mailbox_parts::do_dated;
+use mailbox_parts::do_event;
 use mailbox_parts::do_fixed;
-use mailbox_parts::judge_dated;
+use mailbox_parts::judge;
 use mailbox_parts::judge_fixed;
 use mailbox_parts::value_of;
 use mailbox_plan::plan_of;
@@ -78,11 +78,11 @@ pub fn give_at(
     let Asked::Known(e) = asked else {
         return number_of(asked);
     };
-    let refusal = judge_dated(tick, e, tasks, links, control, times);
+    let refusal = judge(tick, e, tasks, links, control, times);
     if refusal != 0 {
         return refusal;
     }
     *number = value_of(e, control, values);
-    do_dated(&plan, tick, e, tasks, links, control, values, times);
+    do_event(&plan, tick, e, tasks, links, control, values, times);
     0
 }

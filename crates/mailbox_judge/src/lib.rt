@@ -133,8 +133,8 @@ pub fn judge_task(kind: usize, t: u8, tasks: usize, control: &[u8; CONTROL]) -> 
     if few(tasks, TASKS) <= i {
         return 12;
     }
-    // Its phase is asked before the tasks ahead: what is refused by its phase needs no search, and an event that is done asks for the phase
-    // once.
+    // Its phase is asked before the tasks ahead: what is refused by its phase needs no search, and of an event that is then done the compiler
+    // asks for the phase once.
     let next = decide(kind, control_at(control, PHASE, i));
     if REFUSALS <= next {
         return next;

@@ -63,11 +63,11 @@ module _ {ahead : ℕ → ℕ → Bool} {W R : ℕ → ℕ} where
   byte-says : {n : ℕ} {plan : List ℕ} (l : ℕ) → Planned ahead W R n plan → l < n → isOne plan l ≡ ahead (W l) (R l)
   byte-says = flag-by (λ x. eqb x 1) refl refl
 
-  -- so where task t writes by it, that t is ahead of its reader
+  -- so, by the last bit, where task t writes by it, that t is ahead of its reader
   pub flag-from : {n : ℕ} {plan : List ℕ} (l t : ℕ) → Planned ahead W R n plan → l < n → (eqb (W l) t && isFlagged plan l) ≡ (eqb (W l) t && ahead t (R l))
   flag-from l t p h = rw (flag-says l p h) (tested-at (λ w. ahead w (R l)) (W l) t)
 
-  -- and where t reads by it, that its writer is ahead of t
+  -- and, by the whole byte, where t reads by it, that its writer is ahead of t
   pub flag-to : {n : ℕ} {plan : List ℕ} (l t : ℕ) → Planned ahead W R n plan → l < n → (eqb (R l) t && isOne plan l) ≡ (eqb (R l) t && ahead (W l) t)
   flag-to l t p h = rw (byte-says l p h) (tested-at (ahead (W l)) (R l) t)
 

@@ -36,8 +36,8 @@ pub fn goes_behind(plan: &[u8; LINKS], l: usize) -> bool
     if l < LINKS { all[l] % 2 == 1 } else { false }
 }
 
-// The same by the whole byte: in a loop that writes bytes by it, as a finish has, the compiler then keeps to bytes, where it would widen the last
-// bit first.
+// The same by the whole byte: where a loop writes bytes by it, as a finish does, the compiler then stays with bytes; for the last bit it would
+// widen them first.
 pub fn flag_is_one(plan: &[u8; LINKS], l: usize) -> bool
     ensures { λ r. ⌜ r ≡ isOne (now (plan .entry)) l ⌝ }
 {

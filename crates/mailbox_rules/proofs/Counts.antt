@@ -1,6 +1,6 @@
 -- Counts of links by their flags: with no link, one link more, and what they are under an order that the plan is right for.
 -- Assumes nothing.
-use mathlib.Core.Path.{_≡_, refl, sym, ap, _∙_}
+use mathlib.Core.Path.{_≡_, refl, sym, _∙_}
 use mathlib.Core.Bool.{Bool, true, false, cond, _&&_}
 use mathlib.Core.List.{List}
 use Prim.Native.Nat.{ℕ, _+_, _≤_, _<_}
@@ -16,7 +16,7 @@ use Rattle.protocol.specs.Table.{behinds, toBehind}
 use Rattle.protocol_state.specs.Saved.{at, stateRoom}
 use Rattle.protocol_state.proofs.Places.{count-same}
 use Rattle.mailbox_plan.specs.Plan.{isFlagged, Planned}
-use Rattle.mailbox_plan.proofs.Plans.{plan-first, flag-from}
+use Rattle.mailbox_plan.proofs.Plans.{flag-from}
 use Rattle.mailbox_rules.specs.Counts.{Counted}
 
 -- link j is task t's and has its flag

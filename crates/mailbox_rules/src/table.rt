@@ -1,5 +1,6 @@
 // The rules of a table, refusals 2 to 9 and 20. 24, a rule of tasks, is tried where the relative deadlines are at hand.
 ghost use mathlib.Core.Path.{_≡_};
+ghost use mathlib.Core.Logic.{_≢_};
 ghost use mathlib.Core.Bool.{Bool};
 ghost use mathlib.Core.List.{List};
 ghost use Prim.Native.Nat.{ℕ, _+_, _≤_, _<_, min};
@@ -123,8 +124,8 @@ fn first_fault(
     found
 }
 
-// The refusal that a table earns, 0 for none: its counts, then the first link at fault. The plan of its links is lent. Of a table without a
-// refusal the counts say how many links to readers behind each task has.
+// The refusal that a table earns, 0 for none: by how many tasks and links it has, then by the first link at fault. The plan of its links is lent.
+// Where it is not 2 or 3, `counts` then has how many links to readers behind each task has.
 pub fn judge_table(
     counts: &mut [u8; TASKS],
     plan: &[u8; LINKS],
@@ -134,7 +135,7 @@ pub fn judge_table(
     values: &[u32; VALUES],
 ) -> u8
     ensures refusal { λ r. ⌜ ((ahead : ℕ → ℕ → Bool) → Ranks ahead → Planned ahead (at (writerIn (now (control .entry)))) (at (readerIn (now (control .entry)))) (min links (stateRoom .links)) (now (plan .entry)) → r ≡ judgedTable ahead tasks (linkHeld (now (control .entry)) (now (values .entry))) stateRoom links) ⌝ }
-    ensures counts { λ r. ⌜ (r ≡ 0 → (ahead : ℕ → ℕ → Bool) → Ranks ahead → Planned ahead (at (writerIn (now (control .entry)))) (at (readerIn (now (control .entry)))) (min links (stateRoom .links)) (now (plan .entry)) → Counted ahead (at (writerIn (now (control .entry)))) (at (readerIn (now (control .entry)))) links (now (counts .exit))) ⌝ }
+    ensures counts { λ r. ⌜ (r ≢ 2 → r ≢ 3 → (ahead : ℕ → ℕ → Bool) → Ranks ahead → Planned ahead (at (writerIn (now (control .entry)))) (at (readerIn (now (control .entry)))) (min links (stateRoom .links)) (now (plan .entry)) → Counted ahead (at (writerIn (now (control .entry)))) (at (readerIn (now (control .entry)))) links (now (counts .exit))) ⌝ }
 {
     if (tasks == 0) | (TASKS < tasks) {
         return 2;

@@ -1,19 +1,12 @@
 -- `mailbox_give::give_at` meets its contract: unsound or under fixed priorities, no event, refused, or done.
 -- Assumes nothing.
-use mathlib.Core.Path.{_≡_, refl}
-use mathlib.Core.Logic.{_≢_}
-use Prim.Native.Nat.{ℕ}
-use native.Mathlib.Omega.{arith}
+use mathlib.Core.Path.{refl}
 use Rattle.mailbox_layout.specs.Layout.{aheadAmong}
 use Rattle.mailbox_event.specs.declared.When.the-variants.{At}
 use Rattle.mailbox_give.proofs.Ways.{heard-unsound, heard-none, heard-refused, heard-done}
 use borrow.Author.Needs.{needs}
 use Rattle.mailbox_give.proofs.give_at.Statement.{statement}
 use Rattle.mailbox_give.proofs.give_at.Tie as tie
-
--- the policy of a state with deadlines
-dated : {p : ℕ} → p ≡ 1 → p ≢ 0
-dated own z = omega arith
 
 plan-of-requires : tie.Need-plan-of-requires
 plan-of-requires c κs = search needs
@@ -53,8 +46,8 @@ returns-2 c =
       λ z. (refl, (refl, refl)),
     )
 
-judge-dated-requires : tie.Need-judge-dated-requires
-judge-dated-requires c κs = search needs
+judge-requires : tie.Need-judge-requires
+judge-requires c κs = search needs
 
 returns-3 : tie.Need-returns-3
 returns-3 c =
@@ -66,15 +59,15 @@ returns-3 c =
     let p = s .before .before .before .before .before in
     let a = p .before .before .before .args in (
       heard-refused (a .tasks) (a .links) (a .control .now) (a .values .now) (a .times .now) (At (a .tick)) (a .asked) (s .is-sound .ensures (p .plan-of .ensures)) (t .time-at .ensures) (i .if1 .left)
-          (k .asked .given .1) (λ own. j .judge-dated .ensures (dated own) (a .values .now)) (c .if2 .taken),
+          (k .asked .given .1) (λ own. j .judge .ensures (a .values .now)) (c .if2 .taken),
       λ z. (refl, (refl, refl)),
     )
 
 value-of-requires : tie.Need-value-of-requires
 value-of-requires c κs = search needs
 
-do-dated-requires : tie.Need-do-dated-requires
-do-dated-requires c κs = search needs
+do-event-requires : tie.Need-do-event-requires
+do-event-requires c κs = search needs
 
 returns-4 : tie.Need-returns-4
 returns-4 c =
@@ -88,8 +81,8 @@ returns-4 c =
     let p = s .before .before .before .before .before in
     let a = p .before .before .before .args in (
       heard-done (a .tasks) (a .links) (a .control .now) (a .values .now) (a .times .now) (At (a .tick)) (a .asked) (s .is-sound .ensures (p .plan-of .ensures)) (t .time-at .ensures) (i .if1 .left)
-          (k .asked .given .1) (λ own. j .judge-dated .ensures (dated own) (a .values .now)) _ _ _ (r .if2 .left) (n .value-of .ensures (a .tasks) (a .links) (a .times .now))
-          (λ own. c .do-dated .ensures (dated own) (aheadAmong (a .times .now)) (p .plan-of .ensures)),
+          (k .asked .given .1) (λ own. j .judge .ensures (a .values .now)) _ _ _ (r .if2 .left) (n .value-of .ensures (a .tasks) (a .links) (a .times .now))
+          (λ own. c .do-event .ensures (aheadAmong (a .times .now)) (p .plan-of .ensures)),
       λ z. absurd (z refl),
     )
 
@@ -104,8 +97,8 @@ give-at-spec =
     enum-known-asked
     number-of-requires
     returns-2
-    judge-dated-requires
+    judge-requires
     returns-3
     value-of-requires
-    do-dated-requires
+    do-event-requires
     returns-4)

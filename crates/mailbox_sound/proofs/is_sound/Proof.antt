@@ -49,7 +49,7 @@ returns-2 c plan =
     let judged = j .judge-table .ensures .0 ahead ranks plan in
     let keeps = judged-keeps ahead (a .tasks) (linkHeld (a .control .now) (a .values .now)) stateRoom (a .links) (sym judged ∙ zero) in
     let all = rw (min-eq-left (keeps .links)) at plan in
-    let counted = j .judge-table .ensures .1 zero ahead ranks plan in
+    let counted = j .judge-table .ensures .1 (λ two. omega (arith, zero, two)) (λ three. omega (arith, zero, three)) ahead ranks plan in
     sound ahead (stateOf (a .tasks) (a .links) (a .control .now) (a .values .now) (a .times .now)) judged zero
     (rw (k .before .time-at2 .ensures, k .before .before .time-at .ensures) at (k .clock-is .ensures))
     (t .tasks-stand .ensures (keeps .tasks .1) ahead (a .links) counted (a .tasks) (a .values .now))

@@ -1,6 +1,6 @@
 -- `mailbox_rules::links::count_at` meets its contract: past the room the counts have ended.
 -- Assumes nothing.
-use mathlib.Core.Path.{_≡_, sym}
+use mathlib.Core.Path.{sym}
 use native.Mathlib.Omega.{arith}
 use lib.ListN.{List·getD-eq-default}
 use borrow.Author.Needs.{needs}
