@@ -1,4 +1,4 @@
 -- Laws that the proofs cite.
-pub mod Counts
+pub mod Flags
 pub mod Front
 pub mod Judged

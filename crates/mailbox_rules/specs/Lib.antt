@@ -1,2 +1,2 @@
 -- What is counted while links are judged.
-pub mod Counts
+pub mod CountsBehind

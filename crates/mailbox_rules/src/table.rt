@@ -11,7 +11,7 @@ ghost use Rattle.mailbox_layout.specs.Layout.{writerIn, readerIn, linkHeld, ahe
 ghost use Rattle.mailbox_layout.specs.Fresh.{asRecord};
 ghost use Rattle.mailbox_plan.specs.Plan.{Planned};
 ghost use Rattle.protocol_state.specs.Rules.{faultOf, faultAfter, fault, judgedTable};
-ghost use Rattle.mailbox_rules.specs.Counts.{Counted};
+ghost use Rattle.mailbox_rules.specs.CountsBehind.{CountsBehind};
 use crate::links::count_at;
 use crate::links::count_link;
 use crate::links::has_pair;
@@ -82,7 +82,7 @@ fn fault_at(
     l: usize,
 ) -> u8
     requires { ⌜ (tasks ≤ stateRoom .tasks) × (l < stateRoom .links) ⌝ }
-    ensures { λ r. ⌜ ((ahead : ℕ → ℕ → Bool) → Ranks ahead → Planned ahead (at (writerIn (now (control .entry)))) (at (readerIn (now (control .entry)))) (l + 1) (now (plan .entry)) → Counted ahead (at (writerIn (now (control .entry)))) (at (readerIn (now (control .entry)))) l (now (counts .entry)) → r ≡ fault ahead tasks (linkHeld (now (control .entry)) (now (values .entry))) l) ⌝ }
+    ensures { λ r. ⌜ ((ahead : ℕ → ℕ → Bool) → Ranks ahead → Planned ahead (at (writerIn (now (control .entry)))) (at (readerIn (now (control .entry)))) (l + 1) (now (plan .entry)) → CountsBehind ahead (at (writerIn (now (control .entry)))) (at (readerIn (now (control .entry)))) l (now (counts .entry)) → r ≡ fault ahead tasks (linkHeld (now (control .entry)) (now (values .entry))) l) ⌝ }
 {
     let link = Link {
         writer: control_at(control, WRITER, l),
@@ -106,7 +106,7 @@ fn first_fault(
     values: &[u32; VALUES],
 ) -> u8
     requires { ⌜ (tasks ≤ stateRoom .tasks) × (links ≤ stateRoom .links) ⌝ }
-    ensures { λ r. ⌜ ((ahead : ℕ → ℕ → Bool) → Ranks ahead → Planned ahead (at (writerIn (now (control .entry)))) (at (readerIn (now (control .entry)))) links (now (plan .entry)) → (r ≡ leading (fault ahead tasks (linkHeld (now (control .entry)) (now (values .entry)))) links) × Counted ahead (at (writerIn (now (control .entry)))) (at (readerIn (now (control .entry)))) links (now (counts .exit))) ⌝ }
+    ensures { λ r. ⌜ ((ahead : ℕ → ℕ → Bool) → Ranks ahead → Planned ahead (at (writerIn (now (control .entry)))) (at (readerIn (now (control .entry)))) links (now (plan .entry)) → (r ≡ leading (fault ahead tasks (linkHeld (now (control .entry)) (now (values .entry)))) links) × CountsBehind ahead (at (writerIn (now (control .entry)))) (at (readerIn (now (control .entry)))) links (now (counts .exit))) ⌝ }
 {
     *counts = [0u8; TASKS];
     let mut found: u8 = 0;
@@ -135,7 +135,7 @@ pub fn judge_table(
     values: &[u32; VALUES],
 ) -> u8
     ensures refusal { λ r. ⌜ ((ahead : ℕ → ℕ → Bool) → Ranks ahead → Planned ahead (at (writerIn (now (control .entry)))) (at (readerIn (now (control .entry)))) (min links (stateRoom .links)) (now (plan .entry)) → r ≡ judgedTable ahead tasks (linkHeld (now (control .entry)) (now (values .entry))) stateRoom links) ⌝ }
-    ensures counts { λ r. ⌜ (r ≢ 2 → r ≢ 3 → (ahead : ℕ → ℕ → Bool) → Ranks ahead → Planned ahead (at (writerIn (now (control .entry)))) (at (readerIn (now (control .entry)))) (min links (stateRoom .links)) (now (plan .entry)) → Counted ahead (at (writerIn (now (control .entry)))) (at (readerIn (now (control .entry)))) links (now (counts .exit))) ⌝ }
+    ensures counts { λ r. ⌜ (r ≢ 2 → r ≢ 3 → (ahead : ℕ → ℕ → Bool) → Ranks ahead → Planned ahead (at (writerIn (now (control .entry)))) (at (readerIn (now (control .entry)))) (min links (stateRoom .links)) (now (plan .entry)) → CountsBehind ahead (at (writerIn (now (control .entry)))) (at (readerIn (now (control .entry)))) links (now (counts .exit))) ⌝ }
 {
     if (tasks == 0) | (TASKS < tasks) {
         return 2;

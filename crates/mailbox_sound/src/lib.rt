@@ -8,7 +8,7 @@ ghost use Rattle.protocol_state.specs.Saved.{at, stateRoom};
 ghost use Rattle.protocol_state.specs.Sound.{within, taskIs, seenIs, sinceIs, deadlineIs, clockIs, markIs, taskOk, timeOk, pointerIs, pointerOk, markOk, taskStands, linkStands, isSound};
 ghost use Rattle.mailbox_layout.specs.Layout.{writerIn, readerIn, aheadAmong, stateOf};
 ghost use Rattle.mailbox_plan.specs.Plan.{Planned};
-ghost use Rattle.mailbox_rules.specs.Counts.{Counted};
+ghost use Rattle.mailbox_rules.specs.CountsBehind.{CountsBehind};
 use mailbox_base::numbers::LINKS;
 use mailbox_base::numbers::MOST_TICK;
 use mailbox_base::numbers::TASKS;
@@ -57,7 +57,7 @@ fn seen_is(phase: u8, seen: u8) -> bool
 
 // Whether task `t` has a phase and positions that it may have, by the counts of links to readers behind.
 fn task_ok(counts: &[u8; TASKS], control: &[u8; CONTROL], t: usize) -> bool
-    ensures { λ r. ⌜ (t < stateRoom .tasks → (ahead : ℕ → ℕ → Bool) (L : ℕ) → Counted ahead (at (writerIn (now (control .entry)))) (at (readerIn (now (control .entry)))) L (now (counts .entry)) → (T : ℕ) (v x : List ℕ) → r ≡ taskOk ahead (stateOf T L (now (control .entry)) v x) t) ⌝ }
+    ensures { λ r. ⌜ (t < stateRoom .tasks → (ahead : ℕ → ℕ → Bool) (L : ℕ) → CountsBehind ahead (at (writerIn (now (control .entry)))) (at (readerIn (now (control .entry)))) L (now (counts .entry)) → (T : ℕ) (v x : List ℕ) → r ≡ taskOk ahead (stateOf T L (now (control .entry)) v x) t) ⌝ }
 {
     task_is(
         control_at(control, PHASE, t),
@@ -109,7 +109,7 @@ fn task_stands(
     times: &[u32; TIMES],
     t: usize,
 ) -> bool
-    ensures { λ r. ⌜ (t < stateRoom .tasks → (ahead : ℕ → ℕ → Bool) (L : ℕ) → Counted ahead (at (writerIn (now (control .entry)))) (at (readerIn (now (control .entry)))) L (now (counts .entry)) → (T : ℕ) (v : List ℕ) → r ≡ taskStands ahead (stateOf T L (now (control .entry)) v (now (times .entry))) t) ⌝ }
+    ensures { λ r. ⌜ (t < stateRoom .tasks → (ahead : ℕ → ℕ → Bool) (L : ℕ) → CountsBehind ahead (at (writerIn (now (control .entry)))) (at (readerIn (now (control .entry)))) L (now (counts .entry)) → (T : ℕ) (v : List ℕ) → r ≡ taskStands ahead (stateOf T L (now (control .entry)) v (now (times .entry))) t) ⌝ }
 {
     let seen_stands = seen_is(control_at(control, PHASE, t), control_at(control, SEEN, t));
     let time_stands = time_ok(control, times, t);
@@ -123,7 +123,7 @@ fn tasks_stand(
     control: &[u8; CONTROL],
     times: &[u32; TIMES],
 ) -> bool
-    ensures { λ r. ⌜ (tasks ≤ stateRoom .tasks → (ahead : ℕ → ℕ → Bool) (L : ℕ) → Counted ahead (at (writerIn (now (control .entry)))) (at (readerIn (now (control .entry)))) L (now (counts .entry)) → (T : ℕ) (v : List ℕ) → r ≡ every (taskStands ahead (stateOf T L (now (control .entry)) v (now (times .entry)))) tasks) ⌝ }
+    ensures { λ r. ⌜ (tasks ≤ stateRoom .tasks → (ahead : ℕ → ℕ → Bool) (L : ℕ) → CountsBehind ahead (at (writerIn (now (control .entry)))) (at (readerIn (now (control .entry)))) L (now (counts .entry)) → (T : ℕ) (v : List ℕ) → r ≡ every (taskStands ahead (stateOf T L (now (control .entry)) v (now (times .entry)))) tasks) ⌝ }
 {
     let mut ok = true;
     let mut t = 0;
@@ -151,7 +151,7 @@ fn pointer_is(behind: bool, y: u8, phase: u8, n: u8) -> bool
 
 // Whether link `l`, of a writer that there is room for, has a pointer that it may have: its reader's phase is looked up, and its writer's count.
 fn pointer_ok(counts: &[u8; TASKS], plan: &[u8; LINKS], control: &[u8; CONTROL], l: usize) -> bool
-    ensures { λ r. ⌜ (at (writerIn (now (control .entry))) l < stateRoom .tasks → (ahead : ℕ → ℕ → Bool) (L : ℕ) → Planned ahead (at (writerIn (now (control .entry)))) (at (readerIn (now (control .entry)))) L (now (plan .entry)) → Counted ahead (at (writerIn (now (control .entry)))) (at (readerIn (now (control .entry)))) L (now (counts .entry)) → l < L → (T : ℕ) (v x : List ℕ) → r ≡ pointerOk ahead (stateOf T L (now (control .entry)) v x) l) ⌝ }
+    ensures { λ r. ⌜ (at (writerIn (now (control .entry))) l < stateRoom .tasks → (ahead : ℕ → ℕ → Bool) (L : ℕ) → Planned ahead (at (writerIn (now (control .entry)))) (at (readerIn (now (control .entry)))) L (now (plan .entry)) → CountsBehind ahead (at (writerIn (now (control .entry)))) (at (readerIn (now (control .entry)))) L (now (counts .entry)) → l < L → (T : ℕ) (v x : List ℕ) → r ≡ pointerOk ahead (stateOf T L (now (control .entry)) v x) l) ⌝ }
 {
     let w = control_at(control, WRITER, l);
     let r = control_at(control, READER, l);
@@ -189,7 +189,7 @@ fn mark_ok(control: &[u8; CONTROL], l: usize) -> bool
 
 // Whether link `l`, of a writer that there is room for, is as it may be.
 fn link_stands(counts: &[u8; TASKS], plan: &[u8; LINKS], control: &[u8; CONTROL], l: usize) -> bool
-    ensures { λ r. ⌜ (at (writerIn (now (control .entry))) l < stateRoom .tasks → (ahead : ℕ → ℕ → Bool) (L : ℕ) → Planned ahead (at (writerIn (now (control .entry)))) (at (readerIn (now (control .entry)))) L (now (plan .entry)) → Counted ahead (at (writerIn (now (control .entry)))) (at (readerIn (now (control .entry)))) L (now (counts .entry)) → l < L → (T : ℕ) (v x : List ℕ) → r ≡ linkStands ahead (stateOf T L (now (control .entry)) v x) l) ⌝ }
+    ensures { λ r. ⌜ (at (writerIn (now (control .entry))) l < stateRoom .tasks → (ahead : ℕ → ℕ → Bool) (L : ℕ) → Planned ahead (at (writerIn (now (control .entry)))) (at (readerIn (now (control .entry)))) L (now (plan .entry)) → CountsBehind ahead (at (writerIn (now (control .entry)))) (at (readerIn (now (control .entry)))) L (now (counts .entry)) → l < L → (T : ℕ) (v x : List ℕ) → r ≡ linkStands ahead (stateOf T L (now (control .entry)) v x) l) ⌝ }
 {
     let mark_stands = mark_ok(control, l);
     pointer_ok(counts, plan, control, l) & mark_stands
@@ -202,7 +202,7 @@ fn links_stand(
     links: usize,
     control: &[u8; CONTROL],
 ) -> bool
-    ensures { λ r. ⌜ (((l : ℕ) → l < links → at (writerIn (now (control .entry))) l < stateRoom .tasks) → (ahead : ℕ → ℕ → Bool) → Planned ahead (at (writerIn (now (control .entry)))) (at (readerIn (now (control .entry)))) links (now (plan .entry)) → Counted ahead (at (writerIn (now (control .entry)))) (at (readerIn (now (control .entry)))) links (now (counts .entry)) → (T : ℕ) (v x : List ℕ) → r ≡ every (linkStands ahead (stateOf T links (now (control .entry)) v x)) links) ⌝ }
+    ensures { λ r. ⌜ (((l : ℕ) → l < links → at (writerIn (now (control .entry))) l < stateRoom .tasks) → (ahead : ℕ → ℕ → Bool) → Planned ahead (at (writerIn (now (control .entry)))) (at (readerIn (now (control .entry)))) links (now (plan .entry)) → CountsBehind ahead (at (writerIn (now (control .entry)))) (at (readerIn (now (control .entry)))) links (now (counts .entry)) → (T : ℕ) (v x : List ℕ) → r ≡ every (linkStands ahead (stateOf T links (now (control .entry)) v x)) links) ⌝ }
 {
     let mut ok = true;
     let mut l = 0;

@@ -12,14 +12,14 @@ use Rattle.protocol_state.specs.Sound.{linkStands}
 use Rattle.protocol_state.specs.Saved.{at, stateRoom}
 use Rattle.mailbox_layout.specs.Layout.{writerIn, readerIn, stateOf}
 use Rattle.mailbox_plan.specs.Plan.{Planned}
-use Rattle.mailbox_rules.specs.Counts.{Counted}
+use Rattle.mailbox_rules.specs.CountsBehind.{CountsBehind}
 use Rattle.mailbox_sound.proofs.links_stand.Statement.{statement}
 use Rattle.mailbox_sound.proofs.links_stand.Tie as tie
 
 abbrev Inv-loop : tie.InvT-loop
 Inv-loop counts plan links control ok₀ l₀ ok l =
     (l ≤ links)
-    × (((k : ℕ) → k < links → at (writerIn control) k < stateRoom .tasks) → (ahead : ℕ → ℕ → Bool) → Planned ahead (at (writerIn control)) (at (readerIn control)) links plan → Counted ahead (at (writerIn control)) (at (readerIn control)) links counts → (T : ℕ) (v x : List ℕ) → ok ≡ every (linkStands ahead (stateOf T links control v x)) l)
+    × (((k : ℕ) → k < links → at (writerIn control) k < stateRoom .tasks) → (ahead : ℕ → ℕ → Bool) → Planned ahead (at (writerIn control)) (at (readerIn control)) links plan → CountsBehind ahead (at (writerIn control)) (at (readerIn control)) links counts → (T : ℕ) (v x : List ℕ) → ok ≡ every (linkStands ahead (stateOf T links control v x)) l)
 
 abbrev μ-loop : tie.MeasureT-loop
 μ-loop counts plan links control ok₀ l₀ ok l = links - l

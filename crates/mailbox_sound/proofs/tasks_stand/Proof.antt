@@ -11,14 +11,14 @@ use Rattle.lists.proofs.Lists.{every-none, every-more, every-end}
 use Rattle.protocol_state.specs.Sound.{taskStands}
 use Rattle.protocol_state.specs.Saved.{at, stateRoom}
 use Rattle.mailbox_layout.specs.Layout.{writerIn, readerIn, stateOf}
-use Rattle.mailbox_rules.specs.Counts.{Counted}
+use Rattle.mailbox_rules.specs.CountsBehind.{CountsBehind}
 use Rattle.mailbox_sound.proofs.tasks_stand.Statement.{statement}
 use Rattle.mailbox_sound.proofs.tasks_stand.Tie as tie
 
 abbrev Inv-loop : tie.InvT-loop
 Inv-loop counts tasks control times ok₀ t₀ ok t =
     (t ≤ tasks)
-    × (tasks ≤ stateRoom .tasks → (ahead : ℕ → ℕ → Bool) (L : ℕ) → Counted ahead (at (writerIn control)) (at (readerIn control)) L counts → (T : ℕ) (v : List ℕ) → ok ≡ every (taskStands ahead (stateOf T L control v times)) t)
+    × (tasks ≤ stateRoom .tasks → (ahead : ℕ → ℕ → Bool) (L : ℕ) → CountsBehind ahead (at (writerIn control)) (at (readerIn control)) L counts → (T : ℕ) (v : List ℕ) → ok ≡ every (taskStands ahead (stateOf T L control v times)) t)
 
 abbrev μ-loop : tie.MeasureT-loop
 μ-loop counts tasks control times ok₀ t₀ ok t = tasks - t

@@ -9,7 +9,7 @@ use Rattle.lists.specs.Lists.{count}
 use Rattle.lists.proofs.Lists.{count-none, count-more, count-end, count-le}
 use Rattle.lists.proofs.Bools.{cond-small}
 use Rattle.protocol_state.specs.Saved.{at}
-use Rattle.mailbox_rules.proofs.Counts.{flagged, flagged-behind}
+use Rattle.mailbox_rules.proofs.Flags.{flagged, flagged-behind}
 use Rattle.mailbox_rules.proofs.links.readers_behind.Statement.{statement}
 use Rattle.mailbox_rules.proofs.links.readers_behind.Tie as tie
 

@@ -16,7 +16,7 @@ use Rattle.protocol_state.proofs.Places.{zeros}
 use Rattle.mailbox_layout.specs.Layout.{writerIn, readerIn, linkHeld}
 use Rattle.mailbox_plan.specs.Plan.{Planned}
 use Rattle.mailbox_plan.proofs.Plans.{plan-first}
-use Rattle.mailbox_rules.proofs.Counts.{ByFlags, none-counted, counted-few, one-counted, counted}
+use Rattle.mailbox_rules.proofs.Flags.{ByFlags, none-counted, counted-few, one-counted, counts-behind}
 use Rattle.mailbox_rules.proofs.table.first_fault.Statement.{statement}
 use Rattle.mailbox_rules.proofs.table.first_fault.Tie as tie
 
@@ -65,14 +65,14 @@ loop-again c =
       omega arith,
       one-counted (i .inv .1) (c .before .before .control-at .ensures) (c .before .goes-behind .ensures) (c .count-link .ensures),
       λ ahead ranks p. leading-more (fault ahead (a .tasks) (linkHeld (a .control .now) (a .values .now))) _
-          (f .fault-at .ensures ahead ranks (plan-first (omega arith) p) (counted (i .inv .1) (plan-first (omega arith) p))) (i .inv .2 ahead ranks p) (c .before .before .before .before .pick .ensures),
+          (f .fault-at .ensures ahead ranks (plan-first (omega arith) p) (counts-behind (i .inv .1) (plan-first (omega arith) p))) (i .inv .2 ahead ranks p) (c .before .before .before .before .pick .ensures),
     )
 
 returns : tie.Need-returns Inv-loop μ-loop
 returns c ahead ranks p =
     let i = c .before .loop in
     let end = le-antisymm (i .inv .0) (c .loop-test .left) in
-    (leading-end _ _ _ (i .inv .2 ahead ranks p) (i .inv .0) (c .loop-test .left), counted (rw end at (i .inv .1)) p)
+    (leading-end _ _ _ (i .inv .2 ahead ranks p) (i .inv .0) (c .loop-test .left), counts-behind (rw end at (i .inv .1)) p)
 
 pub first-fault-spec : {M : Type 1} → statement M
 first-fault-spec =

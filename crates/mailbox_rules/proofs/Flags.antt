@@ -17,7 +17,7 @@ use Rattle.protocol_state.specs.Saved.{at, stateRoom}
 use Rattle.protocol_state.proofs.Places.{count-same}
 use Rattle.mailbox_plan.specs.Plan.{isFlagged, Planned}
 use Rattle.mailbox_plan.proofs.Plans.{flag-from}
-use Rattle.mailbox_rules.specs.Counts.{Counted}
+use Rattle.mailbox_rules.specs.CountsBehind.{CountsBehind}
 
 -- link j is task t's and has its flag
 abbrev pub flagged : (ℕ → ℕ) → List ℕ → ℕ → ℕ → Bool
@@ -64,5 +64,5 @@ module _ {W : ℕ → ℕ} {plan : List ℕ} where
           getD-set-other counts w t x 0 (λ i. other (sym i)) ∙ sym (add-zero _) ∙ count-more (flagged W plan t) n not-mine (c .each t h) refl
 
     -- under an order that the plan is right for
-    pub counted : {ahead : ℕ → ℕ → Bool} {R : ℕ → ℕ} → Planned ahead W R n plan → Counted ahead W R n counts
-    counted p = record { count = λ t h. c .each t h ∙ flagged-behind t p }
+    pub counts-behind : {ahead : ℕ → ℕ → Bool} {R : ℕ → ℕ} → Planned ahead W R n plan → CountsBehind ahead W R n counts
+    counts-behind p = record { count = λ t h. c .each t h ∙ flagged-behind t p }
