@@ -1,5 +1,7 @@
 // The printouts of the recordings that the arguments name, each after a line with its name. A word of one byte before a name
 // says how: `-` only the last line, `/` every beginning of the recording, and a digit how many numbers the lent list has room for.
+#![tactic(auto)]
+
 ghost use Rattle.std.specs.Prelude.{◌≤◌};
 ghost use Rattle.io.specs.Counts.{IsPrefixLen};
 

@@ -1,4 +1,6 @@
 // The smallest use of the mailbox core: two tasks, and the second, less urgent, reads the first by a direct link.
+#![tactic(auto)]
+
 use libc::STDOUT_FILENO;
 use mailbox::{Answer, State};
 

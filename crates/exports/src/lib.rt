@@ -4,6 +4,8 @@
 // Nothing is asked of the caller but that what is lent is there, and that nothing is lent twice. `include/parnusild.h` has the same
 // calls on a struct. The name of each call but `parnusild_sizes` ends with the room of a state: a host that was built for another room does
 // not link.
+#![tactic(auto)]
+
 pub mod event;
 pub mod fresh;
 mod parts;

@@ -1,4 +1,6 @@
 // Reads a recording from standard input, and prints all that its replay answers with.
+#![tactic(auto)]
+
 use libc::STDIN_FILENO;
 use recording_printout::{BYTES, NUMBERS, print_inspect};
 

@@ -1,5 +1,7 @@
 // The numbers in the fields of a record in lent bytes, the lowest byte first. A field begins `k` bytes after the place of its record, and
 // bytes past the end count as none: so nothing is asked, and a reader that has seen that the record is whole pays for no second test.
+#![tactic(auto)]
+
 ghost use Rattle.std.specs.Prelude.{◌≡◌, ◌+◌, ◌*◌, get_or};
 ghost use Rattle.byte_format.specs.Number.{number_at};
 

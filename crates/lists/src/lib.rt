@@ -1,4 +1,6 @@
 // What all crates share: laws on lists, in specs/ and proofs/, and two small functions on counts.
+#![tactic(auto)]
+
 ghost use Rattle.std.specs.Prelude.{◌≡◌, cond, min};
 
 // A count, no more than there is room for.

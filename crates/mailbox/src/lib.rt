@@ -3,6 +3,8 @@
 // A table of numbers makes a fresh state (`State::fresh`); each event is given to the state (`arrival`, `start`, `read`,
 // `finish`), which hands back the next state and the answer. Nothing is asked of the caller: whatever the table, the event or
 // the state holds, an answer comes back, and a refusal hands the state back as it was lent.
+#![tactic(auto)]
+
 ghost use Rattle.std.specs.Prelude.{◌≡◌, true, []};
 ghost use Rattle.protocol.specs.Event.{arrival, start, read, finish};
 ghost use Rattle.protocol_state.specs.Saved.{at, state_room};
@@ -29,7 +31,7 @@ mod tables;
 
 // All that a station has to keep between events: the counts, and the three arrays whose regions `mailbox_layout` names. Each field has an
 // accessor below. Slots past `tasks` and past `links` are never touched; when fresh they hold 0, newest and previous 1.
-#[derive(Drop)]
+#[derive(Clone, Copy)]
 pub struct State {
     pub tasks: usize,
     pub links: usize,
@@ -39,21 +41,21 @@ pub struct State {
 }
 
 // The refusal, 0 for none, and the value: the number of an accepted read, else 0.
-#[derive(Drop)]
+#[derive(Clone, Copy)]
 pub struct Answer {
     pub refusal: u8,
     pub value: u32,
 }
 
 // What an event hands back.
-#[derive(Drop)]
+#[derive(Clone, Copy)]
 pub struct Step {
     pub state: State,
     pub answer: Answer,
 }
 
 // What a table makes: the refusal that it earns, 0 for none, and a fresh state.
-#[derive(Drop)]
+#[derive(Clone, Copy)]
 pub struct Made {
     pub refusal: u8,
     pub state: State,

@@ -23,7 +23,7 @@ pub const CELLS: usize = TASKS * POSITIONS;
 const BITS: usize = 32;
 
 // How many tasks and links a table has.
-#[derive(Drop)]
+#[derive(Clone, Copy)]
 pub struct Size {
     pub tasks: usize,
     pub links: usize,

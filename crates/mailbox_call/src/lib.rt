@@ -1,4 +1,6 @@
 // An event as a host hands it over: a kind, which task or link, and a value. A tick does not change what is asked.
+#![tactic(auto)]
+
 ghost use Rattle.std.specs.Prelude.{◌≡◌};
 ghost use Rattle.protocol.specs.Event.{start, read, finish};
 ghost use Rattle.protocol_state.specs.Saved.{Saved, state_room};
@@ -10,7 +12,7 @@ ghost use Rattle.mailbox_call.specs.Replies.{heard, asked_number};
 use mailbox_event::Event;
 
 // What a host asks for: an event, one of a task or link whose number is in no table, or one of an unknown kind.
-#[derive(Drop)]
+#[derive(Clone, Copy)]
 pub enum Asked {
     Known(Event),
     Outside,

@@ -9,6 +9,8 @@
 // A table's answer: REFUSAL TASKS LINKS, then `single` where the state is a single task's; else its links, its deadlines if it has them, the
 // fresh state, and its defaults and cells where they aren't 0. `past`: the largest number past the counts in phase, newest, previous, seen,
 // writer, reader, kind, start value, pointer and mark, with deadlines also in deadline and arrival tick.
+#![tactic(auto)]
+
 mod make;
 mod same;
 mod script;

@@ -14,7 +14,7 @@ const DEFAULTS: [u32; TASKS] = [
 
 // What `State::fresh` and `State::fresh_dated` take, and which of them does. Slots that no word has filled hold 77, so that a copy of too much
 // is seen.
-#[derive(Drop)]
+#[derive(Clone, Copy)]
 pub struct Table {
     dated: bool,
     tasks: usize,

@@ -8,7 +8,7 @@ use mailbox_event::{Event, When};
 const DIGITS: u64 = 1000000000000000000;
 
 // A word of a line: a letter and at most four numbers with commas between, the last one in `z`.
-#[derive(Drop)]
+#[derive(Clone, Copy)]
 pub struct Word {
     letter: u8,
     w: u64,
@@ -58,7 +58,7 @@ fn number(n: u64) -> u32 {
 }
 
 // What the script is at.
-#[derive(Drop)]
+#[derive(Clone, Copy)]
 pub struct Desk {
     table: Table,
     // the state that each line begins with

@@ -1,5 +1,7 @@
 // An event at its tick under earliest deadline first: its refusals, 21 to 23 among them, and what an accepted event makes of the ticks. Each
 // function says what it answers and leaves whatever the policy, and that it is what the definitions ask where there are deadlines.
+#![tactic(auto)]
+
 ghost use Rattle.std.specs.Prelude.{◌≡◌, ◌≢◌, cond, not, List, ℕ, ◌+◌, min, eqb, ltb};
 ghost use Rattle.std.proofs.Math.ListN as lists;
 ghost use Rattle.lists.specs.Lists.{upto};

@@ -1,9 +1,11 @@
 // An event, as it is given to the mailboxes and stands in a recording.
+#![tactic(auto)]
+
 ghost use Rattle.std.specs.Prelude.{◌≡◌};
 ghost use Rattle.mailbox_event.specs.Plain.{policy_for};
 
 // The arrival of a set of tasks, the start of a task, a read by a link, the finish of a task with a value.
-#[derive(Drop)]
+#[derive(Clone, Copy)]
 pub enum Event {
     Arrival(u32),
     Start(u8),
@@ -12,7 +14,7 @@ pub enum Event {
 }
 
 // When an event is handed over: without a tick, to a state under fixed priorities, or at one, to a state with deadlines.
-#[derive(Drop)]
+#[derive(Clone, Copy)]
 pub enum When {
     Untimed,
     At(u32),

@@ -1,4 +1,6 @@
 // What a start, a read and a finish do.
+#![tactic(auto)]
+
 ghost use Rattle.std.specs.Prelude.{◌≡◌, Bool, cond, ◌&&◌, List, ℕ, ◌<◌, min, eqb};
 ghost use Rattle.protocol_state.specs.Saved.{at, state_room};
 ghost use Rattle.protocol_state.specs.Next.{number_read, released, finished};

@@ -2,6 +2,8 @@
 // of an event in their order, else it is done.
 //
 // A function for each policy: one for both asked for the policy at each step of an event, and a single event took longer for it.
+#![tactic(auto)]
+
 ghost use Rattle.std.specs.Prelude.{◌≡◌, ◌≢◌};
 ghost use Rattle.protocol_state.specs.Give.{reply};
 ghost use Rattle.mailbox_layout.specs.Layout.{state_of};

@@ -1,5 +1,7 @@
 // The refusals 12 to 16 of a sound state, tried in rising order, under fixed priorities and with deadlines, ticks left aside; 0 is none. Counts
 // above the room are taken as the room.
+#![tactic(auto)]
+
 ghost use Rattle.std.specs.Prelude.{◌≡◌, cond, ◌&&◌, ◌||◌, not, ◌+◌, min};
 ghost use Rattle.lists.specs.Lists.{every, some};
 ghost use Rattle.protocol.specs.Event.{has};

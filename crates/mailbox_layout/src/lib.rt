@@ -2,6 +2,8 @@
 // links) and numbers of 32 bits (values: defaults, start values, mailboxes; times: deadlines, ticks, the policy). Every access to them goes
 // through these functions; what is above speaks of the fields of a state.
 // A field more is one region here and in specs/Layout, one field of the view there, and one accessor of the state.
+#![tactic(auto)]
+
 ghost use Rattle.std.specs.Prelude.{◌≡◌, set};
 ghost use Rattle.protocol_state.specs.Saved.{at, cell_of};
 ghost use Rattle.regions.specs.Regions.{region, place};
@@ -53,7 +55,7 @@ const CELLS_FROM: usize = TASKS + LINKS;
 pub const VALUES: usize = CELLS_FROM + CELLS;
 
 // A link of a table, by value.
-#[derive(Drop)]
+#[derive(Clone, Copy)]
 pub struct Link {
     pub writer: u8,
     pub reader: u8,

@@ -1,4 +1,6 @@
 // The order of two tasks, and what is found once for many events: of each link whether it goes to a reader behind.
+#![tactic(auto)]
+
 ghost use Rattle.std.specs.Prelude.{◌≡◌, cond, min, set};
 ghost use Rattle.protocol_state.specs.Saved.{at, state_room};
 ghost use Rattle.mailbox_layout.specs.Layout.{writer_in, reader_in, ahead_among};

@@ -1,4 +1,6 @@
 // Soundness of a state, on its lent arrays: what refusal 19 tests.
+#![tactic(auto)]
+
 ghost use Rattle.std.specs.Prelude.{◌≡◌, Bool, cond, List, ℕ, ◌≤◌, ◌<◌, min};
 ghost use Rattle.lists.specs.Lists.{every};
 ghost use Rattle.protocol_state.specs.Saved.{at, state_room};

@@ -1,4 +1,6 @@
 // Reads an old station's settings list from standard input, and prints its settings or why it is refused.
+#![tactic(auto)]
+
 use libc::STDIN_FILENO;
 use settings_printout::{BYTES, print_migration};
 

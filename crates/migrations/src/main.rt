@@ -4,6 +4,8 @@
 // A frame is five bytes and a list: the length of the list, two bytes; the number of settings to write back, one; the room that the buffer
 // has, two; the bytes of the list. Numbers have their low byte first. Printed are the printout of the list, `written` and how many bytes were
 // written, or the refusal, and then the buffer itself, byte by byte.
+#![tactic(auto)]
+
 ghost use Rattle.std.specs.Prelude.{◌≤◌};
 
 use libc::{STDIN_FILENO, STDOUT_FILENO};

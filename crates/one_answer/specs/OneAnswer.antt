@@ -34,8 +34,8 @@ use Rattle.mailbox.proofs.State.start_at.Kinds as of_start_at_tick
 use Rattle.mailbox.proofs.State.start_at.Reads as on_start_at_tick
 use Rattle.mailbox.proofs.State.read.Kinds as of_read
 use Rattle.mailbox.proofs.State.read.Reads as on_read
-use Rattle.mailbox.proofs.State.read_at_lem.Kinds as of_read_at_tick
-use Rattle.mailbox.proofs.State.read_at_lem.Reads as on_read_at_tick
+use Rattle.mailbox.proofs.State.read_at.Kinds as of_read_at_tick
+use Rattle.mailbox.proofs.State.read_at.Reads as on_read_at_tick
 use Rattle.mailbox.proofs.State.finish.Kinds as of_finish
 use Rattle.mailbox.proofs.State.finish.Reads as on_finish
 use Rattle.mailbox.proofs.State.finish_at.Kinds as of_finish_at_tick

@@ -1,4 +1,6 @@
 // Reads the text form of a recording from standard input, and writes the recording, or tells why there is none.
+#![tactic(auto)]
+
 use libc::STDIN_FILENO;
 use record_printout::{TEXT, print_recording};
 

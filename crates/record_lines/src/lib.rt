@@ -1,4 +1,6 @@
 // The lines that tell why a text has no recording, made in a lent buffer.
+#![tactic(auto)]
+
 ghost use Rattle.std.specs.Prelude.{◌≡◌};
 ghost use Rattle.text_line.specs.Shown.{shown, joined, Put};
 ghost use Rattle.record_lines.specs.Lines.{reason, fault_line, refused_line, too_long_line};

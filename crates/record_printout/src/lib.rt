@@ -2,6 +2,8 @@
 //
 // What a program writes no contract can say, so of the functions that write it is proved that they are safe, that they end, and how many bytes the
 // recording has. What the lines hold is said by the contracts of `record_lines`, and which recording a text has by that of `make_recording`.
+#![tactic(auto)]
+
 ghost use Rattle.std.specs.Prelude.{◌≡◌};
 ghost use Rattle.record_printout.specs.Printed.{length_printed};
 

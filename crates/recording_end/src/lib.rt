@@ -1,5 +1,7 @@
 // The last step of a recording, after its last event: what is still active is refused. The reader takes it after the bytes have ended, the writer before it
 // looks for room.
+#![tactic(auto)]
+
 ghost use Rattle.std.specs.Prelude.{◌≡◌, cond, eqb};
 ghost use Rattle.lists.specs.Lists.{some};
 ghost use Rattle.protocol_state.specs.Saved.{at, active_phase};

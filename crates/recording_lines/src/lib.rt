@@ -1,4 +1,6 @@
 // The lines of the printouts, made in a lent buffer.
+#![tactic(auto)]
+
 ghost use Rattle.std.specs.Prelude.{◌≡◌, ◌≤◌, length, take};
 ghost use Rattle.text_line.specs.Shown.{shown, joined, Put};
 ghost use Rattle.recording_lines.specs.Lines.{numbers, phase, had_word, since_word, pointer, mark, named, read_line, accepted_line, refused_line, refusal_line, place_line, rest_line, counts_line, last_line, task_line, link_line};
@@ -11,7 +13,7 @@ pub const LINE: usize = ROOM;
 
 // What is printed of a task beside its cells: its number, its phase, the positions, what is seen of its arrivals, the policy of its table
 // (0: fixed priorities, which keep no ticks) and its arrival tick.
-#[derive(Drop)]
+#[derive(Clone, Copy)]
 pub struct Task {
     pub number: usize,
     pub phase: u8,

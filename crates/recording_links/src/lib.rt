@@ -1,4 +1,6 @@
 // The section of a recording's links, from lent bytes into the lent control and values of a fresh state: nothing of them is copied.
+#![tactic(auto)]
+
 ghost use Rattle.std.specs.Prelude.{List, ◌≤◌};
 ghost use Rattle.protocol_state.specs.Records.{Task};
 ghost use Rattle.protocol_state.specs.Saved.{state_room};

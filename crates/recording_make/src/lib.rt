@@ -1,4 +1,6 @@
 // The recording of a text, made in a lent buffer: the text is read by `recording_text`, and its numbers are lent to `recording_write`.
+#![tactic(auto)]
+
 ghost use Rattle.std.specs.Prelude.{◌≡◌, length};
 ghost use Rattle.recording_write.specs.Answers.{reply_to, buffer_to};
 ghost use Rattle.recording_make.specs.Made.{line_told, make_reply, made_of, buffer_of};
@@ -9,7 +11,7 @@ use recording_write::write;
 
 // What making came to: why the text cannot be read, 0 where it can; the line at fault, from 1, 0 where there is none; the writer's refusal, 0
 // for none, and its place in the recording; for no fault and no refusal, how many bytes were written.
-#[derive(Drop)]
+#[derive(Clone, Copy)]
 pub struct Made {
     pub fault: u8,
     pub line: usize,

@@ -3,6 +3,8 @@
 // What a program writes no contract can say, so of the functions here it is proved that they are safe, that they end, and what the
 // lent list then holds. Each line is made by `recording_lines`, whose contracts say what stands in it; the numbers are those that
 // `recording::replay` answers with.
+#![tactic(auto)]
+
 ghost use Rattle.std.specs.Prelude.{◌≡◌};
 ghost use Rattle.recording.specs.Answers.{list_after};
 

@@ -1,4 +1,6 @@
 // The text form of a recording, read line by line into the numbers that the writer of a recording takes; and the line of what it refuses.
+#![tactic(auto)]
+
 ghost use Rattle.std.specs.Prelude.{◌≡◌, cond, ◌+◌, ◌≤◌, length};
 ghost use Rattle.std.proofs.Math.Seq.{paste};
 ghost use Rattle.recording_text.specs.Text.{read_of, answer_of, none_kept, takes, and_record, RoomFor, tasks_of, links_of, events_of, over, in_place, fault_in, no_kind, kind_after};
@@ -27,7 +29,7 @@ pub const EVENTS: usize = 4 * EVENTS_KEPT;
 
 // What a text is read as: why it cannot be read, 0 where it can, and in which line, from 1; the number of the kind, 0 where no line before that
 // says it; how many numbers were stored.
-#[derive(Drop)]
+#[derive(Clone, Copy)]
 pub struct Read {
     pub fault: u8,
     pub line: usize,
@@ -38,14 +40,14 @@ pub struct Read {
 }
 
 // What is known of the kind: whether a line has said it, and its number, 0 before.
-#[derive(Drop)]
+#[derive(Clone, Copy)]
 pub struct KnownKind {
     pub known: bool,
     pub number: u32,
 }
 
 // What is stored of one sort: so many records, and so many numbers.
-#[derive(Drop)]
+#[derive(Clone, Copy)]
 pub struct Kept {
     pub records: usize,
     pub numbers: usize,

@@ -12,14 +12,14 @@ const ABOVE: u64 = 4294967296;
 const LAST_OF_SET: u32 = 32;
 
 // A field as a number, or why it is none.
-#[derive(Drop)]
+#[derive(Clone, Copy)]
 pub struct Number {
     pub fault: u8,
     pub value: u32,
 }
 
 // The numbers of fields, or why one of them is none: how many there are, the first four, and all as a set of tasks.
-#[derive(Drop)]
+#[derive(Clone, Copy)]
 pub struct Numbers {
     pub fault: u8,
     pub count: usize,

@@ -1,4 +1,6 @@
 // What a line of a recording's text says, in a dated text or another: a record, nothing, or why it cannot be read.
+#![tactic(auto)]
+
 ghost use Rattle.std.specs.Prelude.{◌≡◌, true, false, cond, List, [], ◌∷◌, ℕ, ◌+◌, ◌≤◌, ◌<◌, ltb, length, take, drop, get_or};
 ghost use Rattle.recording_text_fields.specs.Pieces.{fields, separator, between};
 ghost use Rattle.recording_text_fields.specs.Numeral.{gathered};
@@ -12,7 +14,7 @@ use recording_text_fields::piece::{piece_end, separates};
 pub const NUMBERS: usize = 4;
 
 // What a line says: why it cannot be read, 0 where it can; its letter, 0 for none; and so many numbers for the writer, zeros behind them.
-#[derive(Drop)]
+#[derive(Clone, Copy)]
 pub struct Said {
     pub fault: u8,
     pub letter: u8,

@@ -1,4 +1,6 @@
 // The line of a record that the writer refuses, in the text of a recording.
+#![tactic(auto)]
+
 ghost use Rattle.std.specs.Prelude.{◌≡◌, ◌-◌};
 ghost use Rattle.recording_text_line.specs.Line.{text_says};
 ghost use Rattle.recording_text_place.specs.Place.{bytes_of, all_bytes, step, line_after, one_of, of_link, of_event, kind_or_task, line_of};
@@ -24,7 +26,7 @@ const BEFORE_EVENTS: usize = BEFORE_LINKS + 2;
 const NO_SORT: u8 = 5;
 
 // What is counted on the way to a record: records, or their bytes in a recording of a kind.
-#[derive(Drop)]
+#[derive(Clone, Copy)]
 pub enum Measure {
     Records,
     Bytes(WhichKind),

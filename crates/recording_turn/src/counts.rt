@@ -10,7 +10,7 @@ use lists::{few, one_if};
 use mailbox_base::numbers::{TASKS, has};
 
 // How many tasks arrived, each task of an arrival counting one, and how many started, read and finished.
-#[derive(Drop)]
+#[derive(Clone, Copy)]
 pub struct Counts {
     pub arrivals: usize,
     pub starts: usize,

@@ -1,4 +1,6 @@
 // What one event of a replay leaves, and what many do: the refusal and the counts. The laws of a turn are over both policies.
+#![tactic(auto)]
+
 ghost use Rattle.std.specs.Prelude.{◌≡◌};
 ghost use Rattle.recording_core.specs.Playing.{no_counts};
 ghost use Rattle.recording_turn.specs.Parts.{counts_of};
@@ -8,7 +10,7 @@ use crate::counts::{Counts, none};
 pub mod counts;
 
 // What one event gives: the refusal, 0 for none, and the counts after it.
-#[derive(Drop)]
+#[derive(Clone, Copy)]
 pub struct Turn {
     pub refusal: u8,
     pub counts: Counts,
@@ -22,7 +24,7 @@ pub fn refused(refusal: u8, counts: Counts) -> Turn
 }
 
 // What many give: the refusal, 0 for none, and its place, else the place after the last event; and the counts.
-#[derive(Drop)]
+#[derive(Clone, Copy)]
 pub struct Played {
     pub refusal: u8,
     pub place: usize,

@@ -1,4 +1,6 @@
 // Reads a recording from standard input, and prints what was read and whether it was accepted.
+#![tactic(auto)]
+
 use libc::STDIN_FILENO;
 use recording_printout::{BYTES, NUMBERS, print_replay};
 

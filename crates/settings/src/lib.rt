@@ -1,6 +1,8 @@
 // The settings of an old station: its list read into settings, and settings written back into a list.
 //
 // What is unknown never becomes a default: each entry is a setting with its own eight bytes, or the refusal of the whole list.
+#![tactic(auto)]
+
 ghost use Rattle.std.specs.Prelude.{◌≡◌, length};
 ghost use Rattle.byte_format.specs.Number.{Bytes};
 ghost use Rattle.settings_list.specs.Migration.{migration};
@@ -12,7 +14,7 @@ pub use settings_list::{Migration, SETTINGS, Slot};
 mod write;
 
 // What writing back came to: the refusal, 0 for none, and its place in the list as it would be written; for none, how many bytes were written.
-#[derive(Drop)]
+#[derive(Clone, Copy)]
 pub struct Written {
     pub refusal: u8,
     pub place: usize,

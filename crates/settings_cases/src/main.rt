@@ -5,6 +5,8 @@
 // `zeros` where every slot past the number is a count of 0. The answer of writing back: REFUSAL PLACE, the bytes written, and then `kept`
 // where every byte of the buffer past them is as it was before.
 // Three words more would tell of a fault, and stand in no right answer: `filled` for `zeros`, `touched` for `kept`, and `nan` for bits.
+#![tactic(auto)]
+
 mod make;
 mod script;
 mod show;

@@ -37,7 +37,7 @@ fn hexadecimal(n: u64, c: u8) -> u64 {
 }
 
 // What the script is at.
-#[derive(Drop)]
+#[derive(Clone, Copy)]
 pub struct Desk {
     at: u8,
     // the word: its letter, 0 before it, and the number that follows

@@ -1,10 +1,12 @@
 // A float above zero in decimal: its whole millionths, and whether anything is cut off below them.
+#![tactic(auto)]
+
 ghost use Rattle.std.specs.Prelude.{◌≡◌, false, ◌+◌, ◌*◌, ◌/◌, ◌^◌, ◌<◌};
 ghost use Rattle.settings_decimal.specs.Decimal.{under, cut_off, significand as Decimal·significand, large as Decimal·large, millionths as Decimal·millionths};
 ghost use Rattle.settings_decimal.specs.Answer.{decimal_of};
 
 // A float in decimal: whether it is too large to be shown, else its whole millionths and whether there is more.
-#[derive(Drop)]
+#[derive(Clone, Copy)]
 pub struct Decimal {
     pub large: bool,
     pub millionths: u64,

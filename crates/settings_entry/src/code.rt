@@ -5,7 +5,7 @@ ghost use Rattle.settings_entry.specs.Entry as entry;
 ghost use Rattle.settings_entry.specs.Found.{code_found, reason_of};
 
 // What a code byte says.
-#[derive(Drop)]
+#[derive(Clone, Copy)]
 pub enum Code {
     Margin,
     Feed,
@@ -13,7 +13,7 @@ pub enum Code {
 }
 
 // What stands at a place where a code byte is due.
-#[derive(Drop)]
+#[derive(Clone, Copy)]
 pub enum Found {
     Known(Code),
     Unknown,

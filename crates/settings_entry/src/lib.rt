@@ -1,4 +1,6 @@
 // One entry of a list, judged from the left: code missing, code unknown, rest missing, bad float.
+#![tactic(auto)]
+
 ghost use Rattle.std.specs.Prelude.{◌≡◌, cond, ℕ, ◌+◌, eqb};
 ghost use Rattle.byte_format.specs.Format.{stop};
 ghost use Rattle.settings_entry.specs.Setting.{float_fault};
@@ -16,7 +18,7 @@ mod code;
 pub const ENTRY: usize = 9;
 
 // A setting, with its own value.
-#[derive(Drop)]
+#[derive(Clone, Copy)]
 pub enum Setting {
     // millimetres
     Margin(f64),
@@ -26,7 +28,7 @@ pub enum Setting {
 }
 
 // What stands at a place where an entry is due: its setting, or the refusal.
-#[derive(Drop)]
+#[derive(Clone, Copy)]
 pub enum Next {
     Got(Setting),
     Refused(u8),

@@ -1,4 +1,6 @@
 // Which floats are finite and above zero: by their bits before there is a float, and by comparing where there is one.
+#![tactic(auto)]
+
 ghost use Rattle.std.specs.Prelude.{◌≡◌, T};
 ghost use Rattle.std.specs.Float.{binary64};
 ghost use Rattle.std.specs.Float.Ieee.{fits, of_bits};

@@ -1,4 +1,6 @@
 // The lines of migrated settings, made in a lent buffer.
+#![tactic(auto)]
+
 ghost use Rattle.std.specs.Prelude.{◌≡◌, [], ◌∷◌, ◌++◌, ◌≤◌, ◌<◌, length};
 ghost use Rattle.text_line.specs.Numeral.{number as Numeral·number};
 ghost use Rattle.text_line.specs.Shown.{shown, joined, line_of, Put};

@@ -1,4 +1,6 @@
 // A whole list, read: its count, its entries, and its end.
+#![tactic(auto)]
+
 ghost use Rattle.std.specs.Prelude.{◌≡◌, [], ◌≤◌};
 ghost use Rattle.byte_format.specs.Play.{play};
 ghost use Rattle.byte_format.specs.End.{no_last, ended};
@@ -13,14 +15,14 @@ use settings_entry::{ENTRY, Next, Setting, entry_at};
 pub const SETTINGS: usize = 64;
 
 // A place for a setting in an array.
-#[derive(Drop)]
+#[derive(Clone, Copy)]
 pub struct Slot {
     pub setting: Setting,
 }
 
 // What a list is read as: the refusal, 0 for none, its place, and the settings, of which so many are there. Past them stand counts of 0;
 // after a refusal none is there.
-#[derive(Drop)]
+#[derive(Clone, Copy)]
 pub struct Migration {
     pub refusal: u8,
     pub place: usize,
@@ -29,7 +31,7 @@ pub struct Migration {
 }
 
 // What the count byte says: how many entries there are, or the refusal.
-#[derive(Drop)]
+#[derive(Clone, Copy)]
 pub enum Counted {
     Are(usize),
     Refused(u8),

@@ -3,6 +3,8 @@
 // What a program writes no contract can say, so of the functions here it is proved that they are safe and that they end. Each line is made
 // by `settings_lines` or `recording_lines`, whose contracts say what stands in it; the settings are those that `settings::migrate` answers
 // with, and none of them is a NaN, of which no bits are known.
+#![tactic(auto)]
+
 ghost use Rattle.std.specs.Prelude.{◌≡◌, ◌≤◌};
 ghost use Rattle.settings_list.specs.Migration.{migration};
 ghost use Rattle.settings_entry.specs.Setting.{float_fault};

@@ -1,4 +1,6 @@
 // One setting put into a list: whether it may stand there, and its entry.
+#![tactic(auto)]
+
 ghost use Rattle.std.specs.Prelude.{◌≡◌, true, ◌∷◌, ◌+◌, ◌≤◌, eqb, length};
 ghost use Rattle.byte_format.specs.Number.{bytes_of, Wide};
 ghost use Rattle.lent_bytes.specs.Put.{put_at};

@@ -1,17 +1,23 @@
 // A line of text, made piece by piece: what no longer fits its room is cut off, and nothing is asked of whoever makes one.
+#![tactic(auto)]
+
 ghost use Rattle.std.specs.Prelude.{◌≡◌, ◌+◌, ◌≤◌, length};
 ghost use Rattle.std.proofs.Math.Seq.{paste};
 ghost use Rattle.text_line.specs.Numeral.{space, digits, number};
 ghost use Rattle.text_line.specs.Shown.{shown, joined, feed, fit, empty_line, with_text, Put};
 
-use libc::{STDERR_FILENO, STDOUT_FILENO};
 use lists::few;
 
 // The room of a line, its line feed among it.
 pub const ROOM: usize = 384;
 
+// The number of standard output, and of standard error.
+const STDOUT_FILENO: i32 = 1;
+
+const STDERR_FILENO: i32 = 2;
+
 // A line: its first `size` bytes are there.
-#[derive(Drop)]
+#[derive(Clone, Copy)]
 pub struct Line {
     pub bytes: [u8; ROOM],
     pub size: usize,

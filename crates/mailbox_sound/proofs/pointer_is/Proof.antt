@@ -1,8 +1,8 @@
 -- `mailbox_sound::pointer_is_lem` meets its contract: what the call ensures.
 -- Assumes nothing.
 use borrow.Author.Rules.{rules}
-use Rattle.mailbox_sound.proofs.pointer_is_lem.Statement.{statement}
-use Rattle.mailbox_sound.proofs.pointer_is_lem.Tie as tie
+use Rattle.mailbox_sound.proofs.pointer_is.Statement.{statement}
+use Rattle.mailbox_sound.proofs.pointer_is.Tie as tie
 
 add-result : tie.Need-overflow-add-result
 add-result c = search rules

@@ -1,0 +1,14 @@
+-- `mailbox_call::start_of` meets its contract: a number above 255 is in no table, any other is a byte.
+-- Assumes nothing.
+use mathlib.Core.Path.{ap}
+use Rattle.protocol_state.specs.Saved.{state_room}
+use Rattle.protocol_state.specs.Give.{given_to}
+use native.Mathlib.Omega.{arith}
+use Rattle.mailbox_call.proofs.Far.{given_over, start_far}
+use Rattle.mailbox_call.proofs.start_of.Goals as goal
+
+pub returns-then-which-gt-NAMED : goal.returns-then-which-gt-NAMED
+returns-then-which-gt-NAMED c w q = start_far w q c.args.which (omega (arith, c.if-which-gt-NAMED.true))
+
+pub returns : goal.returns
+returns c w q = ap (given_to state_room q) (given_over w _)

@@ -1,0 +1,12 @@
+-- `mailbox_plan::put_flag` meets its contract: past the room the plan has ended.
+-- Assumes nothing.
+use mathlib.Core.Path.{sym}
+use native.Mathlib.Omega.{arith}
+use lib.Seq.{set_out}
+use Rattle.mailbox_plan.proofs.put_flag.Goals as goal
+
+pub returns-then-l-lt-LINKS : goal.returns-then-l-lt-LINKS
+returns-then-l-lt-LINKS c = rw c.pick.ensures
+
+pub returns-else-l-lt-LINKS : goal.returns-else-l-lt-LINKS
+returns-else-l-lt-LINKS c = sym (set_out _ _ _ (omega arith))

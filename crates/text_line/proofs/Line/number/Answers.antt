@@ -1,0 +1,23 @@
+-- `text_line::Line::number` meets its contract: a space, then what `io::decimal` spelled, which is the number's digits.
+-- Assumes nothing.
+use mathlib.Core.Path.{ap, ◌∙◌}
+use mathlib.Core.List.{List, ◌++◌}
+use Prim.Native.Nat.{ℕ}
+use lib.ListN.{take}
+use borrow.Author.Rules.{rules}
+use Rattle.text_line.specs.Numeral.{space, number}
+use Rattle.text_line.specs.Shown.{shown, joined}
+use Rattle.text_line.proofs.Numerals.{spelled}
+use Rattle.text_line.proofs.Pieces.{onto}
+use Rattle.text_line.proofs.Line.number.Goals as goal
+
+pub returns : goal.returns
+unfolding number
+returns c =     let a = c.args in
+    let d = c.decimal-k in
+    let x = spelled a.n d.result d.new.1.0 (search rules) d.ensures.1.0 d.ensures.1.1 in
+    let first = c.text-spaced.ensures in record {
+  answer = c.text.ensures.answer ∙ rw (first.0, x.1);
+  shows = c.text.ensures.shows ∙ onto (shown a.self) space (take d.result d.new.1.0) first.1
+          ∙ ap (λ (z : List ℕ). joined (shown a.self) (space ++ z)) x.1;
+}
