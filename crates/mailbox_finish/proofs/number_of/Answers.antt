@@ -8,4 +8,4 @@ returns-then-control_at-eq1 c = rw (← c.control_at.ensures, c.if-control_at-eq
 
 pub returns : goal.returns
 returns c = let i = c in
-    rw (← i.control_at.ensures, ne_eqb _ 1 i.if-control_at-eq1.false) (rw (c.control_at-3.ensures, c.control_at-2.ensures) at c.Cell-at.ensures)
+    rw (← i.control_at.ensures, ne_eqb _ 1 i.if-control_at-eq1.false) (rw (c.control_at-3.ensures, c.control_at-2.ensures) at c.cell_at.ensures)

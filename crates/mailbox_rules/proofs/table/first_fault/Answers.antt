@@ -17,7 +17,7 @@ pub loop-l-init : goal.loop-l-init
 loop-l-init c = (omega arith, none_counted refl (zeros state_room.tasks), λ ahead ranks p. leading_none _)
 
 pub count_link-requires : goal.count_link-requires
-count_link-requires c κs h = let t = c in
+count_link-requires c h = let t = c in
     omega (arith, counted_few t.loop-l.invariant.1 c.control_at.result h, t.loop-l-test.true, t.requires.1)
 
 pub loop-l-preserved : goal.loop-l-preserved
