@@ -3,7 +3,6 @@
 use mathlib.Core.Path.{ap, ◌∙◌}
 use mathlib.Core.Bool.{◌&&◌}
 use mathlib.Core.List.{List}
-use mathlib.Core.Logic.{⊎_elim}
 use Prim.Native.Nat.{ℕ}
 use native.Mathlib.Omega.{arith}
 use Rattle.lists.specs.Lists.{some}
@@ -12,6 +11,7 @@ use Rattle.protocol_state.specs.Saved.{at, active_phase}
 use Rattle.mailbox_layout.specs.Layout.{sooner_among}
 use Rattle.mailbox_judge.proofs.Judged.{idle_past, some_active, some_idle}
 use Rattle.mailbox_judge.proofs.some_sooner.Goals as goal
+use Rattle.mailbox_judge.proofs.some_sooner.Goals.{then-is_active, else-is_active}
 
 pub loop-u-init : goal.loop-u-init
 loop-u-init c = (omega arith, some_none _)
@@ -23,10 +23,10 @@ loop-u-preserved c = let h = c in
     let a = d.args in
     let phases = l.phases_in-phase.result.now in (
       omega arith,
-      ⊎_elim
-          (λ w. w.2 ∙ some_active (λ k. sooner_among a.times.now k a.t) (λ k. active_phase (at phases k)) _ h.is_active.ensures l.loop-u.invariant.1 w.0.taken (rw d.due_at-due.ensures at w.1.ensures))
-          (λ w. w.1 ∙ some_idle (λ k. sooner_among a.times.now k a.t) (λ k. active_phase (at phases k)) _ h.is_active.ensures l.loop-u.invariant.1 w.0.left)
-          c.if-is_active.branch,
+      elim c.if-is_active.branch [
+          then-is_active w ↦ w.found-is ∙ some_active (λ k. sooner_among a.times.now k a.t) (λ k. active_phase (at phases k)) _ h.is_active.ensures l.loop-u.invariant.1 w.if-is_active.true (rw d.due_at-due.ensures at w.is_sooner-found.ensures)
+          | else-is_active w ↦ w.found-is ∙ some_idle (λ k. sooner_among a.times.now k a.t) (λ k. active_phase (at phases k)) _ h.is_active.ensures l.loop-u.invariant.1 w.if-is_active.false
+      ],
     )
 
 pub returns : goal.returns
