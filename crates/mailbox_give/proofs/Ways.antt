@@ -1,6 +1,6 @@
 -- What is asked of a lent state, way by way: unsound or of the other policy, no event, refused, done.
 -- Assumes nothing.
-use mathlib.Core.Path.{◌≡◌, sym, ap, ◌∙◌}
+use mathlib.Core.Path.{◌≡◌, refl, sym, ap, ◌∙◌}
 use mathlib.Core.Logic.{◌≢◌, ⊎_elim}
 use mathlib.Core.Bool.{Bool, true, false, not, ◌&&◌}
 use mathlib.Core.List.{List, [], ◌∷◌}
@@ -42,8 +42,8 @@ module _ (w : When) (q : Saved) where
   by_19 Unknown s = unsound 11 q q 0 s
 
   -- and another answers what is no event by its number
-  by_number : (a : Asked) → OneOf (1 ∷ 2 ∷ []) (tag_of A.the_type a) → sound_when w q ≡ true → heard w q a ≡ reply q (asked_number a) 0
-  by_number (Known e) none s = ⊎_elim (λ (u : ◌≡◌ {A = ℕ} 0 1). absurd (omega arith)) (λ (u : ◌≡◌ {A = ℕ} 0 2). absurd (omega arith)) none
+  by_number : (a : Asked) → ((e : Event) → a ≢ Known e) → sound_when w q ≡ true → heard w q a ≡ reply q (asked_number a) 0
+  by_number (Known e) none s = absurd (none e refl)
   by_number Outside none s = refused 12 q q 0 s (λ z. omega arith)
   by_number Unknown none s = refused 11 q q 0 s (λ z. omega arith)
 
@@ -67,7 +67,7 @@ module _ (T L : ℕ) (c v x : List ℕ) (w : When) (a : Asked) where
       own : policy_in x ≡ policy_for w
       own = eqb-true (policy_in x) (policy_for w) (and_right (is_sound (ahead_among x) state_room state) _ sound)
 
-      pub heard_none : {r : ℕ} → OneOf (1 ∷ 2 ∷ []) (tag_of A.the_type a) → r ≡ asked_number a → reply state r 0 ≡ heard w state a
+      pub heard_none : {r : ℕ} → ((e : Event) → a ≢ Known e) → r ≡ asked_number a → reply state r 0 ≡ heard w state a
       heard_none none i = rw i (sym (by_number w state a none sound))
 
       -- an event, which a state of its policy judges r at its tick
