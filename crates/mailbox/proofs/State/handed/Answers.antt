@@ -1,0 +1,32 @@
+-- `mailbox::State::handed` meets its contract: the arrays are lent to `give` or `give_at`, and what they then hold is the reply's state.
+-- Assumes nothing.
+use mathlib.Core.Path.{◌≡◌}
+use borrow.Author.Rules.{rules}
+use Rattle.protocol_state.specs.Saved.{state_room}
+use Rattle.protocol_state.specs.Give.{reply, given_to}
+use Rattle.mailbox_layout.specs.Layout.{state_of}
+use Rattle.mailbox_event.specs.Plain.{call_of}
+use Rattle.mailbox.specs.States.{saved, IsWhole, Gives}
+use Rattle.mailbox.proofs.Makes.{same_reply, stays}
+use Rattle.mailbox.proofs.State.handed.Goals as goal
+use Rattle.mailbox.proofs.State.handed.Goals.{in-Untimed, in-At}
+
+pub returns : goal.returns
+returns c = let m = c in
+    let a = m in
+    let q = a.args.self in
+    let given : reply (state_of q.tasks q.links m.match-when.control m.match-when.values m.match-when.times) m.match-when.refusal m.match-when.value
+    ≡ given_to state_room (saved q) (call_of a.args.when a.args.e) =
+    elim m.match-when.branch [
+      | in-Untimed w ↦ rw (w.control-is, w.values-is, w.times-is, w.refusal-is, w.value-is, w.in-Untimed.is) w.give-refusal.ensures.answer
+      | in-At w ↦ rw (w.control-is, w.values-is, w.times-is, w.refusal-is, w.value-is, w.in-At.is) w.give_at-refusal.ensures.answer
+    ] in
+    let d : Gives q (call_of a.args.when a.args.e) _ = record {
+      answer = same_reply c.itself.result _ c.itself.ensures.same given;
+      lent = search rules;
+      whole = c.itself.ensures.whole;
+    } in
+    record {
+      answer = d;
+      sound = stays q (call_of a.args.when a.args.e) d;
+    }
