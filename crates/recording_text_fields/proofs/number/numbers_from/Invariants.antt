@@ -9,7 +9,7 @@ use Rattle.recording_text_fields.specs.Numeral.{gathered, numbers_with}
 use Rattle.recording_text_fields.proofs.number.numbers_from.Given as goal
 
 abbrev pub invariant-loop-at : goal.invariant-loop-at
-invariant-loop-at l =     (ns : List ℕ) × ((l.numbers ≡ gathered ns) × ((length ns ≤ l.at) × (numbers_with [] (fields (drop l.from l.line)) ≡ numbers_with ns (fields (drop l.at l.line)))))
+invariant-loop-at l = (ns : List ℕ) × ((l.numbers ≡ gathered ns) × ((length ns ≤ l.at) × (numbers_with [] (fields (drop l.from l.line)) ≡ numbers_with ns (fields (drop l.at l.line)))))
 
 abbrev pub decreases-loop-at : goal.decreases-loop-at
 decreases-loop-at l = length l.line - l.at
