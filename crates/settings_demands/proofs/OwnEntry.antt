@@ -13,7 +13,6 @@ use Rattle.byte_format.proofs.Standing.{stands_first, stands_left, byte_stands, 
 use Rattle.byte_format.proofs.Sections.{section_records}
 use Rattle.byte_format.proofs.Lengths.{length_fixed, encodes_join}
 use Rattle.settings_entry.specs.declared.Setting.{Setting}
-use Rattle.settings_entry.specs.declared.Setting.TheVariants.{Count}
 use Rattle.settings_entry.specs.declared.code.Code.TheVariants as code
 use Rattle.settings_list.specs.declared.Migration.{Migration}
 use Rattle.settings_entry.specs.Entry.{Entry, byte_of, encode_entry, entries, setting_made, setting_of, entry_of}

@@ -1,7 +1,7 @@
 -- An entry, read and judged: what the code finds at a place is what the format says of it.
 -- Assumes nothing.
 use mathlib.Core.Path.{◌≡◌, refl, sym, ap, ◌∙◌}
-use mathlib.Core.Logic.{◌≢◌, ⊎_elim}
+use mathlib.Core.Logic.{◌≢◌, inl, inr, ⊎_elim}
 use mathlib.Core.Bool.{Bool, true, false, cond, true≢false}
 use mathlib.Core.List.{List, [], ◌∷◌}
 use Prim.Native.Nat.{ℕ, ◌+◌, ◌-◌, ◌<◌}
@@ -55,6 +55,12 @@ then_judged s p x = then_read (then_read x (λ k q. sized 9 (codes.body k s p) s
 then_taken : (s : List ℕ) (p : ℕ) {x : Got Code} → x ≡ first_byte code_of s p → then_judged s p x ≡ setting_taken s p
 unfolding then_judged setting_taken
 then_taken s p e = rw e
+
+-- which of the other two it is, where it is no known code
+pub no_code_tag : (x : Found) → ((k : Code) → x ≡ found.Known k → ⊥) → OneOf (1 ∷ 2 ∷ []) (tag_of F.the_type x)
+no_code_tag (found.Known k) h = absurd (h k refl)
+no_code_tag found.Unknown h = inl refl
+no_code_tag found.Missing h = inr refl
 
 module _ (f : Found) (s : List ℕ) (p : ℕ) (e : code_found f (p + 1) ≡ first_byte code_of s p) where
   -- no code: the byte is unknown, or it is missing

@@ -13,11 +13,13 @@ use Rattle.text_line.proofs.Line.number.Goals as goal
 
 pub returns : goal.returns
 unfolding number
-returns c =     let a = c.args in
+returns c =
+    let a = c.args in
     let d = c.decimal-k in
-    let x = spelled a.n d.result d.new.1.0 (search rules) d.ensures.1.0 d.ensures.1.1 in
-    let first = c.text-spaced.ensures in record {
-  answer = c.text.ensures.answer ∙ rw (first.0, x.1);
-  shows = c.text.ensures.shows ∙ onto (shown a.self) space (take d.result d.new.1.0) first.1
+    let x = spelled a.n d.result d.new.out (search rules) d.ensures.len d.ensures.digits in
+    let first = c.text-spaced.ensures in
+    record {
+      answer = c.text.ensures.answer ∙ rw (first.answer, x.1);
+      shows = c.text.ensures.shows ∙ onto (shown a.self) space (take d.result d.new.out) first.shows
           ∙ ap (λ (z : List ℕ). joined (shown a.self) (space ++ z)) x.1;
-}
+    }

@@ -8,13 +8,13 @@ use Rattle.text_line.proofs.Copies.{fit_small, ended}
 use Rattle.text_line.proofs.Line.put.Goals as goal
 
 pub copy-requires : goal.copy-requires
-copy-requires c =     let f = c.fitting-size in
+copy-requires c = let f = c.fitting-size in
     let m = c.few in
     let l : length c.text-whole.result.bytes ≡ 384 = search rules in
     let s = fit_small m.result (length c.args.out.now) in
     (omega (arith, l, m.ensures, f.ensures, s.0), omega (arith, f.ensures, s.1))
 
 pub returns : goal.returns
-returns c =     let t = c.text-whole in
+returns c = let t = c.text-whole in
     let l : length t.result.bytes ≡ 384 = search rules in
-    ended t.result.bytes t.result.size l c.few.ensures t.ensures.1 c.fitting-size.ensures c.copy.ensures
+    ended t.result.bytes t.result.size l c.few.ensures t.ensures.shows c.fitting-size.ensures c.copy.ensures

@@ -1,0 +1,14 @@
+-- `recording_lines::with_cells` meets its contract: after i turns the first i cells are there.
+-- Assumes nothing.
+use mathlib.Core.Path.{◌≡◌}
+use Prim.Native.Nat.{◌≤◌, ◌-◌}
+use lib.ListN.{take}
+use Rattle.text_line.specs.Shown.{shown, joined}
+use Rattle.recording_lines.specs.Lines.{numbers}
+use Rattle.recording_lines.proofs.with_cells.Given as goal
+
+abbrev pub invariant-loop-i : goal.invariant-loop-i
+invariant-loop-i l = (l.i ≤ l.n) × (shown l.made ≡ joined (shown l.initial.made) (numbers (take l.i l.cells)))
+
+abbrev pub decreases-loop-i : goal.decreases-loop-i
+decreases-loop-i l = l.n - l.i

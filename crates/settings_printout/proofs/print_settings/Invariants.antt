@@ -1,0 +1,10 @@
+-- `settings_printout::print_settings` is safe and ends: what is left of the settings falls, and each of them may stand in a list.
+-- Assumes nothing.
+use Prim.Native.Nat.{◌-◌, ◌≤◌}
+use Rattle.settings_printout.proofs.print_settings.Given as goal
+
+abbrev pub invariant-loop-i : goal.invariant-loop-i
+invariant-loop-i l = l.i ≤ l.n
+
+abbrev pub decreases-loop-i : goal.decreases-loop-i
+decreases-loop-i l = l.n - l.i
