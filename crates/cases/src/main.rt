@@ -5,8 +5,13 @@
 ghost use Rattle.std.specs.Prelude.{◌≤◌};
 ghost use Rattle.io.specs.Counts.{IsPrefixLen};
 
-use libc::STDOUT_FILENO;
 use recording_printout::{NUMBERS, print_last, print_replay};
+use std::io::Read;
+use std::rt::Files;
+use std::{env, fs};
+
+// The number of standard output.
+const STDOUT_FILENO: i32 = 1;
 
 // The most room that a digit says.
 const LITTLE: usize = 9;
@@ -22,17 +27,31 @@ fn print_named(word: &[u8], n: u64) {
     io::write_all(STDOUT_FILENO, b"\n");
 }
 
-// The bytes of the file that a path names, put at the start of a buffer: how many. A missing file is said in a line.
-fn load(path: &[u8], bytes: &mut [u8]) -> usize
+// Reads a file until the room is full, the file ends or a read fails: how many bytes were put at the start of the buffer.
+fn fill(file: &mut impl Read, bytes: &mut [u8]) -> usize
     ensures { IsPrefixLen result bytes.new }
 {
-    let fd = os::open_read(path);
-    if fd < 0 {
-        io::write_all(STDOUT_FILENO, b"no such file\n");
+    let mut done = 0;
+    while done < bytes.len() {
+        match file.read(&mut bytes[done..]) {
+            Ok(0) | Err(_) => break,
+            Ok(n) => done += n,
+        }
     }
-    let n = io::read_full(fd, bytes);
-    libc::close(fd);
-    n
+    done
+}
+
+// The bytes of the file that a path names, put at the start of a buffer: how many. A missing file is said in a line.
+fn load(rt: &impl Files, path: &str, bytes: &mut [u8]) -> usize
+    ensures { IsPrefixLen result bytes.new }
+{
+    match fs::open(rt, path) {
+        Ok(mut file) => fill(&mut file, bytes),
+        Err(_) => {
+            io::write_all(STDOUT_FILENO, b"no such file\n");
+            0
+        }
+    }
 }
 
 // The printout of every beginning of a recording, the shortest first, each after a line with its length.
@@ -89,27 +108,24 @@ fn print_recording(s: &[u8], how: u8) {
 }
 
 // One argument: a word of one byte is kept for the next, and a name's recording is printed, with nothing kept.
-fn print_word(i: usize, how: u8) -> u8 {
-    let mut word = io::buffer();
-    let n = os::arg(i, &mut word);
-    if n == 1 {
-        return word[0];
+fn print_word(rt: &impl Files, word: &str, how: u8) -> u8 {
+    let name = word.as_bytes();
+    if name.len() == 1 {
+        return name[0];
     }
-    io::write_all(STDOUT_FILENO, &word[..n]);
+    io::write_all(STDOUT_FILENO, name);
     io::write_all(STDOUT_FILENO, b"\n");
     let mut bytes = io::large_buffer();
-    let size = load(&word[..n], &mut bytes);
+    let size = load(rt, word, &mut bytes);
     print_recording(&bytes[..size], how);
     0
 }
 
 // Every argument in turn.
-fn main() {
-    let n = os::arg_count();
+fn main(rt: HostRuntime) -> std::io::Result<()> {
     let mut how = 0;
-    let mut i = 1;
-    while i < n {
-        how = print_word(i, how);
-        i += 1;
+    for word in env::args(&rt)?.skip(1) {
+        how = print_word(&rt, word.as_str(), how);
     }
+    Ok(())
 }

@@ -1,8 +1,10 @@
 // The smallest use of the mailbox core: two tasks, and the second, less urgent, reads the first by a direct link.
 #![tactic(auto)]
 
-use libc::STDOUT_FILENO;
 use mailbox::{Answer, State};
+
+// The number of standard output.
+const STDOUT_FILENO: i32 = 1;
 
 // What the second task's read answers, where both arrive and the first finishes with 101; or the table's refusal.
 fn passed_on() -> Answer {

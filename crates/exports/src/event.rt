@@ -11,8 +11,7 @@ use mailbox_layout::{CONTROL, TIMES, VALUES};
 
 // One event given to a state under fixed priorities: 19 where the state isn't sound or has deadlines, then 11 for an unknown kind, then 12 to
 // 16, else it is done. A refusal leaves the three arrays as they were lent.
-#[unsafe(no_mangle)]
-pub extern "C" fn parnusild_event_32_96_66(
+pub fn parnusild_event_32_96_66(
     kind: u8,
     which: u32,
     value: u32,
@@ -32,8 +31,7 @@ pub extern "C" fn parnusild_event_32_96_66(
 
 // One event given to a state with deadlines at a tick: 19 where the state isn't sound or is one under fixed priorities, then 11, 12, 22, 21, 13
 // to 16 and 23 in this order, else it is done. No tick is ever made up: a state with deadlines takes no event without one.
-#[unsafe(no_mangle)]
-pub extern "C" fn parnusild_event_at_32_96_66(
+pub fn parnusild_event_at_32_96_66(
     tick: u32,
     kind: u8,
     which: u32,

@@ -13,8 +13,7 @@ use mailbox_layout::{CONTROL, TIMES, VALUES};
 
 // The fresh state of a table under fixed priorities: the refusal that the table earns, 0 for none, and its fresh state, else that of a single
 // task.
-#[unsafe(no_mangle)]
-pub extern "C" fn parnusild_fresh_32_96_66(
+pub fn parnusild_fresh_32_96_66(
     table_tasks: usize,
     table_links: usize,
     table_defaults: &[u32; TASKS],
@@ -44,8 +43,7 @@ pub extern "C" fn parnusild_fresh_32_96_66(
 }
 
 // The same under earliest deadline first: each task has a relative deadline besides, and one of 0 is 24, after 2 and before 3.
-#[unsafe(no_mangle)]
-pub extern "C" fn parnusild_fresh_dated_32_96_66(
+pub fn parnusild_fresh_dated_32_96_66(
     table_tasks: usize,
     table_links: usize,
     table_defaults: &[u32; TASKS],

@@ -7,12 +7,11 @@ use crate::parts::put_state;
 use mailbox_layout::{CONTROL, TIMES, VALUES};
 
 // Arrivals task by task, starts, reads, finishes.
-const COUNTS: usize = 4;
+pub const COUNTS: usize = 4;
 
 // The answer to a whole recording: the refusal, its place, the four counts and the state after the last accepted event; the numbers
 // read stand first in the lent list. Each entry of the lent recording is a byte: `bytes` hands that fact on, as the replay's does.
-#[unsafe(no_mangle)]
-pub extern "C" fn parnusild_replay_32_96_66(
+pub fn parnusild_replay_32_96_66(
     bytes: &[u8],
     numbers: &mut [u32],
     place: &mut usize,

@@ -3,8 +3,7 @@
 ghost use Rattle.std.specs.Prelude.{◌≡◌, length, drop};
 
 // How many bytes a replay leaves unread from its place on, the last of the recording: how long `recording::rest` is, 0 past the end.
-#[unsafe(no_mangle)]
-pub extern "C" fn parnusild_rest_32_96_66(bytes: &[u8], place: usize) -> usize
+pub fn parnusild_rest_32_96_66(bytes: &[u8], place: usize) -> usize
     ensures { result ≡ length (drop place bytes.now) }
 {
     recording::rest(bytes, place).len()

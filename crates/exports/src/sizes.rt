@@ -7,12 +7,11 @@ use mailbox_base::numbers::{LINKS, TASKS};
 use mailbox_layout::{CONTROL, TIMES, VALUES};
 
 // How many sizes there are.
-const SIZES: usize = 5;
+pub const SIZES: usize = 5;
 
 // The room of a state, so many tasks and links; the bytes of its control, and the numbers of its values and of its times. This call alone has no
 // room in its name: a host may ask any library for it.
-#[unsafe(no_mangle)]
-pub extern "C" fn parnusild_sizes(sizes: &mut [usize; SIZES])
+pub fn parnusild_sizes(sizes: &mut [usize; SIZES])
     ensures { sizes.new ≡ state_room.tasks ∷ state_room.links ∷ control_size ∷ value_size ∷ time_size ∷ [] }
 {
     *sizes = [TASKS, LINKS, CONTROL, VALUES, TIMES];

@@ -4,8 +4,7 @@ ghost use Rattle.exports.specs.Wrote.{Wrote};
 
 // Writes a recording of the kind that is told, 253, 254 or 255, from numbers: the refusal, 0 for none, and its place; for none, how many bytes were
 // written. Each number has 32 bits: `numbers` hands that fact on, as the writer's does.
-#[unsafe(no_mangle)]
-pub extern "C" fn parnusild_write_32_96_66(
+pub fn parnusild_write_32_96_66(
     kind: u32,
     tasks: &[u32],
     links: &[u32],

@@ -1,8 +1,10 @@
 // Reads a recording from standard input, and prints all that its replay answers with.
 #![tactic(auto)]
 
-use libc::STDIN_FILENO;
 use recording_printout::{BYTES, NUMBERS, print_inspect};
+
+// The number of standard input.
+const STDIN_FILENO: i32 = 0;
 
 // Reads until the room is full or the input ends, and prints.
 fn main() {

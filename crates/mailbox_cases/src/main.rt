@@ -16,8 +16,11 @@ mod same;
 mod script;
 mod show;
 
+// The number of standard input.
+const STDIN_FILENO: i32 = 0;
+
 fn main() {
     let mut script = io::large_buffer();
-    let n = io::read_full(libc::STDIN_FILENO, &mut script);
+    let n = io::read_full(STDIN_FILENO, &mut script);
     script::play(&script[..n]);
 }

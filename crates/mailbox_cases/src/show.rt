@@ -1,9 +1,11 @@
 // What is printed of tables, states and answers.
 use crate::same::{entry_of, same, same_step, same_table, size_of};
-use libc::STDOUT_FILENO;
 use mailbox::{Made, State, Step};
 use mailbox_base::numbers::POSITIONS;
 use mailbox_event::{Event, When, policy_for};
+
+// The number of standard output.
+const STDOUT_FILENO: i32 = 1;
 
 pub(crate) fn text(s: &[u8]) {
     io::write_all(STDOUT_FILENO, s);

@@ -1,8 +1,10 @@
 // Reads an old station's settings list from standard input, and prints its settings or why it is refused.
 #![tactic(auto)]
 
-use libc::STDIN_FILENO;
 use settings_printout::{BYTES, print_migration};
+
+// The number of standard input.
+const STDIN_FILENO: i32 = 0;
 
 // Reads until the room is full or the input ends, and prints.
 fn main() {

@@ -8,11 +8,15 @@
 
 ghost use Rattle.std.specs.Prelude.{◌≤◌};
 
-use libc::{STDIN_FILENO, STDOUT_FILENO};
 use recording_lines::put_refused;
 use settings::{SETTINGS, Slot, Written, write_back};
 use settings_printout::print_migration;
 use text_line::{Line, ROOM, show};
+
+// The number of standard input, and of standard output.
+const STDIN_FILENO: i32 = 0;
+
+const STDOUT_FILENO: i32 = 1;
 
 // A list and a buffer have at most so many bytes: more than the longest list has.
 const MOST: usize = 600;

@@ -1,8 +1,10 @@
 // Reads the text form of a recording from standard input, and writes the recording, or tells why there is none.
 #![tactic(auto)]
 
-use libc::STDIN_FILENO;
 use record_printout::{TEXT, print_recording};
+
+// The number of standard input.
+const STDIN_FILENO: i32 = 0;
 
 // Room for the longest text and one byte more, so that a longer one is seen. It comes from a function of its own, so that no proof counts it.
 fn room() -> [u8; TEXT + 1] {

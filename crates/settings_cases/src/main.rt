@@ -11,8 +11,11 @@ mod make;
 mod script;
 mod show;
 
+// The number of standard input.
+const STDIN_FILENO: i32 = 0;
+
 fn main() {
     let mut script = io::large_buffer();
-    let n = io::read_full(libc::STDIN_FILENO, &mut script);
+    let n = io::read_full(STDIN_FILENO, &mut script);
     script::play(&script[..n]);
 }

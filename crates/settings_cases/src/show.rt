@@ -1,7 +1,9 @@
 // What is printed of answers.
-use libc::STDOUT_FILENO;
 use lists::few;
 use settings::{SETTINGS, Setting, Slot, migrate, write_back};
+
+// The number of standard output.
+const STDOUT_FILENO: i32 = 1;
 
 // The most room that a buffer has: more than the longest list.
 pub const MOST: usize = 600;
