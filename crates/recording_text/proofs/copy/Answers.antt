@@ -1,0 +1,22 @@
+-- `recording_text::copy` meets its contract. The loop's invariant: the buffer is the old one with the first i of the numbers pasted in. The measure is what is left of n.
+-- Assumes nothing.
+use mathlib.Core.Path.{◌≡◌, refl, ap, ◌∙◌}
+use native.Mathlib.Omega.{arith}
+use lib.ListN.{length-set}
+use lib.Seq.{paste, paste-zero}
+use Rattle.recording_text.proofs.Stores.{copy_turn}
+use Rattle.recording_text.proofs.copy.Goals as goal
+
+pub loop-i-init : goal.loop-i-init
+loop-i-init c = (omega arith, (refl, paste-zero c.args.out.now c.args.at c.args.numbers.now))
+
+pub loop-i-preserved : goal.loop-i-preserved
+loop-i-preserved c = let a = c.args in
+    let l = c.loop-i in (
+      omega arith,
+      (simp length-set l.invariant.1.0, copy_turn a.out.now a.at a.numbers.now l.i (omega arith) (omega arith) l.invariant.1.1),
+    )
+
+pub returns : goal.returns
+returns c = let e : c.loop-i.i ≡ c.args.n = omega arith in
+    c.loop-i.invariant.1.1 ∙ ap (paste c.args.out.now c.args.at c.args.numbers.now) e
