@@ -1,4 +1,4 @@
--- `recording_lines::with_cells` meets its contract: after i turns the first i cells are there.
+-- `recording_lines::with_cells` meets its contract: each turn joins one cell more.
 -- Assumes nothing.
 use native.Mathlib.Omega.{arith}
 use borrow.Author.Rules.{rules}

@@ -1,4 +1,4 @@
--- `recording_lines::with_cells` meets its contract: after i turns the first i cells are there.
+-- Of `recording_lines::with_cells` the loop's invariant: after i turns the first i cells are there. The measure is how many are left.
 -- Assumes nothing.
 use mathlib.Core.Path.{◌≡◌}
 use Prim.Native.Nat.{◌≤◌, ◌-◌}

@@ -1,5 +1,4 @@
--- `settings_list::read_entries` meets its contract. The loop's invariant: the slots hold the settings taken so far, and what is left of the list is read from the place on.
--- The measure is how many entries are left.
+-- `settings_list::read_entries` meets its contract: each entry is taken into its slot or refused, and then the bytes are at their end or not.
 -- Assumes nothing.
 use mathlib.Core.Path.{◌≡◌, refl, sym, ap, ◌∙◌}
 use mathlib.Core.List.{[], ◌∷◌, ◌++◌}

@@ -1,4 +1,4 @@
--- `settings_list::read_entries` meets its contract. The loop's invariant: the slots hold the settings taken so far, and what is left of the list is read from the place on.
+-- Of `settings_list::read_entries` the loop's invariant: the slots hold the settings taken so far, and what is left of the list is read from the place on.
 -- The measure is how many entries are left.
 -- Assumes nothing.
 use mathlib.Core.Path.{◌≡◌}

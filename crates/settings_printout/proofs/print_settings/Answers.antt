@@ -1,4 +1,4 @@
--- `settings_printout::print_settings` is safe and ends: what is left of the settings falls, and each of them may stand in a list.
+-- `settings_printout::print_settings` is safe: each of the settings may stand in a list.
 -- Assumes nothing.
 use mathlib.Core.Path.{ap, ◌∙◌}
 use Prim.Native.Nat.{◌<◌}

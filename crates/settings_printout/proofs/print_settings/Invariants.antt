@@ -1,4 +1,4 @@
--- `settings_printout::print_settings` is safe and ends: what is left of the settings falls, and each of them may stand in a list.
+-- Of `settings_printout::print_settings` the loop's invariant: i is at most n. The measure is how many settings are left.
 -- Assumes nothing.
 use Prim.Native.Nat.{◌-◌, ◌≤◌}
 use Rattle.settings_printout.proofs.print_settings.Given as goal

@@ -1,4 +1,4 @@
--- `text_line::copy` meets its contract. The loop's invariant: the buffer is the old one with the first i bytes of the text pasted in. The measure is what is left of n.
+-- `text_line::copy` meets its contract: each turn pastes one byte more, and at the end all n are in.
 -- Assumes nothing.
 use mathlib.Core.Path.{◌≡◌, refl, ap, ◌∙◌}
 use native.Mathlib.Omega.{arith}

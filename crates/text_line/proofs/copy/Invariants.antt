@@ -1,4 +1,4 @@
--- `text_line::copy` meets its contract. The loop's invariant: the buffer is the old one with the first i bytes of the text pasted in. The measure is what is left of n.
+-- Of `text_line::copy` the loop's invariant: the buffer is the old one with the first i bytes of the text pasted in. The measure is what is left of n.
 -- Assumes nothing.
 use mathlib.Core.Path.{◌≡◌}
 use Prim.Native.Nat.{◌≤◌, ◌-◌}

@@ -1,4 +1,4 @@
--- `settings::write::first_bad` meets its contract. The loop's invariant: the first i settings are good, and such as a machine holds. The measure is how many are left.
+-- `settings::write::first_bad` meets its contract: a turn finds a bad setting, or one more that is good and such as a machine holds.
 -- Assumes nothing.
 use mathlib.Core.Path.{◌≡◌, sym, ◌∙◌}
 use Prim.Native.Nat.{◌-◌, ◌<◌}

@@ -1,4 +1,4 @@
--- `settings::write::first_bad` meets its contract. The loop's invariant: the first i settings are good, and such as a machine holds. The measure is how many are left.
+-- Of `settings::write::first_bad` the loop's invariant: the first i settings are good, and such as a machine holds. The measure is how many are left.
 -- Assumes nothing.
 use mathlib.Core.Path.{◌≡◌}
 use Prim.Native.Nat.{ℕ, ◌-◌, ◌≤◌, ◌<◌}

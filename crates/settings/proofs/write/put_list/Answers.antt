@@ -1,5 +1,4 @@
--- `settings::write::put_list` meets its contract. The loop's invariant: the count and the first i entries stand at the start of the buffer, and its other bytes are as they were.
--- The measure is how many entries are left.
+-- `settings::write::put_list` meets its contract: the count is put first, and each turn puts the next entry behind those before it.
 -- Assumes nothing.
 use mathlib.Core.Path.{◌≡◌, refl}
 use native.Mathlib.Omega.{arith}

@@ -1,4 +1,4 @@
--- `settings::write::put_list` meets its contract. The loop's invariant: the count and the first i entries stand at the start of the buffer, and its other bytes are as they were.
+-- Of `settings::write::put_list` the loop's invariant: the count and the first i entries stand at the start of the buffer, and its other bytes are as they were.
 -- The measure is how many entries are left.
 -- Assumes nothing.
 use mathlib.Core.Path.{◌≡◌}
