@@ -18,7 +18,7 @@ overflow_sub-i c = omega (arith, c.loop-i-test.true)
 pub overflow_mul-n : goal.overflow_mul-n
 overflow_mul-n c = let a = c.args in
     let l = c.loop-i in
-    record { fits = omega (arith, room_for_byte a.s.now a.at (min a.w 8) l.i c.loop-i-test.true l.invariant.0.0 (λ j. omega (arith, c.shared_slice_known-1.given j)) (omega arith) l.invariant.1) }
+    omega (arith, room_for_byte a.s.now a.at (min a.w 8) l.i c.loop-i-test.true l.invariant.0.0 (λ j. omega (arith, c.type_inv.s j)) (omega arith) l.invariant.1)
 
 pub bounds-s-at : goal.bounds-s-at
 bounds-s-at c = omega (arith, c.loop-i-test.true)
@@ -26,9 +26,9 @@ bounds-s-at c = omega (arith, c.loop-i-test.true)
 pub overflow_add-n : goal.overflow_add-n
 overflow_add-n c = let a = c.args in
     let l = c.loop-i in
-    let k = c.shared_slice_known-in-loop-i-1.given in
+    let k = c.type_inv.s in
     let b = k (a.at + (l.i - 1)) in
-    record { fits = omega (arith, c.wide.ensures, room_for_byte a.s.now a.at (min a.w 8) l.i c.loop-i-test.true l.invariant.0.0 (λ j. omega (arith, k j)) (omega arith) l.invariant.1) }
+    omega (arith, c.wide.ensures, room_for_byte a.s.now a.at (min a.w 8) l.i c.loop-i-test.true l.invariant.0.0 (λ j. omega (arith, k j)) (omega arith) l.invariant.1)
 
 pub loop-i-smaller : goal.loop-i-smaller
 loop-i-smaller c = omega (arith, c.loop-i-test.true)
