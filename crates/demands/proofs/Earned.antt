@@ -84,7 +84,8 @@ InTurn k (t ∷ ts) = (k < turn t.number) × InTurn (turn t.number) ts
 
 fires_above : {k n : ℕ} (ts : List Test) → InTurn k ts → Fires ts n → k < turn n
 fires_above (t ∷ ts) r (here e) = r.0
-fires_above (t ∷ ts) r (later f) = omega (arith, r.0, fires_above ts r.1 f)
+fires_above {k = k} {n = n} (t ∷ ts) r (later f) = omega (arith, r.0, fires_above {k = turn t.number} {n = n} ts r.1 f)
+fires_above {k = k} {n = n} [] r past = elim past [ ]
 
 fires_nothing : {n : ℕ} → Fires [] n → ⊥
 fires_nothing = elim [ ]

@@ -119,6 +119,10 @@ module _ (T : Table ℕ) (stands : Standing) (x : ℕ) where
   fires_others (finish t v) (here e) = finishes_not_running (not_false e)
   fires_others (finish t v) (later (here e)) = let w = waits t e in finishes_out_of_turn w.0 w.1 w.2 w.3
   fires_others (finish t v) (later (later (here e))) = finishes_late (ltb-true _ _ e)
+  fires_others (arrival m) {n = n} (later past) = elim past [ ]
+  fires_others (start t) {n = n} (later (later past)) = elim past [ ]
+  fires_others (read l) {n = n} (later (later past)) = elim past [ ]
+  fires_others (finish t v) {n = n} (later (later (later past))) = elim past [ ]
 
   fires_broken : (e : Event ℕ) {n : ℕ} → Fires (tests e) n → EventBreaks T stands x e n
   fires_broken e (here i) = fires_unknown e i

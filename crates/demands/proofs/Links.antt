@@ -88,6 +88,7 @@ module _ (ds : List Task) (ls : List Link) (l : Link) where
       ninth (and_left (ahead_of ds l.writer l.reader) _ e) (leb-true 8 _ (and_right (ahead_of ds l.writer l.reader) _ e))
   fires_broken (later (later (later (later (later (later (here e))))))) =
       starts_direct (eqb-true _ _ (and_left (eqb l.kind 0) _ e)) (eqb-false l.start_value 0 (not-true _ (and_right (eqb l.kind 0) _ e)))
+  fires_broken {n = n} (later (later (later (later (later (later (later past))))))) = elim past [ ]
 
   -- what the reader of a recording computes after the links ls is what the link earns
   pub link_earned : Earns (LinkBreaks ds ls l) (link_fault (ahead_of ds) (length ds) ls l)

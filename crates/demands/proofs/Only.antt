@@ -20,7 +20,6 @@ use Rattle.recording_core.specs.Playing.{Playing, core_of}
 use Rattle.protocol_state.specs.Fresh as fresh
 use Rattle.mailbox.specs.States.{saved, IsWhole}
 use Rattle.mailbox.proofs.Packed.{saved_packed, saved_same}
-use Rattle.mailbox.specs.declared.Made.{Made}
 use Rattle.recording.specs.Answers.{replied}
 use Rattle.recording.specs.declared.Answer.{Answer}
 use Rattle.lists.specs.Lists.{count}

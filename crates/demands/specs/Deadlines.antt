@@ -1,17 +1,16 @@
 -- Request 2026-07, earliest deadline first: a field for each sentence that no field of the demands says already. proofs/Deadlines.antt has `deadlines`. The demands
 -- are those of both policies: what could happen is `PossibleAt`, and fixed priorities are its case of zeros.
 -- Assumes nothing.
-use Rattle.std.specs.Prelude.{◌≡◌, ◌↔◌, true, false, List, [], ◌∷◌, ℕ, ◌+◌, ◌≤◌, ◌<◌, ltb}
+use Rattle.std.specs.Prelude.{◌≡◌, ◌↔◌, true, false, List, ℕ, ◌+◌, ◌≤◌, ◌<◌, ltb}
 use Rattle.protocol.specs.Event.{Event}
 use Rattle.protocol.specs.Table.{Table}
-use Rattle.protocol.specs.History.{active, stamp, past}
+use Rattle.protocol.specs.History.{active}
 use Rattle.protocol.specs.Schedule.{urgent, Possible, AllPossible}
-use Rattle.protocol_deadlines.specs.Deadline.{smaller, ByDeadline, Fixed, earliest}
+use Rattle.protocol_deadlines.specs.Deadline.{smaller, ByDeadline, Fixed}
 use Rattle.protocol_deadlines.specs.Timed.{Timed, untimed, still, ticks, since, Rising, AllInTime, earliest_at, PossibleAt, AllPossibleAt}
 use Rattle.mailbox.specs.declared.State.{State}
-use Rattle.mailbox.specs.declared.Step.{Step}
-use Rattle.demands.specs.States.{IsSound, policy_in}
-use Rattle.demands.specs.Calls.{Gives, Calls}
+use Rattle.demands.specs.States.{policy_in}
+use Rattle.demands.specs.Calls.{Calls}
 
 pub record Deadlines : Type 0 where
   -- ""Ahead" for links means smaller relative deadline, then earlier in the table."

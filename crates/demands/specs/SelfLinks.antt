@@ -2,7 +2,7 @@
 -- proofs/SelfLinks.antt has `self_links`. Soundness and demands 2 and 3 speak of all links, so of these too; here is what they come to.
 -- Assumes nothing.
 use Rattle.std.specs.Prelude.{◌≡◌, ◌≢◌, ◌↔◌, true, false, List, [], ◌∷◌, ◌++◌, ℕ, suc, ◌+◌, ◌≤◌, ◌<◌, length}
-use Rattle.protocol.specs.Event.{Event, arrival, has}
+use Rattle.protocol.specs.Event.{arrival, has}
 use Rattle.protocol.specs.Table.{Table, N}
 use Rattle.protocol.specs.History.{arrivals, finishes}
 use Rattle.protocol.specs.Published.{Boxes, Free}
