@@ -11,7 +11,7 @@
  * Refusals are numbers: 0 is none, 1 to 24 are explained in docs/REFUSALS.md. docs/FORMAT.md has the rules of a table, of events and of
  * a recording.
  *
- * Link with the library that `tools/native-staticlib exports` writes, for the machine at hand. A host that was built for states with room for
+ * Link with the library that `tools/native-staticlib exports` writes, for x86-64 Linux. A host that was built for states with room for
  * other numbers of tasks and links, or without times, does not link with it.
  */
 #ifndef PARNUSILD_H
