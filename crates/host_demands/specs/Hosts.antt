@@ -3,7 +3,7 @@
 -- Assumes nothing.
 use Rattle.std.specs.Prelude.{◌≡◌, ◌≢◌, List, [], ◌∷◌, ℕ, ◌-◌, ◌≤◌, length, drop}
 use contract.Lifetimes.{Lfts}
-use Rattle.std.specs.Borrow.{Bor}
+use Rattle.std.specs.Borrow.{MutBor}
 use denote.Triple.Clauses.{AtExit}
 use borrow.Fn.Kinds.{Dens, res_t, ended_of}
 use Rattle.protocol.specs.Event.{Event, arrival, start, read, finish}
@@ -86,10 +86,10 @@ pub record HostAsksNothing : Type 0 where
 
 -- a lent number, a lent list
 abbrev pub Number : Type 0
-Number = Bor ℕ
+Number = MutBor ℕ
 
 abbrev pub Numbers : Type 0
-Numbers = Bor (List ℕ)
+Numbers = MutBor (List ℕ)
 
 -- the three arrays of a state, lent one after the other: control, values, times
 abbrev pub Arrays : Type 0
