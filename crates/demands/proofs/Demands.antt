@@ -73,9 +73,9 @@ asks_nothing = record {
   fresh_dated = λ κs lent. tt;
   arrival_at = λ κs lent. tt;
   start_at = λ κs lent. tt;
-  read_at_lem = λ κs lent. tt;
+  read_at = λ κs lent. tt;
   finish_at = λ κs lent. tt;
-  event_at_lem = λ κs lent. tt;
+  event_at = λ κs lent. tt;
 }
 
 -- what a caller learns of each call is what the demands take of it
@@ -92,9 +92,9 @@ tells = record {
   fresh_dated = λ κs lent m left. table_told m;
   arrival_at = λ κs lent r left. call_told lent.0 (ticked lent.1.0 (protocol.arrival lent.1.1.0)) r;
   start_at = λ κs lent r left. call_told lent.0 (ticked lent.1.0 (protocol.start lent.1.1.0)) r;
-  read_at_lem = λ κs lent r left. call_told lent.0 (ticked lent.1.0 (protocol.read lent.1.1.0)) r;
+  read_at = λ κs lent r left. call_told lent.0 (ticked lent.1.0 (protocol.read lent.1.1.0)) r;
   finish_at = λ κs lent r left. call_told lent.0 (ticked lent.1.0 (protocol.finish lent.1.1.0 lent.1.1.1.0)) r;
-  event_at_lem = λ κs lent r left. call_told lent.0 (ticked lent.1.0 (plain lent.1.1.0)) r;
+  event_at = λ κs lent r left. call_told lent.0 (ticked lent.1.0 (plain lent.1.1.0)) r;
 }
 
 -- ---- a table, under the policy p

@@ -29,7 +29,7 @@ use Rattle.mailbox.proofs.State.finish.Kinds as of_finish
 use Rattle.mailbox.proofs.State.finish.Reads as on_finish
 use Rattle.mailbox.proofs.State.finish_at.Kinds as of_finish_at
 use Rattle.mailbox.proofs.State.finish_at.Reads as on_finish_at
-use Rattle.mailbox.proofs.State.event.Kinds as of_event_lem
+use Rattle.mailbox.proofs.State.event.Kinds as of_event
 use Rattle.mailbox.proofs.State.event.Reads as on_event
 use Rattle.mailbox.proofs.State.event_at.Kinds as of_event_at
 use Rattle.mailbox.proofs.State.event_at.Reads as on_event_at
@@ -48,13 +48,13 @@ pub record AsksNothing : Type 0 where
   pub start : (κs : Lfts 0) (lent : Dens κs of_start.ps) → on_start.Asked κs lent
   pub read : (κs : Lfts 0) (lent : Dens κs of_read.ps) → on_read.Asked κs lent
   pub finish : (κs : Lfts 0) (lent : Dens κs of_finish.ps) → on_finish.Asked κs lent
-  pub event : (κs : Lfts 0) (lent : Dens κs of_event_lem.ps) → on_event.Asked κs lent
+  pub event : (κs : Lfts 0) (lent : Dens κs of_event.ps) → on_event.Asked κs lent
   pub fresh_dated : (κs : Lfts 0) (lent : Dens κs of_fresh_dated.ps) → on_fresh_dated.Asked κs lent
   pub arrival_at : (κs : Lfts 0) (lent : Dens κs of_arrival_at.ps) → on_arrival_at.Asked κs lent
   pub start_at : (κs : Lfts 0) (lent : Dens κs of_start_at.ps) → on_start_at.Asked κs lent
-  pub read_at_lem : (κs : Lfts 0) (lent : Dens κs of_read_at.ps) → on_read_at.Asked κs lent
+  pub read_at : (κs : Lfts 0) (lent : Dens κs of_read_at.ps) → on_read_at.Asked κs lent
   pub finish_at : (κs : Lfts 0) (lent : Dens κs of_finish_at.ps) → on_finish_at.Asked κs lent
-  pub event_at_lem : (κs : Lfts 0) (lent : Dens κs of_event_at.ps) → on_event_at.Asked κs lent
+  pub event_at : (κs : Lfts 0) (lent : Dens κs of_event_at.ps) → on_event_at.Asked κs lent
 
 -- `lent` are the arguments of a call, `left` is what they hold after it: a caller learns this, and that sound states stay sound, and no more
 pub record Tells : Type 0 where
@@ -72,7 +72,7 @@ pub record Tells : Type 0 where
       on_read.Learnt κs lent r left ↔ (Gives lent.0 (plainly (protocol.read lent.1.0)) r × (IsSound lent.0 → IsSound r.state))
   pub finish : (κs : Lfts 0) (lent : Dens κs of_finish.ps) (r : (res_t of_finish.r κs).Denot) (left : AtExit (ended_of 0 of_finish.ps of_finish.r) κs) →
       on_finish.Learnt κs lent r left ↔ (Gives lent.0 (plainly (protocol.finish lent.1.0 lent.1.1.0)) r × (IsSound lent.0 → IsSound r.state))
-  pub event : (κs : Lfts 0) (lent : Dens κs of_event_lem.ps) (r : (res_t of_event_lem.r κs).Denot) (left : AtExit (ended_of 0 of_event_lem.ps of_event_lem.r) κs) →
+  pub event : (κs : Lfts 0) (lent : Dens κs of_event.ps) (r : (res_t of_event.r κs).Denot) (left : AtExit (ended_of 0 of_event.ps of_event.r) κs) →
       on_event.Learnt κs lent r left ↔ (Gives lent.0 (plainly (plain lent.1.0)) r × (IsSound lent.0 → IsSound r.state))
   pub fresh_dated : (κs : Lfts 0) (lent : Dens κs of_fresh_dated.ps) (m : (res_t of_fresh_dated.r κs).Denot) (left : AtExit (ended_of 0 of_fresh_dated.ps of_fresh_dated.r) κs) →
       on_fresh_dated.Learnt κs lent m left ↔ (Makes 1 lent.0 lent.1.0 lent.1.1.0 lent.1.1.1.0 lent.1.1.1.1.0 lent.1.1.1.1.1.0 lent.1.1.1.1.1.1.0 lent.1.1.1.1.1.1.1.0 m × IsSound m.state)
@@ -80,9 +80,9 @@ pub record Tells : Type 0 where
       on_arrival_at.Learnt κs lent r left ↔ (Gives lent.0 (ticked lent.1.0 (protocol.arrival lent.1.1.0)) r × (IsSound lent.0 → IsSound r.state))
   pub start_at : (κs : Lfts 0) (lent : Dens κs of_start_at.ps) (r : (res_t of_start_at.r κs).Denot) (left : AtExit (ended_of 0 of_start_at.ps of_start_at.r) κs) →
       on_start_at.Learnt κs lent r left ↔ (Gives lent.0 (ticked lent.1.0 (protocol.start lent.1.1.0)) r × (IsSound lent.0 → IsSound r.state))
-  pub read_at_lem : (κs : Lfts 0) (lent : Dens κs of_read_at.ps) (r : (res_t of_read_at.r κs).Denot) (left : AtExit (ended_of 0 of_read_at.ps of_read_at.r) κs) →
+  pub read_at : (κs : Lfts 0) (lent : Dens κs of_read_at.ps) (r : (res_t of_read_at.r κs).Denot) (left : AtExit (ended_of 0 of_read_at.ps of_read_at.r) κs) →
       on_read_at.Learnt κs lent r left ↔ (Gives lent.0 (ticked lent.1.0 (protocol.read lent.1.1.0)) r × (IsSound lent.0 → IsSound r.state))
   pub finish_at : (κs : Lfts 0) (lent : Dens κs of_finish_at.ps) (r : (res_t of_finish_at.r κs).Denot) (left : AtExit (ended_of 0 of_finish_at.ps of_finish_at.r) κs) →
       on_finish_at.Learnt κs lent r left ↔ (Gives lent.0 (ticked lent.1.0 (protocol.finish lent.1.1.0 lent.1.1.1.0)) r × (IsSound lent.0 → IsSound r.state))
-  pub event_at_lem : (κs : Lfts 0) (lent : Dens κs of_event_at.ps) (r : (res_t of_event_at.r κs).Denot) (left : AtExit (ended_of 0 of_event_at.ps of_event_at.r) κs) →
+  pub event_at : (κs : Lfts 0) (lent : Dens κs of_event_at.ps) (r : (res_t of_event_at.r κs).Denot) (left : AtExit (ended_of 0 of_event_at.ps of_event_at.r) κs) →
       on_event_at.Learnt κs lent r left ↔ (Gives lent.0 (ticked lent.1.0 (plain lent.1.1.0)) r × (IsSound lent.0 → IsSound r.state))

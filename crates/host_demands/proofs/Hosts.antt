@@ -29,14 +29,14 @@ use Rattle.mailbox_call.specs.Calls.{Request, known, unknown, requested, handed_
 use Rattle.host_demands.specs.Hosts.{HostGives, HostReplays, HostWrites, HostRests, HostAsksNothing, HostTells, HostSays, an_arrival, a_start, a_read, a_finish, Holds, IsFor, host_answer, last_of, Hosts}
 
 host_asks : HostAsksNothing
-host_asks = record { fresh = λ κs lent. tt; fresh_dated = λ κs lent. tt; event = λ κs lent. tt; event_at_lem = λ κs lent. tt; replay = λ κs lent. tt; write = λ κs lent. tt; rest = λ κs lent. tt; sizes = λ κs lent. tt }
+host_asks = record { fresh = λ κs lent. tt; fresh_dated = λ κs lent. tt; event = λ κs lent. tt; event_at = λ κs lent. tt; replay = λ κs lent. tt; write = λ κs lent. tt; rest = λ κs lent. tt; sizes = λ κs lent. tt }
 
 host_tells : HostTells
 host_tells = record {
   fresh = λ κs lent r left learnt. learnt;
   fresh_dated = λ κs lent r left learnt. learnt;
   event = λ κs lent r left learnt. (learnt.0, λ n. let k = learnt.1 n in record { control = k.0; values = k.1.0; times = k.1.1 });
-  event_at_lem = λ κs lent r left learnt. (learnt.0, λ n. let k = learnt.1 n in record { control = k.0; values = k.1.0; times = k.1.1 });
+  event_at = λ κs lent r left learnt. (learnt.0, λ n. let k = learnt.1 n in record { control = k.0; values = k.1.0; times = k.1.1 });
   replay = λ κs lent r left learnt. learnt;
   write = λ κs lent r left learnt. learnt;
   rest = λ κs lent n left learnt. learnt;

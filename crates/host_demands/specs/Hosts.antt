@@ -33,7 +33,7 @@ use Rattle.exports.proofs.fresh.parnusild_fresh_32_96_66.Kinds as of_fresh
 use Rattle.exports.proofs.fresh.parnusild_fresh_32_96_66.Reads as on_fresh
 use Rattle.exports.proofs.fresh.parnusild_fresh_dated_32_96_66.Kinds as of_fresh_dated
 use Rattle.exports.proofs.fresh.parnusild_fresh_dated_32_96_66.Reads as on_fresh_dated
-use Rattle.exports.proofs.event.parnusild_event_32_96_66.Kinds as of_event_lem
+use Rattle.exports.proofs.event.parnusild_event_32_96_66.Kinds as of_event
 use Rattle.exports.proofs.event.parnusild_event_32_96_66.Reads as on_event
 use Rattle.exports.proofs.event.parnusild_event_at_32_96_66.Kinds as of_event_at
 use Rattle.exports.proofs.event.parnusild_event_at_32_96_66.Reads as on_event_at
@@ -77,8 +77,8 @@ HostRests s m n = n ≡ length (drop m s)
 pub record HostAsksNothing : Type 0 where
   pub fresh : (κs : Lfts 10) (lent : Dens κs of_fresh.ps) → on_fresh.Asked κs lent
   pub fresh_dated : (κs : Lfts 11) (lent : Dens κs of_fresh_dated.ps) → on_fresh_dated.Asked κs lent
-  pub event : (κs : Lfts 4) (lent : Dens κs of_event_lem.ps) → on_event.Asked κs lent
-  pub event_at_lem : (κs : Lfts 4) (lent : Dens κs of_event_at.ps) → on_event_at.Asked κs lent
+  pub event : (κs : Lfts 4) (lent : Dens κs of_event.ps) → on_event.Asked κs lent
+  pub event_at : (κs : Lfts 4) (lent : Dens κs of_event_at.ps) → on_event_at.Asked κs lent
   pub replay : (κs : Lfts 9) (lent : Dens κs of_replay.ps) → on_replay.Asked κs lent
   pub write : (κs : Lfts 5) (lent : Dens κs of_write.ps) → on_write.Asked κs lent
   pub rest : (κs : Lfts 1) (lent : Dens κs of_rest.ps) → on_rest.Asked κs lent
@@ -124,13 +124,13 @@ pub record HostTells : Type 0 where
       HostMakes 1 lent.0 lent.1.0 lent.1.1.0.now lent.1.1.1.0.now lent.1.1.1.1.0.now lent.1.1.1.1.1.0.now
       lent.1.1.1.1.1.1.0.now lent.1.1.1.1.1.1.1.0.now r (state_in left.1.1.1.1.1.1.1.1)
   -- and a refusal leaves the three arrays as they were lent
-  pub event : (κs : Lfts 4) (lent : Dens κs of_event_lem.ps) (r : (res_t of_event_lem.r κs).Denot) (left : AtExit (ended_of 4 of_event_lem.ps of_event_lem.r) κs) →
+  pub event : (κs : Lfts 4) (lent : Dens κs of_event.ps) (r : (res_t of_event.r κs).Denot) (left : AtExit (ended_of 4 of_event.ps of_event.r) κs) →
       on_event.Learnt κs lent r left →
       let state = state_with lent.1.1.1.1.0 lent.1.1.1.1.1.0 in
       let before = lent.1.1.1.1.1.1 in
       let after = left.1.1.1.1.1.1 in
       HostGives Untimed (state before) lent.0 lent.1.0 lent.1.1.0 r left.1.1.1.0.now (state after) × (r ≢ 0 → Untouched before after)
-  pub event_at_lem : (κs : Lfts 4) (lent : Dens κs of_event_at.ps) (r : (res_t of_event_at.r κs).Denot) (left : AtExit (ended_of 4 of_event_at.ps of_event_at.r) κs) →
+  pub event_at : (κs : Lfts 4) (lent : Dens κs of_event_at.ps) (r : (res_t of_event_at.r κs).Denot) (left : AtExit (ended_of 4 of_event_at.ps of_event_at.r) κs) →
       on_event_at.Learnt κs lent r left →
       let state = state_with lent.1.1.1.1.1.0 lent.1.1.1.1.1.1.0 in
       let before = lent.1.1.1.1.1.1.1 in

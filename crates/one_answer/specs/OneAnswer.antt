@@ -40,7 +40,7 @@ use Rattle.mailbox.proofs.State.finish.Kinds as of_finish
 use Rattle.mailbox.proofs.State.finish.Reads as on_finish
 use Rattle.mailbox.proofs.State.finish_at.Kinds as of_finish_at_tick
 use Rattle.mailbox.proofs.State.finish_at.Reads as on_finish_at_tick
-use Rattle.mailbox.proofs.State.event.Kinds as of_event_lem
+use Rattle.mailbox.proofs.State.event.Kinds as of_event
 use Rattle.mailbox.proofs.State.event.Reads as on_event
 use Rattle.mailbox.proofs.State.event_at.Kinds as of_event_at_tick
 use Rattle.mailbox.proofs.State.event_at.Reads as on_event_at_tick
@@ -152,7 +152,7 @@ pub record OneAnswer : Type 0 where
   pub read_at_tick : One 0 of_read_at_tick.ps of_read_at_tick.r on_read_at_tick.Learnt Step (λ κs s left. s)
   pub finish : One 0 of_finish.ps of_finish.r on_finish.Learnt Step (λ κs s left. s)
   pub finish_at_tick : One 0 of_finish_at_tick.ps of_finish_at_tick.r on_finish_at_tick.Learnt Step (λ κs s left. s)
-  pub event : One 0 of_event_lem.ps of_event_lem.r on_event.Learnt Step (λ κs s left. s)
+  pub event : One 0 of_event.ps of_event.r on_event.Learnt Step (λ κs s left. s)
   pub event_at_tick : One 0 of_event_at_tick.ps of_event_at_tick.r on_event_at_tick.Learnt Step (λ κs s left. s)
   pub sound : One 0 of_sound.ps of_sound.r on_sound.Learnt Bool (λ κs b left. b)
   pub single : One 0 of_single.ps of_single.r on_single.Learnt State (λ κs q left. q)
@@ -180,8 +180,8 @@ pub record OneAnswer : Type 0 where
   pub read_event : One 1 of_read_event.ps of_read_event.r on_read_event.Learnt Next (λ κs n left. n)
   pub read_tickless : One 1 of_read_tickless.ps of_read_tickless.r on_read_tickless.Learnt Next (λ κs n left. n)
   pub event_in : One 1 of_event_in.ps of_event_in.r on_event_in.Learnt Next (λ κs n left. n)
-  pub head_size_lem : One 0 of_head_size.ps of_head_size.r on_head_size.Learnt ℕ (λ κs n left. n)
-  pub kind_of_lem : One 0 of_kind_of.ps of_kind_of.r on_kind_of.Learnt Found (λ κs f left. f)
+  pub head_size : One 0 of_head_size.ps of_head_size.r on_head_size.Learnt ℕ (λ κs n left. n)
+  pub kind_of : One 0 of_kind_of.ps of_kind_of.r on_kind_of.Learnt Found (λ κs f left. f)
   pub refused : One 0 of_refused.ps of_refused.r on_refused.Learnt Next (λ κs n left. n)
   pub number_of : One 0 of_number_of.ps of_number_of.r on_number_of.Learnt ℕ (λ κs n left. n)
   -- `recording_table`
@@ -190,7 +190,7 @@ pub record OneAnswer : Type 0 where
   pub new : (bytes : Bor (List ℕ)) (at : ℕ) (w w' : Walker) → WalksFrom bytes at w → WalksFrom bytes at w' → w ≡ w'
   pub next : (w : Walker) (n n' : Next) → WalksTo w n → WalksTo w n' → n ≡ n'
   pub walk_rest : (w : Walker) (part part' : Bor (List ℕ)) → WalksLeft w part → WalksLeft w part' → part.now ≡ part'.now
-  pub event_at_lem : One 1 of_event_at.ps of_event_at.r on_event_at.Learnt Next (λ κs n left. n)
+  pub event_at : One 1 of_event_at.ps of_event_at.r on_event_at.Learnt Next (λ κs n left. n)
   -- `recording_write`: the answer, and the lent buffer
   pub write : One 4 of_write.ps of_write.r on_write.Learnt (writer.Written × List ℕ) (λ κs a left. (a, left.1.1.1.1.0.now))
   -- `settings`: the answer, and the lent buffer
