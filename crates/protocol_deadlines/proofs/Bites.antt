@@ -19,7 +19,7 @@ use Rattle.protocol.specs.Instant.{upward}
 use Rattle.protocol.proofs.Schedule.{all_judged, all_judged_lem}
 use Rattle.protocol.proofs.Upward.{upward_order}
 use Rattle.protocol_deadlines.specs.Deadline.{ahead_by, ByDeadline}
-use Rattle.protocol_deadlines.specs.Timed.{Timed, timed, untimed, still, PossibleAt, AllPossibleAt}
+use Rattle.protocol_deadlines.specs.Timed.{Timed, untimed, still, PossibleAt, AllPossibleAt}
 use Rattle.protocol_deadlines.specs.Answering.{Answerer, boxes_after, numbers_read, FollowsProtocol, ReadsZeroTime}
 use Rattle.protocol_deadlines.proofs.Orders.{smaller_tie}
 use Rattle.protocol_deadlines.proofs.Fixed.{untimed_still, fixed_possible}

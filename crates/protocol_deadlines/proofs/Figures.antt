@@ -6,13 +6,13 @@ use mathlib.Core.Bool.{Bool, true, false}
 use mathlib.Core.List.{List, [], ◌∷◌}
 use Prim.Native.Nat.{ℕ, zero, suc}
 use Rattle.lists.specs.Lists.{some, count, first}
-use Rattle.protocol.specs.Event.{Event, arrival, start, read, finish, has}
+use Rattle.protocol.specs.Event.{arrival, start, read, finish, has}
 use Rattle.protocol.specs.Table.{Table}
 use Rattle.protocol.specs.History.{arrivals, starts, finishes, clock, up_to}
 use Rattle.protocol.specs.Schedule.{judged}
 use Rattle.protocol.specs.Lowest.{boxes_of, numbers_of}
 use Rattle.protocol_deadlines.specs.Deadline.{smaller, ahead_by}
-use Rattle.protocol_deadlines.specs.Timed.{Timed, timed, untimed, last, ticks, late, tried, judged_at}
+use Rattle.protocol_deadlines.specs.Timed.{Timed, timed, untimed, last, ticks, late, judged_at}
 
 -- task 0 writes for task 1; their relative deadlines are d and e
 abbrev pair_deadlines : ℕ → ℕ → ℕ → ℕ

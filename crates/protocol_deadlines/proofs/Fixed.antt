@@ -13,7 +13,7 @@ use Rattle.protocol.specs.Table.{Table}
 use Rattle.protocol.specs.History.{active, clock, stamp}
 use Rattle.protocol.specs.Schedule.{urgent, AllPossible, judged}
 use Rattle.protocol_deadlines.specs.Deadline.{ahead_by, ByDeadline, Fixed, sooner}
-use Rattle.protocol_deadlines.specs.Timed.{untimed, still, last, ticks, InTime, late, earliest_at, AllPossibleAt, judged_at}
+use Rattle.protocol_deadlines.specs.Timed.{untimed, still, last, ticks, InTime, earliest_at, AllPossibleAt, judged_at}
 use Rattle.protocol_deadlines.proofs.Orders.{smaller_tie}
 use Rattle.protocol_deadlines.proofs.Turn.{some_same, possible_same, judged_same}
 use Rattle.protocol_deadlines.proofs.Timed.{in_time_late}

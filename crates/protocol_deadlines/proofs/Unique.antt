@@ -11,7 +11,7 @@ use Rattle.protocol.specs.Table.{Table, Lawful}
 use Rattle.protocol.specs.Published.{Same}
 use Rattle.protocol.proofs.Unique.{runs_same, number_same}
 use Rattle.protocol_deadlines.specs.Deadline.{ByDeadline}
-use Rattle.protocol_deadlines.specs.Timed.{Timed, timed, untimed, PossibleAt, AllPossibleAt}
+use Rattle.protocol_deadlines.specs.Timed.{Timed, timed, PossibleAt, AllPossibleAt}
 use Rattle.protocol_deadlines.specs.Answering.{SameResponse, Answerer, ReadsNothing, boxes_after, RefusesRightly, FollowsProtocol}
 use Rattle.protocol_deadlines.proofs.Answering.{answers_run}
 

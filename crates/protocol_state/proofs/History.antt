@@ -15,7 +15,7 @@ use Rattle.protocol.specs.Table.{Table}
 use Rattle.protocol.specs.Published.{Lowest, Step, number, numbers}
 use Rattle.protocol.specs.Published as published
 use Rattle.protocol_deadlines.specs.Deadline.{ByDeadline}
-use Rattle.protocol_deadlines.specs.Timed.{Timed, timed, untimed, PossibleAt, AllPossibleAt, judged_at}
+use Rattle.protocol_deadlines.specs.Timed.{timed, untimed, PossibleAt, AllPossibleAt, judged_at}
 use Rattle.protocol_deadlines.proofs.Timed.{judged_possible_at}
 use Rattle.protocol_state.specs.Records.{Task, Link, link_of, ahead_of}
 use Rattle.protocol_state.specs.Saved.{Size, Saved, table, boxes}

@@ -24,7 +24,7 @@ use Rattle.protocol_state.specs.Saved.{Size, Saved, Shape, at, delayed_kind, lin
 use Rattle.protocol_state.specs.Rules.{Obeys}
 use Rattle.protocol_state.specs.Decision.{decided}
 use Rattle.protocol_state.specs.Judge.{judged_arrival, judged_task, sooner_in, judged_on}
-use Rattle.protocol_state.specs.Next.{previous_at, seen_at, pointer_at, mark_at, phase_at, newest_at, freed_at, newest_after, previous_after, seen_after, pointer_after, mark_after, phase_after, arrived, started, freed_in, finished, next, since_at, since_after, next_at}
+use Rattle.protocol_state.specs.Next.{previous_at, seen_at, pointer_at, mark_at, phase_at, newest_at, freed_at, newest_after, previous_after, seen_after, pointer_after, mark_after, phase_after, started, freed_in, finished, since_at, since_after, next_at}
 use Rattle.protocol_state.specs.Sound.{Sound, Timely}
 use Rattle.protocol_state.proofs.Decision.{arrives_idle, starts_waiting, finishes_running}
 use Rattle.protocol_state.proofs.Places.{changed, arrival_allowed, task_allowed}

@@ -6,7 +6,7 @@ use mathlib.Core.Bool.{Bool, true, false, cond, not, ◌&&◌, ◌||◌}
 use mathlib.Core.List.{List}
 use Prim.Native.Nat.{ℕ, zero, suc, ◌+◌, ◌≤◌, ◌<◌}
 use native.Mathlib.Omega.{arith}
-use borrow.Author.Tests.{lt-leb, leb-false, lt-ltb, le-ltb, ltb-true, ltb-false, eqb-true, eqb-false, eq-eqb, ne_eqb, not-false}
+use borrow.Author.Tests.{lt-leb, leb-false, le-ltb, ltb-false, eqb-true, eqb-false, eq-eqb, ne_eqb, not-false}
 use lib.Dec.{eqb, ltb, leb}
 use Rattle.lists.specs.Lists.{some, count, leading}
 use Rattle.lists.proofs.Bools.{and_left, and_right, and_not, and_if, or_left, or_right, cond_zero}

@@ -4,7 +4,7 @@ use mathlib.Core.Path.{◌≡◌, ap, ◌∙◌}
 use mathlib.Core.Bool.{Bool}
 use Prim.Native.Nat.{ℕ, ◌+◌}
 use Rattle.lists.specs.Lists.{count}
-use Rattle.protocol.specs.History.{arrivals, finishes, active, counts}
+use Rattle.protocol.specs.History.{active, counts}
 use Rattle.protocol.proofs.Totals.{totals}
 use Rattle.protocol_deadlines.specs.Timed.{untimed, earliest_at}
 use Rattle.protocol_deadlines.proofs.Timed.{timed_possible}
