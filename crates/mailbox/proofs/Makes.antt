@@ -25,7 +25,7 @@ use Rattle.protocol_state.proofs.Records.{first_tasks_length, first_links_length
 use Rattle.protocol_state.proofs.Freshes.{judged_agrees, judged_dated, made_sound}
 use Rattle.protocol_state.proofs.Give.{called_sound}
 use Rattle.regions.specs.Regions.{region}
-use Rattle.mailbox_layout.specs.Layout.{cut, cut_values, cut_times, deadline_region, policy_region, deadline_in, policy_in, link_held, ahead_among, state_of}
+use Rattle.mailbox_layout.specs.Layout.{cut, cut_values, cut_times, deadline_region, policy_region, deadline_in, policy_in, link_held, state_of}
 use Rattle.mailbox_layout.specs.Fresh.{fresh_control, fresh_values, fresh_times}
 use Rattle.mailbox_layout.proofs.Whole.{filled_shape}
 use Rattle.mailbox_layout.proofs.Tables.{fresh_state, link_held_lem, order_held}

@@ -15,7 +15,7 @@ use Rattle.protocol_state.specs.Give.{reply, settled, Call, call_policy, call_ti
 use Rattle.protocol_state.specs.Sound.{is_sound}
 use Rattle.protocol_state.proofs.Sound.{sound_room}
 use Rattle.protocol_state.proofs.Give.{unsound, refused, give_unsound, give_refused}
-use Rattle.mailbox_event.specs.Plain.{plain, call_of, policy_for}
+use Rattle.mailbox_event.specs.Plain.{plain, call_of}
 use Rattle.mailbox_event.specs.declared.Event.{Event as Given}
 use Rattle.mailbox_event.specs.declared.When.{When}
 use Rattle.mailbox_event.specs.declared.When.TheVariants.{Untimed, At}

@@ -11,7 +11,7 @@ use Rattle.protocol_deadlines.specs.Deadline.{smaller}
 use Rattle.protocol_deadlines.specs.Timed.{tried}
 use Rattle.protocol_state.specs.Records.{earlier}
 use Rattle.protocol_state.specs.Saved.{Saved, at}
-use Rattle.protocol_state.specs.Judge.{judged_event, due_in, late_in, sooner_in, judged_on, judged_on_at}
+use Rattle.protocol_state.specs.Judge.{judged_event, due_in, late_in, sooner_in, judged_on_at}
 
 -- what the answer to the question for the policy p says
 pub is_dated_lem : (p : ℕ) → not (eqb p 0) ≡ true → p ≢ 0

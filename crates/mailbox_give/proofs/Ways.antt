@@ -1,14 +1,12 @@
 -- What is asked of a lent state, way by way: unsound or of the other policy, no event, refused, done.
 -- Assumes nothing.
 use mathlib.Core.Path.{◌≡◌, refl, sym, ap, ◌∙◌}
-use mathlib.Core.Logic.{◌≢◌, ⊎_elim}
+use mathlib.Core.Logic.{◌≢◌}
 use mathlib.Core.Bool.{Bool, true, false, not, ◌&&◌}
-use mathlib.Core.List.{List, [], ◌∷◌}
+use mathlib.Core.List.{List}
 use Prim.Native.Nat.{ℕ, ◌≤◌}
 use native.Mathlib.Omega.{arith}
 use borrow.Author.Tests.{not-true, eqb-true}
-use types.Run.{OneOf}
-use denote.Enum.Declared.{tag_of}
 use lib.Dec.{eqb}
 use Rattle.lists.proofs.Bools.{and_left, and_right, passed}
 use Rattle.protocol_state.specs.Saved.{Saved, state_room, ahead_in}
@@ -28,7 +26,6 @@ use Rattle.mailbox_call.specs.Calls.{sound_when}
 use Rattle.mailbox_call.specs.Replies.{heard, asked_number}
 use Rattle.mailbox_call.specs.declared.Asked.{Asked}
 use Rattle.mailbox_call.specs.declared.Asked.TheVariants.{Known, Outside, Unknown}
-use Rattle.mailbox_call.specs.contracts.Asked as A
 
 module _ (w : When) (q : Saved) where
   -- the call that hands an event over is for the states of its policy

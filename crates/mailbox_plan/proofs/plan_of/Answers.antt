@@ -4,7 +4,6 @@ use mathlib.Core.Path.{ap, ◌∙◌}
 use native.Mathlib.Omega.{arith}
 use lib.ListN.{length, length-set}
 use borrow.Author.Rules.{rules}
-use Rattle.protocol_state.specs.Saved.{at}
 use Rattle.mailbox_plan.proofs.Plans.{plan_none, plan_first, plan_more}
 use Rattle.mailbox_plan.proofs.plan_of.Goals as goal
 

@@ -6,7 +6,7 @@ use Rattle.protocol_state.specs.Saved.{state_room}
 use Rattle.protocol_state.specs.Give.{reply, given_to}
 use Rattle.mailbox_layout.specs.Layout.{state_of}
 use Rattle.mailbox_event.specs.Plain.{call_of}
-use Rattle.mailbox.specs.States.{saved, IsWhole, Gives}
+use Rattle.mailbox.specs.States.{saved, Gives}
 use Rattle.mailbox.proofs.Makes.{same_reply, stays}
 use Rattle.mailbox.proofs.State.handed.Goals as goal
 use Rattle.mailbox.proofs.State.handed.Goals.{in-Untimed, in-At}

@@ -3,7 +3,6 @@
 use mathlib.Core.Path.{◌∙◌}
 use native.Mathlib.Omega.{arith}
 use Rattle.mailbox_layout.specs.Layout.{writer_in}
-use Rattle.lists.specs.Lists.{count}
 use Rattle.lists.proofs.Lists.{count_none, count_more, count_end, count_le}
 use Rattle.lists.proofs.Bools.{cond_small}
 use Rattle.protocol_state.specs.Saved.{at}

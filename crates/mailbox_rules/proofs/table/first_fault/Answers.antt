@@ -6,7 +6,7 @@ use native.Mathlib.Nat.{le_antisymm}
 use native.Mathlib.Omega.{arith}
 use Rattle.lists.proofs.Lists.{leading_none, leading_more, leading_end}
 use Rattle.protocol_state.specs.Rules.{fault}
-use Rattle.protocol_state.specs.Saved.{at, state_room}
+use Rattle.protocol_state.specs.Saved.{state_room}
 use Rattle.protocol_state.proofs.Places.{zeros}
 use Rattle.mailbox_layout.specs.Layout.{link_held}
 use Rattle.mailbox_plan.proofs.Plans.{plan_first}
