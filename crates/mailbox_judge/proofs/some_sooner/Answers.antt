@@ -24,8 +24,8 @@ loop-u-preserved c = let h = c in
     let phases = l.phases_in-phase.result.now in (
       omega arith,
       elim c.if-is_active.branch [
-          then-is_active w ↦ w.found-is ∙ some_active (λ k. sooner_among a.times.now k a.t) (λ k. active_phase (at phases k)) _ h.is_active.ensures l.loop-u.invariant.1 w.if-is_active.true (rw d.due_at-due.ensures at w.is_sooner-found.ensures)
-          | else-is_active w ↦ w.found-is ∙ some_idle (λ k. sooner_among a.times.now k a.t) (λ k. active_phase (at phases k)) _ h.is_active.ensures l.loop-u.invariant.1 w.if-is_active.false
+        | then-is_active w ↦ w.found-is ∙ some_active (λ k. sooner_among a.times.now k a.t) (λ k. active_phase (at phases k)) _ h.is_active.ensures l.loop-u.invariant.1 w.if-is_active.true (rw d.due_at-due.ensures at w.is_sooner-found.ensures)
+        | else-is_active w ↦ w.found-is ∙ some_idle (λ k. sooner_among a.times.now k a.t) (λ k. active_phase (at phases k)) _ h.is_active.ensures l.loop-u.invariant.1 w.if-is_active.false
       ],
     )
 

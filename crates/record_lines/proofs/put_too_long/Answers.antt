@@ -5,4 +5,4 @@ use Rattle.record_lines.proofs.Lengths.{too_long_fits}
 use Rattle.record_lines.proofs.put_too_long.Goals as goal
 
 pub returns : goal.returns
-returns c =     whole _ c.empty.ensures too_long_fits (piece _ _ _ c.text-whole.ensures.shows c.put.ensures)
+returns c = whole _ c.empty.ensures too_long_fits (piece _ _ _ c.text-whole.ensures.shows c.put.ensures)
