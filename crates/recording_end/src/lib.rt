@@ -1,5 +1,5 @@
-// The last step of a recording, after its last event: what is still active is refused. The reader takes it after the bytes have ended, the writer before it
-// looks for room.
+// The last step of a recording, after its last event: what is still active is refused. It is for the reader, after the bytes have ended, and for the
+// writer, before it looks for room; neither takes it yet.
 #![tactic(auto)]
 
 ghost use Rattle.std.specs.Prelude.{◌≡◌, cond, eqb};
