@@ -113,7 +113,7 @@ module _ (ds : List Task) (ls : List Link) where
 abbrev judged_here : ℕ → List Task → List Link → ℕ
 judged_here p ds ls = judged_lists state_room p ds ls
 
-module _ (p : ℕ) (either-policy : p ≤ 1) (ds : List Task) (ls : List Link) where
+module _ (p : ℕ) (either_policy : p ≤ 1) (ds : List Task) (ls : List Link) where
   -- a task without a date
   undated_at : undated p ds ≡ true → (p ≡ 1) × ((t : ℕ) × (t < length ds) × (deadline_of ds t ≡ 0))
   undated_at e =
@@ -175,7 +175,7 @@ module _ (p : ℕ) (either-policy : p ≤ 1) (ds : List Task) (ls : List Link) w
 
   -- and where all have dates, what follows
   judged_after : 1 ≤ length ds → length ds ≤ state_room.tasks → AllDated p ds → judged_here p ds ls ≡ linked ds ls
-  judged_after a b dates = judged_on_lem a b ∙ ap (λ (c : Bool). cond c 24 (linked ds ls)) (each_dated p ds either-policy dates)
+  judged_after a b dates = judged_on_lem a b ∙ ap (λ (c : Bool). cond c 24 (linked ds ls)) (each_dated p ds either_policy dates)
 
   -- no other number is earned
   pub table_earns_one : {n : ℕ} → TableEarns p ds ls n → n ≡ judged_here p ds ls
@@ -189,7 +189,7 @@ module _ (p : ℕ) (either-policy : p ≤ 1) (ds : List Task) (ls : List Link) w
   table_earns_one (refusals.links a b dates h) = sym (judged_after a b dates ∙ rw (lt-ltb state_room.links (length ls) h))
   table_earns_one (refusals.kept k) =
       sym (ap (λ (r : ℕ). then_dates r (undated p ds)) (no_refusal (ahead_of ds) (length ds) (link_of ls) state_room (length ls) k.tasks.0 k.tasks.1 k.links k.rules)
-      ∙ ap (λ (c : Bool). cond {A = ℕ} c 24 0) (each_dated p ds either-policy k.dates))
+      ∙ ap (λ (c : Bool). cond {A = ℕ} c 24 0) (each_dated p ds either_policy k.dates))
   table_earns_one {n} (refusals.link least before l after e k g ne) =
       sym (judged_after k.tasks.0 k.tasks.1 k.dates ∙ rw (le-ltb state_room.links (length ls) least) there)
     where

@@ -1,5 +1,6 @@
--- What C and Rust hosts link: each of their calls is one that the demands speak of, on a state that the host keeps in its own memory. A reader begins at `Hosts`,
--- the last record here; proofs/Hosts.antt has `hosts`.
+-- The calls of C and Rust hosts: each is one that the demands speak of, on a state that the host keeps in its own memory. They are those of `exports`; a host links
+-- `exports_c`, which has each of them with the same clauses, and tools/test-scripts holds the two texts against each other. A reader begins at `Hosts`, the last
+-- record here; proofs/Hosts.antt has `hosts`.
 -- Assumes nothing.
 use Rattle.std.specs.Prelude.{◌≡◌, ◌≢◌, List, [], ◌∷◌, ℕ, ◌-◌, ◌≤◌, length, drop}
 use contract.Lifetimes.{Lfts}

@@ -1,5 +1,4 @@
--- What the functions over a walker tell. They are proved by hand, and the kit reads no `Learnt` from such a contract: so its clause is said here again, and
--- that it is the one in the source is shown (`WalkerTells`).
+-- What the functions over a walker tell: each clause is said here again, and that it is the one in the source is shown (`WalkerTells`).
 -- Assumes nothing.
 use Rattle.std.specs.Prelude.{◌≡◌, List, ℕ, drop}
 use seplogic.Ra.Ura.{Ura}
