@@ -2,13 +2,14 @@
 // says how: `-` only the last line, `/` every beginning of the recording, and a digit how many numbers the lent list has room for.
 #![tactic(auto)]
 
-ghost use Rattle.std.specs.Prelude.{◌≤◌};
+ghost use Rattle.std.specs.Prelude.{◌≡◌, ◌≤◌};
 ghost use Rattle.io.specs.Counts.{IsPrefixLen};
 
 use recording_printout::{NUMBERS, print_last, print_replay};
+use std::env::{Env, FillError};
 use std::io::Read;
 use std::rt::Files;
-use std::{env, fs};
+use std::{fs, str};
 
 // The number of standard output.
 const STDOUT_FILENO: i32 = 1;
@@ -41,16 +42,24 @@ fn fill(file: &mut impl Read, bytes: &mut [u8]) -> usize
     done
 }
 
-// The bytes of the file that a path names, put at the start of a buffer: how many. A missing file is said in a line.
-fn load(rt: &impl Files, path: &str, bytes: &mut [u8]) -> usize
+// A missing file is said in a line, and has no bytes.
+fn missing() -> usize
+    ensures { result ≡ 0 }
+{
+    io::write_all(STDOUT_FILENO, b"no such file\n");
+    0
+}
+
+// The bytes of the file that a path names, put at the start of a buffer: how many. A path that is no text names no file that can be opened.
+fn load(rt: &impl Files, path: &[u8], bytes: &mut [u8]) -> usize
     ensures { IsPrefixLen result bytes.new }
 {
-    match fs::open(rt, path) {
+    let Ok(name) = str::from_utf8(path) else {
+        return missing();
+    };
+    match fs::open(rt, name) {
         Ok(mut file) => fill(&mut file, bytes),
-        Err(_) => {
-            io::write_all(STDOUT_FILENO, b"no such file\n");
-            0
-        }
+        Err(_) => missing(),
     }
 }
 
@@ -108,12 +117,11 @@ fn print_recording(s: &[u8], how: u8) {
 }
 
 // One argument: a word of one byte is kept for the next, and a name's recording is printed, with nothing kept.
-fn print_word(rt: &impl Files, word: &str, how: u8) -> u8 {
-    let name = word.as_bytes();
-    if name.len() == 1 {
-        return name[0];
+fn print_word(rt: &impl Files, word: &[u8], how: u8) -> u8 {
+    if word.len() == 1 {
+        return word[0];
     }
-    io::write_all(STDOUT_FILENO, name);
+    io::write_all(STDOUT_FILENO, word);
     io::write_all(STDOUT_FILENO, b"\n");
     let mut bytes = io::large_buffer();
     let size = load(rt, word, &mut bytes);
@@ -121,11 +129,16 @@ fn print_word(rt: &impl Files, word: &str, how: u8) -> u8 {
     0
 }
 
-// Every argument in turn.
-fn main(rt: HostRuntime) -> std::io::Result<()> {
+// Every argument in turn. One that is longer than any path counts as empty.
+fn main(rt: HostRuntime) {
     let mut how = 0;
-    for word in env::args(&rt)?.skip(1) {
-        how = print_word(&rt, word.as_str(), how);
+    let mut word = io::buffer();
+    for i in 1..usize::MAX {
+        let n = match rt.arg(i, &mut word) {
+            Ok(n) => n,
+            Err(FillError::NotPresent) => break,
+            Err(FillError::TooLong) => 0,
+        };
+        how = print_word(&rt, &word[..n], how);
     }
-    Ok(())
 }
