@@ -1,6 +1,7 @@
 // What a host in C or Rust links: each call of `exports`, under the same name and with the same clauses. No crate can be called by other crates and
 // linked by a host as well, so these stand in a crate of their own. `include/parnusild.h` has the same calls on a struct.
 //
+// Some have more parameters than a function of the library has, since a host lends the parts of a saved state one by one.
 // Nothing is asked of the caller but that what is lent is there, and that nothing is lent twice. The name of each call but `parnusild_sizes`
 // ends with the room of a state: a host that was built for another room does not link.
 #![tactic(auto)]

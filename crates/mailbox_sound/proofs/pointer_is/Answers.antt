@@ -1,4 +1,4 @@
--- `mailbox_sound::pointer_is_lem` meets its contract: what the call ensures.
+-- `mailbox_sound::pointer_is` meets its contract: what the call ensures.
 -- Assumes nothing.
 use Rattle.mailbox_sound.proofs.pointer_is.Goals as goal
 

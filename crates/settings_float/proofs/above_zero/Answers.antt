@@ -1,4 +1,4 @@
--- `settings_float::above_zero_lem` meets its contract: the law of comparing.
+-- `settings_float::above_zero` meets its contract: the law of comparing.
 -- Assumes nothing.
 use mathlib.Core.Path.{sym, ◌∙◌}
 use Rattle.settings_float.proofs.Floats.{infinity_no_nan, above_zero_compared}
