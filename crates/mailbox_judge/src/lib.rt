@@ -12,7 +12,7 @@ ghost use Rattle.protocol_state.specs.Decision.{decided};
 ghost use Rattle.protocol_state.specs.Judge.{allows, may_arrive, judged_arrival, judged_task, judged_read};
 ghost use Rattle.mailbox_layout.specs.Layout.{phase_in, reader_in, deadline_in, since_in, ahead_among, sooner_among};
 
-use lists::few;
+use lists::{every, few};
 use mailbox_base::decision::{ARRIVAL, READ, REFUSALS, decide};
 use mailbox_base::numbers::{LINKS, TASKS, has, pick};
 use mailbox_layout::{
@@ -35,13 +35,7 @@ fn may_arrive(set: u32, t: usize, phase: u8) -> bool
 fn all_may(set: u32, tasks: usize, control: &[u8; CONTROL]) -> bool
     ensures { result ≡ every (may_arrive set (at (phase_in control.now))) tasks }
 {
-    let mut ok = true;
-    let mut t = 0;
-    while t < tasks {
-        ok = may_arrive(set, t, control_at(control, PHASE, t)) & ok;
-        t += 1;
-    }
-    ok
+    every(tasks, |t| may_arrive(set, t, control_at(control, PHASE, t)))
 }
 
 // The refusal of an arrival, 0 for none: 12 for the empty set and for a task that is none of the table's.
