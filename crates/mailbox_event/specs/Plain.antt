@@ -6,8 +6,17 @@ use Rattle.protocol.specs.Event.{arrival, start, read, finish}
 use Rattle.protocol_state.specs.Give.{Call, plainly, ticked}
 use Rattle.mailbox_event.specs.declared.Event.{Event}
 use Rattle.mailbox_event.specs.declared.Event.TheVariants.{Arrival, Start, Read, Finish}
+use Rattle.mailbox_event.specs.declared.Kind.{Kind}
+use Rattle.mailbox_event.specs.declared.Kind.TheVariants as kind
 use Rattle.mailbox_event.specs.declared.When.{When}
 use Rattle.mailbox_event.specs.declared.When.TheVariants.{Untimed, At}
+
+-- the row of the decision table that a kind of event has
+abbrev pub row : Kind → ℕ
+row kind.Arrival = 0
+row kind.Start = 1
+row kind.Read = 2
+row kind.Finish = 3
 
 -- kind by kind
 abbrev pub plain : Event → protocol.Event ℕ

@@ -4,6 +4,15 @@
 ghost use Rattle.std.specs.Prelude.{◌≡◌};
 ghost use Rattle.mailbox_event.specs.Plain.{policy_for};
 
+// The kinds of event, in the order of their numbers.
+#[derive(Clone, Copy, Debug, PartialEq, Eq)]
+pub enum Kind {
+    Arrival,
+    Start,
+    Read,
+    Finish,
+}
+
 // The arrival of a set of tasks, the start of a task, a read by a link, the finish of a task with a value.
 #[derive(Clone, Copy)]
 pub enum Event {

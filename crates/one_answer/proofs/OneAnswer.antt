@@ -13,8 +13,8 @@ use Rattle.mailbox_event.specs.declared.Event.{Event}
 use Rattle.mailbox_event.specs.declared.Event.TheVariants.{Arrival, Start, Read, Finish}
 use Rattle.mailbox_event.specs.Plain.{plain}
 use Rattle.recording_event.specs.Next.{plain_kind, found_of, got_of}
-use Rattle.recording_event.specs.declared.Kind.{Kind}
-use Rattle.recording_event.specs.declared.Kind.TheVariants as kind
+use Rattle.mailbox_event.specs.declared.Kind.{Kind}
+use Rattle.mailbox_event.specs.declared.Kind.TheVariants as kind
 use Rattle.recording_event.specs.declared.Found.{Found}
 use Rattle.recording_event.specs.declared.Found.TheVariants as found
 use Rattle.recording_event.specs.declared.Next.{Next}
