@@ -1,5 +1,5 @@
 // Numbers of up to eight bytes, the lowest byte first: read from lent bytes, and put into them.
-ghost use Rattle.std.specs.Prelude.{◌≡◌, ◌%◌, min};
+ghost use Rattle.std.specs.Prelude.{◌≡◌, min};
 ghost use Rattle.byte_format.specs.Number.{bytes_of, number_at};
 ghost use Rattle.lent_bytes.specs.Put.{put_at};
 
@@ -9,29 +9,14 @@ use lists::few;
 // The most bytes that a number has.
 const WIDTH: usize = 8;
 
-// A byte, as wide as a number.
-fn wide(b: u8) -> u64
-    ensures { result ≡ b }
-{
-    b as u64
-}
-
-// The lowest byte of a number.
-fn lowest(n: u64) -> u8
-    ensures { result ≡ n % 256 }
-{
-    (n % 256) as u8
-}
-
 // The number in the w bytes from a place on, eight at most; bytes past the end count as none.
 pub fn number_at(s: &[u8], at: usize, w: usize) -> u64
     ensures { result ≡ number_at (min w 8) s.now at }
 {
-    let mut i = few(few(w, WIDTH), room(s, at));
+    let k = few(few(w, WIDTH), room(s, at));
     let mut n = 0u64;
-    while 0 < i {
-        i -= 1;
-        n = n * 256 + wide(s[at + i]);
+    for i in (0..k).rev() {
+        n = n * 256 + u64::from(s[at + i]);
     }
     n
 }
@@ -42,10 +27,8 @@ pub fn put_number(number: u64, w: usize, out: &mut [u8], at: usize)
 {
     let k = few(few(w, WIDTH), left(out.len(), at));
     let mut n = number;
-    let mut i = 0;
-    while i < k {
-        out[at + i] = lowest(n);
+    for i in 0..k {
+        out[at + i] = (n % 256) as u8;
         n /= 256;
-        i += 1;
     }
 }

@@ -1,11 +1,13 @@
 // What is left of lent bytes from a place on.
 ghost use Rattle.std.specs.Prelude.{◌≡◌, ◌-◌, length, drop};
 
+use lists::few;
+
 // How many of n are left from a place on.
 pub fn left(n: usize, at: usize) -> usize
     ensures { result ≡ n - at }
 {
-    if at < n { n - at } else { 0 }
+    n.saturating_sub(at)
 }
 
 // How many bytes stand from a place on.
@@ -19,6 +21,5 @@ pub fn room(s: &[u8], at: usize) -> usize
 pub fn rest(s: &[u8], at: usize) -> &[u8]
     ensures { result.now ≡ drop at s.now }
 {
-    let end = s.len();
-    if at < end { &s[at..] } else { &s[end..] }
+    &s[few(at, s.len())..]
 }

@@ -14,44 +14,33 @@ fn byte_at(s: &[u8], at: usize, k: usize) -> u8
     if k < room(s, at) { s[at + k] } else { 0 }
 }
 
-// The number of two bytes, the lowest first.
-fn join2(a: u8, b: u8) -> u16
-    ensures { result ≡ a + 256 * (b + 256 * 0) }
-{
-    (a as u16) + (b as u16) * 256
-}
-
-// The number of four bytes, the lowest first.
-fn join4(a: u8, b: u8, c: u8, d: u8) -> u32
-    ensures { result ≡ a + 256 * (b + 256 * (c + 256 * (d + 256 * 0))) }
-{
-    (a as u32) + (b as u32) * 256 + (c as u32) * 65536 + (d as u32) * 16777216
-}
-
 // The number in one byte, `k` after a place.
+#[tactic(auto, using(byte_format::proofs::Numbers::number_one))]
 pub fn u8_at(s: &[u8], at: usize, k: u8) -> u8
     ensures { result ≡ number_at 1 s.now (at + k) }
 {
-    byte_at(s, at, k as usize)
+    byte_at(s, at, usize::from(k))
 }
 
 // The number in two bytes.
+#[tactic(auto, using(byte_format::proofs::Numbers::number_two))]
 pub fn u16_at(s: &[u8], at: usize, k: u8) -> u16
     ensures { result ≡ number_at 2 s.now (at + k) }
 {
-    let i = k as usize;
-    join2(byte_at(s, at, i), byte_at(s, at, i + 1))
+    let i = usize::from(k);
+    u16::from_le_bytes([byte_at(s, at, i), byte_at(s, at, i + 1)])
 }
 
 // The number in four bytes.
+#[tactic(auto, using(byte_format::proofs::Numbers::number_four))]
 pub fn u32_at(s: &[u8], at: usize, k: u8) -> u32
     ensures { result ≡ number_at 4 s.now (at + k) }
 {
-    let i = k as usize;
-    join4(
+    let i = usize::from(k);
+    u32::from_le_bytes([
         byte_at(s, at, i),
         byte_at(s, at, i + 1),
         byte_at(s, at, i + 2),
         byte_at(s, at, i + 3),
-    )
+    ])
 }

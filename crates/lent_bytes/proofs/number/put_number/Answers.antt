@@ -1,12 +1,11 @@
--- `lent_bytes::number::put_number` meets its contract. The loop's invariant: the first i bytes of the number are put, and n is what is left of it.
--- The measure is how many are left to put.
+-- `lent_bytes::number::put_number` meets its contract: a turn puts the next byte.
 -- Assumes nothing.
-use mathlib.Core.Path.{◌≡◌, refl, ap, ◌∙◌}
+use mathlib.Core.Path.{◌≡◌, ap, ◌∙◌}
 use mathlib.Core.List.{List}
-use Prim.Native.Nat.{ℕ, ◌+◌, ◌-◌, ◌<◌, min}
+use Prim.Native.Nat.{ℕ, ◌+◌, ◌-◌, ◌%◌, ◌<◌, min}
 use native.Mathlib.Numerals.{add-one}
 use native.Mathlib.Omega.{arith}
-use lib.ListN.{length, length-set, get_or, set}
+use lib.ListN.{length, get_or, set}
 use lib.Seq.{paste, paste-zero, paste-suc}
 use Rattle.byte_format.specs.Number.{bytes_of}
 use Rattle.byte_format.proofs.Numbers.{length_bytes}
@@ -15,9 +14,8 @@ use Rattle.lent_bytes.proofs.number.put_number.Goals as goal
 
 pub loop-i-init : goal.loop-i-init
 loop-i-init c = let a = c.args in
-    let e : c.few-k.result ≡ min (min a.w 8) (length a.out.now - a.at) = c.few-k.ensures ∙ rw (c.left.ensures, c.few.ensures) in
     let z : min a.w 8 - 0 ≡ min a.w 8 = omega arith in
-    ((omega arith, e), (refl, (paste-zero a.out.now a.at (bytes_of (min a.w 8) a.number), rw z)))
+    (paste-zero a.out.now a.at (bytes_of (min a.w 8) a.number), rw z)
 
 pub loop-i-preserved : goal.loop-i-preserved
 loop-i-preserved c = let a = c.args in
@@ -25,15 +23,15 @@ loop-i-preserved c = let a = c.args in
     let w = min a.w 8 in
     let x = bytes_of w a.number in
     let h : l.i < w = omega arith in
-    let b : c.lowest.result ≡ get_or x l.i 0 = c.lowest.ensures ∙ next_byte w a.number l.i l.n h l.invariant.1.1.1 in
-    let s : set l.out (a.at + l.i) c.lowest.result ≡ paste a.out.now a.at x (l.i + 1) =
-    ap (λ (o : List ℕ). set o (a.at + l.i) c.lowest.result) l.invariant.1.1.0
+    let b : l.n % 256 ≡ get_or x l.i 0 = next_byte w a.number l.i l.n h l.invariant.1 in
+    let s : set l.out (a.at + l.i) (l.n % 256) ≡ paste a.out.now a.at x (l.i + 1) =
+    ap (λ (o : List ℕ). set o (a.at + l.i) (l.n % 256)) l.invariant.0
     ∙ rw (b, add-one l.i) (paste-suc a.out.now a.at x l.i 0 (omega arith) (omega (arith, length_bytes w a.number))) in
-    ((omega arith, l.invariant.0.1), (simp length-set l.invariant.1.0, (s, later_bytes w a.number l.i l.n h l.invariant.1.1.1)))
+    (s, later_bytes w a.number l.i l.n h l.invariant.1)
 
 pub returns : goal.returns
 returns c = let a = c.args in
     let l = c.loop-i in
     let x = bytes_of (min a.w 8) a.number in
     let e : l.i ≡ min (length x) (length a.out.now - a.at) = omega (arith, length_bytes (min a.w 8) a.number) in
-    l.invariant.1.1.0 ∙ rw e
+    l.invariant.0 ∙ rw e
