@@ -19,10 +19,7 @@ use mailbox_call::Asked;
 use mailbox_event::{Event, When};
 use mailbox_give::{give, give_at};
 use mailbox_layout::fresh::{fresh_control, fresh_times};
-use mailbox_layout::{
-    CELL, CONTROL, DEADLINE, DEFAULT, KIND, LAST, MARK, NEWEST, PHASE, POINTER, POLICY, PREVIOUS,
-    READER, SEEN, SINCE, START_VALUE, TIMES, VALUES, WRITER, control_at, time_at, value_at,
-};
+use mailbox_layout::{CONTROL, InControl, InTimes, InValues, TIMES, VALUES, control_at, entry_at};
 use mailbox_plan::plan_of;
 use mailbox_rules::table::judge_table;
 use mailbox_sound::is_sound;
@@ -342,7 +339,7 @@ impl State {
         ensures { result ≡ at (saved self).defaults t }
     {
         let values = self.values;
-        value_at(&values, DEFAULT, t)
+        entry_at(&values, InValues::Default, t)
     }
 
     // The phase of task `t`: 0 idle, 1 waiting, 2 running.
@@ -350,7 +347,7 @@ impl State {
         ensures { result ≡ at (saved self).phase t }
     {
         let control = self.control;
-        control_at(&control, PHASE, t)
+        control_at(&control, InControl::Phase, t)
     }
 
     // The newest position of task `t`, 1 to N + 2, where N is how many links the task has to readers behind.
@@ -358,7 +355,7 @@ impl State {
         ensures { result ≡ at (saved self).newest t }
     {
         let control = self.control;
-        control_at(&control, NEWEST, t)
+        control_at(&control, InControl::Newest, t)
     }
 
     // Its previous position.
@@ -366,7 +363,7 @@ impl State {
         ensures { result ≡ at (saved self).previous t }
     {
         let control = self.control;
-        control_at(&control, PREVIOUS, t)
+        control_at(&control, InControl::Previous, t)
     }
 
     // Whether it has had no, one or more arrivals: 0, 1, 2.
@@ -374,7 +371,7 @@ impl State {
         ensures { result ≡ at (saved self).seen t }
     {
         let control = self.control;
-        control_at(&control, SEEN, t)
+        control_at(&control, InControl::Seen, t)
     }
 
     // The number at place `i` of the positions: position p of task t at t * 10 + p - 1.
@@ -382,7 +379,7 @@ impl State {
         ensures { result ≡ at (saved self).cells i }
     {
         let values = self.values;
-        value_at(&values, CELL, i)
+        entry_at(&values, InValues::Cell, i)
     }
 
     // The writer of link `l`.
@@ -390,7 +387,7 @@ impl State {
         ensures { result ≡ at (saved self).writer l }
     {
         let control = self.control;
-        control_at(&control, WRITER, l)
+        control_at(&control, InControl::Writer, l)
     }
 
     // Its reader.
@@ -398,7 +395,7 @@ impl State {
         ensures { result ≡ at (saved self).reader l }
     {
         let control = self.control;
-        control_at(&control, READER, l)
+        control_at(&control, InControl::Reader, l)
     }
 
     // Its kind: 0 direct, 1 delayed.
@@ -406,7 +403,7 @@ impl State {
         ensures { result ≡ at (saved self).kind l }
     {
         let control = self.control;
-        control_at(&control, KIND, l)
+        control_at(&control, InControl::Kind, l)
     }
 
     // Its start value, which it reads while it is marked; 0 of a direct link in a sound state.
@@ -414,7 +411,7 @@ impl State {
         ensures { result ≡ at (saved self).start_value l }
     {
         let values = self.values;
-        value_at(&values, START_VALUE, l)
+        entry_at(&values, InValues::StartValue, l)
     }
 
     // Its pointer, a position of its writer; 0: absent.
@@ -422,7 +419,7 @@ impl State {
         ensures { result ≡ at (saved self).pointer l }
     {
         let control = self.control;
-        control_at(&control, POINTER, l)
+        control_at(&control, InControl::Pointer, l)
     }
 
     // Its mark: 1 where its pointer is there and the last arrival of its reader settled on its start value, else 0.
@@ -430,7 +427,7 @@ impl State {
         ensures { result ≡ at (saved self).mark l }
     {
         let control = self.control;
-        control_at(&control, MARK, l)
+        control_at(&control, InControl::Mark, l)
     }
 
     // The relative deadline of task `t`; 0 under fixed priorities.
@@ -438,7 +435,7 @@ impl State {
         ensures { result ≡ at (saved self).deadline t }
     {
         let times = self.times;
-        time_at(&times, DEADLINE, t)
+        entry_at(&times, InTimes::Deadline, t)
     }
 
     // The tick at which its active job arrived; 0 where it is idle.
@@ -446,7 +443,7 @@ impl State {
         ensures { result ≡ at (saved self).since t }
     {
         let times = self.times;
-        time_at(&times, SINCE, t)
+        entry_at(&times, InTimes::Since, t)
     }
 
     // The tick of the last accepted event, 0 before the first.
@@ -454,7 +451,7 @@ impl State {
         ensures { result ≡ (saved self).last }
     {
         let times = self.times;
-        time_at(&times, LAST, 0)
+        entry_at(&times, InTimes::Last, 0)
     }
 
     // The policy: 0 fixed priorities, 1 earliest deadline first.
@@ -462,6 +459,6 @@ impl State {
         ensures { result ≡ (saved self).policy }
     {
         let times = self.times;
-        time_at(&times, POLICY, 0)
+        entry_at(&times, InTimes::Policy, 0)
     }
 }

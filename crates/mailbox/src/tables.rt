@@ -10,9 +10,7 @@ ghost use Rattle.mailbox_layout.specs.Fresh.{fresh_control, fresh_values, fresh_
 use lists::few;
 use mailbox_base::numbers::{LINKS, TASKS, pick};
 use mailbox_layout::fresh::{fill_cells, fresh_times, put_link};
-use mailbox_layout::{
-    CONTROL, DEADLINE, DEFAULT, Link, POLICY, TIMES, VALUES, put_time, put_value, time_at,
-};
+use mailbox_layout::{CONTROL, InTimes, InValues, Link, TIMES, VALUES, entry_at, put_entry};
 
 // Puts the first `n` links, no more than there is room for, into arrays without links; the slots past them hold 0.
 pub(crate) fn put_links(
@@ -50,7 +48,7 @@ pub(crate) fn values_of(n: usize, defaults: &[u32; TASKS]) -> [u32; VALUES]
     let mut values = [0u32; VALUES];
     let mut t = 0;
     while t < end {
-        put_value(&mut values, DEFAULT, t, defaults[t]);
+        put_entry(&mut values, InValues::Default, t, defaults[t]);
         t += 1;
     }
     fill_cells(&mut values);
@@ -72,7 +70,7 @@ pub(crate) fn times_of(n: usize, deadlines: &[u16; TASKS]) -> [u32; TIMES]
     let mut times = fresh_times(1);
     let mut t = 0;
     while t < end {
-        put_time(&mut times, DEADLINE, t, wide(deadlines[t]));
+        put_entry(&mut times, InTimes::Deadline, t, wide(deadlines[t]));
         t += 1;
     }
     times
@@ -85,7 +83,7 @@ fn some_undated(tasks: usize, times: &[u32; TIMES]) -> bool
     let mut found = false;
     let mut t = 0;
     while t < tasks {
-        found = (time_at(times, DEADLINE, t) == 0) | found;
+        found = (entry_at(times, InTimes::Deadline, t) == 0) | found;
         t += 1;
     }
     found
@@ -99,7 +97,7 @@ pub(crate) fn then_dates(refusal: u8, tasks: usize, times: &[u32; TIMES]) -> u8
     if refusal == 2 {
         return 2;
     }
-    if time_at(times, POLICY, 0) == 0 {
+    if entry_at(times, InTimes::Policy, 0) == 0 {
         return refusal;
     }
     pick(some_undated(few(tasks, TASKS), times), 24, refusal)

@@ -20,10 +20,7 @@ use mailbox_base::decision::{ARRIVAL, decide};
 use mailbox_base::numbers::{LINKS, TASKS, has, pick};
 use mailbox_free::bits::{lowest_outside, taken_bit};
 use mailbox_free::table::PATTERNS;
-use mailbox_layout::{
-    CONTROL, KIND, MARK, NEWEST, PHASE, POINTER, PREVIOUS, READER, SEEN, WRITER, control_at,
-    put_control,
-};
+use mailbox_layout::{CONTROL, InControl, control_at, put_control};
 use mailbox_plan::goes_behind;
 
 // Whether a link with this writer and this flag is one of task `t`'s to readers behind.
@@ -48,9 +45,9 @@ fn held(plan: &[u8; LINKS], control: &[u8; CONTROL], links: usize, t: u8, p: u8)
     let mut l = 0;
     while l < links {
         found = holds_at(
-            control_at(control, WRITER, l),
+            control_at(control, InControl::Writer, l),
             goes_behind(plan, l),
-            control_at(control, POINTER, l),
+            control_at(control, InControl::Pointer, l),
             t,
             p,
         ) | found;
@@ -66,9 +63,12 @@ fn held_bits(plan: &[u8; LINKS], control: &[u8; CONTROL], links: usize, t: u8) -
     let mut bits = 0;
     let mut l = 0;
     while l < links {
-        let w = control_at(control, WRITER, l);
+        let w = control_at(control, InControl::Writer, l);
         let behind = goes_behind(plan, l);
-        bits = taken_bit(is_behind(w, behind, t), control_at(control, POINTER, l)) | bits;
+        bits = taken_bit(
+            is_behind(w, behind, t),
+            control_at(control, InControl::Pointer, l),
+        ) | bits;
         l += 1;
     }
     bits
@@ -119,14 +119,14 @@ fn move_task(
     if !has(set, t) {
         return;
     }
-    let x = control_at(control, NEWEST, t);
+    let x = control_at(control, InControl::Newest, t);
     let free = lowest_free(lowest, plan, control, links, t as u8, x);
-    let phase = decide(ARRIVAL, control_at(control, PHASE, t));
-    let seen = seen_once(control_at(control, SEEN, t));
-    put_control(control, PREVIOUS, t, x);
-    put_control(control, NEWEST, t, free);
-    put_control(control, SEEN, t, seen);
-    put_control(control, PHASE, t, phase);
+    let phase = decide(ARRIVAL, control_at(control, InControl::Phase, t));
+    let seen = seen_once(control_at(control, InControl::Seen, t));
+    put_control(control, InControl::Previous, t, x);
+    put_control(control, InControl::Newest, t, free);
+    put_control(control, InControl::Seen, t, seen);
+    put_control(control, InControl::Phase, t, phase);
 }
 
 // The writers' part: each task of the set moves.
@@ -154,8 +154,8 @@ fn aim(w: u8, k: u8, control: &[u8; CONTROL]) -> u8
 {
     pick(
         k == 1,
-        control_at(control, PREVIOUS, w as usize),
-        control_at(control, NEWEST, w as usize),
+        control_at(control, InControl::Previous, w as usize),
+        control_at(control, InControl::Newest, w as usize),
     )
 }
 
@@ -170,16 +170,16 @@ fn mark_of(k: u8, seen: u8) -> u8
 fn point_link(set: u32, l: usize, control: &mut [u8; CONTROL])
     ensures { (T L : ℕ) → Becomes (pointed_at set l) T L control.old control.new }
 {
-    let r = control_at(control, READER, l);
+    let r = control_at(control, InControl::Reader, l);
     if !has(set, r as usize) {
         return;
     }
-    let w = control_at(control, WRITER, l);
-    let k = control_at(control, KIND, l);
+    let w = control_at(control, InControl::Writer, l);
+    let k = control_at(control, InControl::Kind, l);
     let x = aim(w, k, control);
-    let m = mark_of(k, control_at(control, SEEN, w as usize));
-    put_control(control, POINTER, l, x);
-    put_control(control, MARK, l, m);
+    let m = mark_of(k, control_at(control, InControl::Seen, w as usize));
+    put_control(control, InControl::Pointer, l, x);
+    put_control(control, InControl::Mark, l, m);
 }
 
 // The readers' part: the pointers and marks of the links whose reader is in the set.

@@ -1,10 +1,7 @@
 // Tables to try, and states with a number changed.
 use mailbox::{Made, State};
 use mailbox_base::numbers::{CELLS, LINKS, TASKS};
-use mailbox_layout::{
-    CELL, DEADLINE, KIND, LAST, MARK, NEWEST, PHASE, POINTER, POLICY, PREVIOUS, READER, SEEN,
-    SINCE, START_VALUE, WRITER, put_control, put_time, put_value,
-};
+use mailbox_layout::{InControl, InTimes, InValues, put_control, put_entry};
 
 // Task 1 has 100, as in the long example; tasks 4 to 31 have their own number.
 const DEFAULTS: [u32; TASKS] = [
@@ -100,26 +97,26 @@ impl Table {
     }
 }
 
-// The state with `x` in this region of its control, at `i`.
-fn with_control(mut s: State, region: usize, i: usize, x: u8) -> State {
+// The state with `x` in this field of its control, at `i`.
+fn with_control(mut s: State, field: InControl, i: usize, x: u8) -> State {
     let mut control = s.control;
-    put_control(&mut control, region, i, x);
+    put_control(&mut control, field, i, x);
     s.control = control;
     s
 }
 
 // The same of its values.
-fn with_value(mut s: State, region: usize, i: usize, x: u32) -> State {
+fn with_value(mut s: State, field: InValues, i: usize, x: u32) -> State {
     let mut values = s.values;
-    put_value(&mut values, region, i, x);
+    put_entry(&mut values, field, i, x);
     s.values = values;
     s
 }
 
 // The same of its times.
-fn with_time(mut s: State, region: usize, i: usize, x: u32) -> State {
+fn with_time(mut s: State, field: InTimes, i: usize, x: u32) -> State {
     let mut times = s.times;
-    put_time(&mut times, region, i, x);
+    put_entry(&mut times, field, i, x);
     s.times = times;
     s
 }
@@ -139,21 +136,21 @@ pub(crate) fn with(mut s: State, field: u8, i: usize, x: u32) -> State {
             s.links = x as usize;
             s
         }
-        b'p' => with_control(s, PHASE, t, b),
-        b'n' => with_control(s, NEWEST, t, b),
-        b'o' => with_control(s, PREVIOUS, t, b),
-        b's' => with_control(s, SEEN, t, b),
-        b'c' => with_value(s, CELL, i % CELLS, x),
-        b'w' => with_control(s, WRITER, l, b),
-        b'r' => with_control(s, READER, l, b),
-        b'k' => with_control(s, KIND, l, b),
-        b'v' => with_value(s, START_VALUE, l, x),
-        b'x' => with_control(s, POINTER, l, b),
-        b'm' => with_control(s, MARK, l, b),
-        b'u' => with_time(s, DEADLINE, t, x),
-        b'i' => with_time(s, SINCE, t, x),
-        b'e' => with_time(s, LAST, 0, x),
-        b'y' => with_time(s, POLICY, 0, x),
+        b'p' => with_control(s, InControl::Phase, t, b),
+        b'n' => with_control(s, InControl::Newest, t, b),
+        b'o' => with_control(s, InControl::Previous, t, b),
+        b's' => with_control(s, InControl::Seen, t, b),
+        b'c' => with_value(s, InValues::Cell, i % CELLS, x),
+        b'w' => with_control(s, InControl::Writer, l, b),
+        b'r' => with_control(s, InControl::Reader, l, b),
+        b'k' => with_control(s, InControl::Kind, l, b),
+        b'v' => with_value(s, InValues::StartValue, l, x),
+        b'x' => with_control(s, InControl::Pointer, l, b),
+        b'm' => with_control(s, InControl::Mark, l, b),
+        b'u' => with_time(s, InTimes::Deadline, t, x),
+        b'i' => with_time(s, InTimes::Since, t, x),
+        b'e' => with_time(s, InTimes::Last, 0, x),
+        b'y' => with_time(s, InTimes::Policy, 0, x),
         _ => s,
     }
 }

@@ -17,7 +17,7 @@ use lists::few;
 use mailbox_base::decision::{FINISH, START};
 use mailbox_base::numbers::{MOST_TICK, TASKS, has, pick};
 use mailbox_judge::{due_at, judge_arrival, judge_job, judge_job_read};
-use mailbox_layout::{CONTROL, LAST, POLICY, SINCE, TIMES, put_time, time_at};
+use mailbox_layout::{CONTROL, InTimes, TIMES, entry_at, put_entry};
 
 // 23 where a finish of task `t` comes after its deadline: at the deadline it passes.
 fn late(t: u8, tick: u32, times: &[u32; TIMES]) -> u8
@@ -32,7 +32,7 @@ fn try_tick(refusal: u8, tick: u32, late: u8, times: &[u32; TIMES]) -> u8
     ensures { result ≡ tried refusal (last_in times.now) tick late }
 {
     let other = pick(refusal == 0, late, refusal);
-    let falls = pick(tick < time_at(times, LAST, 0), 21, other);
+    let falls = pick(tick < entry_at(times, InTimes::Last, 0), 21, other);
     let large = pick(MOST_TICK < tick, 22, falls);
     pick(refusal == 12, 12, large)
 }
@@ -42,7 +42,7 @@ fn try_tick(refusal: u8, tick: u32, late: u8, times: &[u32; TIMES]) -> u8
 pub fn is_dated(times: &[u32; TIMES]) -> bool
     ensures { result ≡ not (eqb (policy_in times.now) 0) }
 {
-    time_at(times, POLICY, 0) != 0
+    entry_at(times, InTimes::Policy, 0) != 0
 }
 
 // The refusal of the arrival of a set at a tick, 0 for none.
@@ -114,7 +114,7 @@ pub fn keep_tick(tick: u32, times: &mut [u32; TIMES])
     ensures start { policy_in times.old ≢ 0 → (T L t : ℕ) (c v : List ℕ) → state_of T L c v times.new ≡ clocked tick (start t) (state_of T L c v times.old) }
     ensures read { policy_in times.old ≢ 0 → (T L l : ℕ) (c v : List ℕ) → state_of T L c v times.new ≡ clocked tick (read l) (state_of T L c v times.old) }
 {
-    put_time(times, LAST, 0, tick);
+    put_entry(times, InTimes::Last, 0, tick);
 }
 
 // Each task of the set, of the first `tasks`, keeps the tick of its arrival.
@@ -124,7 +124,7 @@ fn keep_each(tick: u32, set: u32, tasks: usize, times: &mut [u32; TIMES])
     let mut t = 0;
     while t < tasks {
         if has(set, t) {
-            put_time(times, SINCE, t, tick);
+            put_entry(times, InTimes::Since, t, tick);
         }
         t += 1;
     }
@@ -136,7 +136,7 @@ pub fn keep_arrival(tick: u32, set: u32, tasks: usize, times: &mut [u32; TIMES])
     ensures dated { policy_in times.old ≢ 0 → (L : ℕ) (c v : List ℕ) → state_of (min tasks state_room.tasks) L c v times.new ≡ clocked tick (arrival set) (state_of (min tasks state_room.tasks) L c v times.old) }
 {
     keep_each(tick, set, few(tasks, TASKS), times);
-    put_time(times, LAST, 0, tick);
+    put_entry(times, InTimes::Last, 0, tick);
 }
 
 // The ticks after the finish of task `t`: its arrival tick is set back.
@@ -144,6 +144,6 @@ pub fn keep_finish(tick: u32, t: u8, times: &mut [u32; TIMES])
     ensures times { cut_times times.new ≡ last_put tick (lists.set (cut_times times.old) since_region (lists.set (since_in times.old) t 0)) }
     ensures dated { policy_in times.old ≢ 0 → (T L w : ℕ) (c v : List ℕ) → state_of T L c v times.new ≡ clocked tick (finish t w) (state_of T L c v times.old) }
 {
-    put_time(times, SINCE, t as usize, 0);
-    put_time(times, LAST, 0, tick);
+    put_entry(times, InTimes::Since, t as usize, 0);
+    put_entry(times, InTimes::Last, 0, tick);
 }

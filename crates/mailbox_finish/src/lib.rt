@@ -12,8 +12,7 @@ use lists::few;
 use mailbox_base::decision::{FINISH, decide};
 use mailbox_base::numbers::{LINKS, pick};
 use mailbox_layout::{
-    CONTROL, MARK, NEWEST, PHASE, POINTER, READER, START_VALUE, VALUES, WRITER, cell_at,
-    control_at, put_cell, put_control, value_at,
+    CONTROL, InControl, InValues, VALUES, cell_at, control_at, entry_at, put_cell, put_control,
 };
 use mailbox_plan::flag_is_one;
 
@@ -22,8 +21,8 @@ pub fn advance(kind: usize, t: u8, control: &mut [u8; CONTROL])
     ensures { (T L : ℕ) → Becomes (advanced kind t) T L control.old control.new }
 {
     let i = t as usize;
-    let next = decide(kind, control_at(control, PHASE, i));
-    put_control(control, PHASE, i, next);
+    let next = decide(kind, control_at(control, InControl::Phase, i));
+    put_control(control, InControl::Phase, i, next);
 }
 
 // The number that link `l` reads: its start value where it is marked, else the one at its pointer in its writer's positions.
@@ -31,13 +30,13 @@ pub fn number_of(l: u8, control: &[u8; CONTROL], values: &[u32; VALUES]) -> u32
     ensures { result ≡ number_read l (at (writer_in control.now)) (at (pointer_in control.now)) (at (mark_in control.now)) (at (start_value_in values.now)) (at (cells_in values.now)) }
 {
     let i = l as usize;
-    if control_at(control, MARK, i) == 1 {
-        return value_at(values, START_VALUE, i);
+    if control_at(control, InControl::Mark, i) == 1 {
+        return entry_at(values, InValues::StartValue, i);
     }
     cell_at(
         values,
-        control_at(control, WRITER, i),
-        control_at(control, POINTER, i),
+        control_at(control, InControl::Writer, i),
+        control_at(control, InControl::Pointer, i),
     )
 }
 
@@ -52,12 +51,12 @@ fn freed_at(t: u8, r: u8, behind: bool, x: u8) -> u8
 fn free_link(plan: &[u8; LINKS], t: u8, l: usize, control: &mut [u8; CONTROL])
     ensures { (ahead : ℕ → ℕ → Bool) (n : ℕ) → Planned ahead (at (writer_in control.old)) (at (reader_in control.old)) n plan.now → l < n → (T L : ℕ) → Becomes (freed_one ahead t l) T L control.old control.new }
 {
-    let r = control_at(control, READER, l);
+    let r = control_at(control, InControl::Reader, l);
     let behind = flag_is_one(plan, l);
-    let x = freed_at(t, r, behind, control_at(control, POINTER, l));
-    let m = freed_at(t, r, behind, control_at(control, MARK, l));
-    put_control(control, POINTER, l, x);
-    put_control(control, MARK, l, m);
+    let x = freed_at(t, r, behind, control_at(control, InControl::Pointer, l));
+    let m = freed_at(t, r, behind, control_at(control, InControl::Mark, l));
+    put_control(control, InControl::Pointer, l, x);
+    put_control(control, InControl::Mark, l, m);
 }
 
 // The pointers by which `t` reads from writers ahead of it become absent, and their marks go.
@@ -91,6 +90,11 @@ pub fn finish(
 )
     ensures { (ahead : ℕ → ℕ → Bool) → Planned ahead (at (writer_in control.old)) (at (reader_in control.old)) (min links state_room.links) plan.now → (T : ℕ) (x : List ℕ) → state_of T (min links state_room.links) control.new values.new x ≡ finished ahead t v (state_of T (min links state_room.links) control.old values.old x) }
 {
-    put_cell(values, t, control_at(control, NEWEST, t as usize), v);
+    put_cell(
+        values,
+        t,
+        control_at(control, InControl::Newest, t as usize),
+        v,
+    );
     release(plan, t, links, control);
 }

@@ -11,7 +11,7 @@ ghost use Rattle.mailbox_event.specs.declared.When.TheVariants.{Untimed, At};
 ghost use Rattle.mailbox_call.specs.Replies.{heard};
 
 use mailbox_call::{Asked, number_of};
-use mailbox_layout::{CONTROL, POLICY, TIMES, VALUES, time_at};
+use mailbox_layout::{CONTROL, InTimes, TIMES, VALUES, entry_at};
 use mailbox_parts::{do_event, do_fixed, judge, judge_fixed, value_of};
 use mailbox_plan::plan_of;
 use mailbox_sound::is_sound;
@@ -33,7 +33,7 @@ pub fn give(
     *number = 0;
     let plan = plan_of(links, control, times);
     let sound = is_sound(&plan, tasks, links, control, values, times);
-    if !(sound & (time_at(times, POLICY, 0) == 0)) {
+    if !(sound & (entry_at(times, InTimes::Policy, 0) == 0)) {
         return 19;
     }
     let Asked::Known(e) = asked else {
@@ -65,7 +65,7 @@ pub fn give_at(
     *number = 0;
     let plan = plan_of(links, control, times);
     let sound = is_sound(&plan, tasks, links, control, values, times);
-    if !(sound & (time_at(times, POLICY, 0) == 1)) {
+    if !(sound & (entry_at(times, InTimes::Policy, 0) == 1)) {
         return 19;
     }
     let Asked::Known(e) = asked else {

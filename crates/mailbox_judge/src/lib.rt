@@ -15,9 +15,7 @@ ghost use Rattle.mailbox_layout.specs.Layout.{phase_in, reader_in, deadline_in, 
 use lists::{every, few};
 use mailbox_base::decision::{ARRIVAL, READ, REFUSALS, decide};
 use mailbox_base::numbers::{LINKS, TASKS, has, pick};
-use mailbox_layout::{
-    CONTROL, DEADLINE, PHASE, READER, SINCE, TIMES, control_at, phases_in, time_at,
-};
+use mailbox_layout::{CONTROL, InControl, InTimes, TIMES, control_at, entry_at, phases_in};
 use mailbox_plan::is_ahead;
 
 // Whether task `t` with this phase may arrive with the set: it is not in it, or its phase allows it.
@@ -35,7 +33,10 @@ fn may_arrive(set: u32, t: usize, phase: u8) -> bool
 fn all_may(set: u32, tasks: usize, control: &[u8; CONTROL]) -> bool
     ensures { result ≡ every (may_arrive set (at (phase_in control.now))) tasks }
 {
-    every(tasks, |t| may_arrive(set, t, control_at(control, PHASE, t)))
+    every(
+        tasks,
+        |t| may_arrive(set, t, control_at(control, InControl::Phase, t)),
+    )
 }
 
 // The refusal of an arrival, 0 for none: 12 for the empty set and for a task that is none of the table's.
@@ -74,7 +75,7 @@ fn some_before(t: usize, phase: &[u8]) -> bool
 pub fn due_at(times: &[u32; TIMES], t: usize) -> u64
     ensures { result ≡ at (since_in times.now) t + at (deadline_in times.now) t }
 {
-    time_at(times, SINCE, t) as u64 + time_at(times, DEADLINE, t) as u64
+    entry_at(times, InTimes::Since, t) as u64 + entry_at(times, InTimes::Deadline, t) as u64
 }
 
 // Whether the job of task `u` goes before one of task `t` that is due then: it is due earlier, ties by the order of tasks. Few jobs are due at
@@ -118,7 +119,7 @@ pub fn judge_task(kind: usize, t: u8, tasks: usize, control: &[u8; CONTROL]) -> 
     }
     // Its phase is asked before the tasks ahead: what is refused by its phase needs no search, and of an event that is then done the compiler
     // asks for the phase once.
-    let next = decide(kind, control_at(control, PHASE, i));
+    let next = decide(kind, control_at(control, InControl::Phase, i));
     if REFUSALS <= next {
         return next;
     }
@@ -133,7 +134,12 @@ pub fn judge_read(l: u8, tasks: usize, links: usize, control: &[u8; CONTROL]) ->
     if few(links, LINKS) <= i {
         return 12;
     }
-    judge_task(READ, control_at(control, READER, i), tasks, control)
+    judge_task(
+        READ,
+        control_at(control, InControl::Reader, i),
+        tasks,
+        control,
+    )
 }
 
 // The refusal of an event of this kind in this phase, 0 for none: as the phase decides, then 16 for a task that has to wait.
@@ -161,7 +167,7 @@ pub fn judge_job(
         return 12;
     }
     let wait = some_sooner(i, n, control, times);
-    judge_turn(kind, control_at(control, PHASE, i), wait)
+    judge_turn(kind, control_at(control, InControl::Phase, i), wait)
 }
 
 // The refusal of a read by link `l` with deadlines, ticks left aside.
@@ -178,5 +184,11 @@ pub fn judge_job_read(
     if few(links, LINKS) <= i {
         return 12;
     }
-    judge_job(READ, control_at(control, READER, i), tasks, control, times)
+    judge_job(
+        READ,
+        control_at(control, InControl::Reader, i),
+        tasks,
+        control,
+        times,
+    )
 }

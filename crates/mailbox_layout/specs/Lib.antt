@@ -1,3 +1,4 @@
 -- The layout of a lent state, and the saved state that it is.
 pub mod Layout
+pub mod FieldNumbers
 pub mod Fresh

@@ -4,8 +4,7 @@ ghost use Rattle.mailbox_layout.specs.Layout.{cell_region, cut, cut_values, cut_
 ghost use Rattle.mailbox_layout.specs.Fresh.{fresh_control, fresh_times, as_record, link_put, start_put, each_default};
 
 use crate::{
-    CELL, CONTROL, DEFAULT, KIND, Link, NEWEST, POLICY, PREVIOUS, READER, START_VALUE, TIMES,
-    VALUES, WRITER, put_control, put_time, put_value, value_at,
+    CONTROL, InControl, InTimes, InValues, Link, TIMES, VALUES, entry_at, put_control, put_entry,
 };
 use mailbox_base::numbers::{CELLS, POSITIONS, TASKS};
 
@@ -14,11 +13,9 @@ pub fn fresh_control() -> [u8; CONTROL]
     ensures { cut result ≡ fresh_control [] }
 {
     let mut control = [0u8; CONTROL];
-    let mut t = 0;
-    while t < TASKS {
-        put_control(&mut control, NEWEST, t, 1);
-        put_control(&mut control, PREVIOUS, t, 1);
-        t += 1;
+    for t in 0..TASKS {
+        put_control(&mut control, InControl::Newest, t, 1);
+        put_control(&mut control, InControl::Previous, t, 1);
     }
     control
 }
@@ -28,7 +25,7 @@ pub fn fresh_times(policy: u32) -> [u32; TIMES]
     ensures { cut_times result ≡ fresh_times policy [] }
 {
     let mut times = [0u32; TIMES];
-    put_time(&mut times, POLICY, 0, policy);
+    put_entry(&mut times, InTimes::Policy, 0, policy);
     times
 }
 
@@ -37,20 +34,18 @@ pub fn put_link(control: &mut [u8; CONTROL], values: &mut [u32; VALUES], l: usiz
     ensures control { cut control.new ≡ link_put (cut control.old) l (as_record link) }
     ensures values { cut_values values.new ≡ start_put (cut_values values.old) l (as_record link) }
 {
-    put_control(control, WRITER, l, link.writer);
-    put_control(control, READER, l, link.reader);
-    put_control(control, KIND, l, link.kind);
-    put_value(values, START_VALUE, l, link.start_value);
+    put_control(control, InControl::Writer, l, link.writer);
+    put_control(control, InControl::Reader, l, link.reader);
+    put_control(control, InControl::Kind, l, link.kind);
+    put_entry(values, InValues::StartValue, l, link.start_value);
 }
 
 // Each position of a task holds its default.
 pub fn fill_cells(values: &mut [u32; VALUES])
     ensures { cut_values values.new ≡ set (cut_values values.old) cell_region (each_default (defaults_in values.old) (cells_in values.old)) }
 {
-    let mut i = 0;
-    while i < CELLS {
-        let x = value_at(values, DEFAULT, i / POSITIONS);
-        put_value(values, CELL, i, x);
-        i += 1;
+    for i in 0..CELLS {
+        let x = entry_at(values, InValues::Default, i / POSITIONS);
+        put_entry(values, InValues::Cell, i, x);
     }
 }

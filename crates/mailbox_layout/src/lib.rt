@@ -4,34 +4,30 @@
 // A field more is one region here and in specs/Layout, one field of the view there, and one accessor of the state.
 #![tactic(auto)]
 
-ghost use Rattle.std.specs.Prelude.{◌≡◌, set};
+ghost use Rattle.std.specs.Prelude.{◌≡◌, List, ℕ, ◌≤◌, set};
 ghost use Rattle.protocol_state.specs.Saved.{at, cell_of};
-ghost use Rattle.regions.specs.Regions.{region, place};
+ghost use Rattle.regions.specs.Regions.{regions, region, start, width};
+ghost use Rattle.mailbox_layout.specs.FieldNumbers.{control_region, value_region, time_region};
 ghost use Rattle.mailbox_layout.specs.Layout.{control_widths, value_widths, time_widths, cell_region, cut, cut_values, cut_times, phase_in, cells_in};
 
 use mailbox_base::numbers::{CELLS, LINKS, TASKS, cell_of};
 
 pub mod fresh;
 
-// The regions of the control by task,
-pub const PHASE: usize = 0;
-
-pub const NEWEST: usize = 1;
-
-pub const PREVIOUS: usize = 2;
-
-pub const SEEN: usize = 3;
-
-// then those by link.
-pub const POINTER: usize = 4;
-
-pub const MARK: usize = 5;
-
-pub const WRITER: usize = 6;
-
-pub const READER: usize = 7;
-
-pub const KIND: usize = 8;
+// The fields of the control, a region each: by task,
+#[derive(Clone, Copy, Debug, PartialEq, Eq)]
+pub enum InControl {
+    Phase,
+    Newest,
+    Previous,
+    Seen,
+    // then by link.
+    Pointer,
+    Mark,
+    Writer,
+    Reader,
+    Kind,
+}
 
 // How many are by task and by link.
 const BY_TASK: usize = 4;
@@ -41,12 +37,13 @@ const BY_LINK: usize = 5;
 // The bytes of a state's control.
 pub const CONTROL: usize = BY_TASK * TASKS + BY_LINK * LINKS;
 
-// The regions of the values: by task, by link, then the positions of all tasks.
-pub const DEFAULT: usize = 0;
-
-pub const START_VALUE: usize = 1;
-
-pub const CELL: usize = 2;
+// The fields of the values: by task, by link, then the positions of all tasks.
+#[derive(Clone, Copy, Debug, PartialEq, Eq)]
+pub enum InValues {
+    Default,
+    StartValue,
+    Cell,
+}
 
 // The positions begin after the defaults and the start values.
 const CELLS_FROM: usize = TASKS + LINKS;
@@ -63,121 +60,157 @@ pub struct Link {
     pub start_value: u32,
 }
 
-// The regions of the times: by task, then the last tick and the policy, a number each.
-pub const DEADLINE: usize = 0;
-
-pub const SINCE: usize = 1;
-
-pub const LAST: usize = 2;
-
-pub const POLICY: usize = 3;
+// The fields of the times: by task, then the last tick and the policy, a number each.
+#[derive(Clone, Copy, Debug, PartialEq, Eq)]
+pub enum InTimes {
+    Deadline,
+    Since,
+    Last,
+    Policy,
+}
 
 // The numbers of a state's times.
 pub const TIMES: usize = 2 * TASKS + 2;
 
-// Where place `i` of region `k` of the control stands, by task or by link: at the end, if there is no such place.
-fn control_place(k: usize, i: usize) -> usize
-    ensures { result ≡ place control_widths k i }
-{
-    if k < BY_TASK {
-        if i < TASKS {
-            return k * TASKS + i;
-        }
-    } else if k < BY_TASK + BY_LINK {
-        if i < LINKS {
-            return BY_TASK * TASKS + (k - BY_TASK) * LINKS + i;
+// A field of one of the three arrays, which is one of the regions that the array is cut into.
+pub trait Field: Copy {
+    // how wide the regions are, and which of them it is
+    ghost widths: { List ℕ };
+
+    ghost number: { Self → ℕ };
+
+    // Where it begins,
+    fn start(self) -> usize
+        ensures begins { result ≡ start widths (number self) }
+        ensures small { result ≤ 65535 };
+
+    // and how many entries it has.
+    fn width(self) -> usize
+        ensures wide { result ≡ width widths (number self) }
+        ensures small { result ≤ 65535 };
+}
+
+impl Field for InControl {
+    ghost widths = { control_widths };
+
+    ghost number = { control_region };
+
+    #[tactic(auto, unfolding(regions::specs::Regions::start))]
+    fn start(self) -> usize {
+        match self {
+            InControl::Phase => 0,
+            InControl::Newest => TASKS,
+            InControl::Previous => 2 * TASKS,
+            InControl::Seen => 3 * TASKS,
+            InControl::Pointer => BY_TASK * TASKS,
+            InControl::Mark => BY_TASK * TASKS + LINKS,
+            InControl::Writer => BY_TASK * TASKS + 2 * LINKS,
+            InControl::Reader => BY_TASK * TASKS + 3 * LINKS,
+            InControl::Kind => BY_TASK * TASKS + 4 * LINKS,
         }
     }
-    CONTROL
+
+    fn width(self) -> usize {
+        match self {
+            InControl::Phase | InControl::Newest | InControl::Previous | InControl::Seen => TASKS,
+            _ => LINKS,
+        }
+    }
 }
 
-// What stands at place `i` of region `k`, by task or by link; 0 where there is no such place.
-pub fn control_at(control: &[u8; CONTROL], k: usize, i: usize) -> u8
-    ensures { result ≡ at (region (cut control.now) k) i }
-{
-    let p = control_place(k, i);
-    if p < CONTROL { control[p] } else { 0 }
-}
+impl Field for InValues {
+    ghost widths = { value_widths };
 
-// Puts a byte there, where there is such a place: no other place of any region changes.
-pub fn put_control(control: &mut [u8; CONTROL], k: usize, i: usize, x: u8)
-    ensures { cut control.new ≡ set (cut control.old) k (set (region (cut control.old) k) i x) }
-{
-    let p = control_place(k, i);
-    if p < CONTROL {
-        control[p] = x;
+    ghost number = { value_region };
+
+    #[tactic(auto, unfolding(regions::specs::Regions::start))]
+    fn start(self) -> usize {
+        match self {
+            InValues::Default => 0,
+            InValues::StartValue => TASKS,
+            InValues::Cell => CELLS_FROM,
+        }
+    }
+
+    fn width(self) -> usize {
+        match self {
+            InValues::Default => TASKS,
+            InValues::StartValue => LINKS,
+            InValues::Cell => CELLS,
+        }
     }
 }
 
-// Where place `i` of region `k` of the values stands, likewise.
-fn value_place(k: usize, i: usize) -> usize
-    ensures { result ≡ place value_widths k i }
-{
-    if k == DEFAULT {
-        if i < TASKS {
-            return i;
-        }
-    } else if k == START_VALUE {
-        if i < LINKS {
-            return TASKS + i;
-        }
-    } else if k == CELL {
-        if i < CELLS {
-            return CELLS_FROM + i;
+impl Field for InTimes {
+    ghost widths = { time_widths };
+
+    ghost number = { time_region };
+
+    #[tactic(auto, unfolding(regions::specs::Regions::start))]
+    fn start(self) -> usize {
+        match self {
+            InTimes::Deadline => 0,
+            InTimes::Since => TASKS,
+            InTimes::Last => 2 * TASKS,
+            InTimes::Policy => 2 * TASKS + 1,
         }
     }
-    VALUES
+
+    fn width(self) -> usize {
+        match self {
+            InTimes::Deadline | InTimes::Since => TASKS,
+            InTimes::Last | InTimes::Policy => 1,
+        }
+    }
 }
 
-// What stands at place `i` of region `k` of the values; 0 where there is no such place.
-pub fn value_at(values: &[u32; VALUES], k: usize, i: usize) -> u32
-    ensures { result ≡ at (region (cut_values values.now) k) i }
+// What stands at place `i` of a field of the control, by task or by link; 0 where there is no such place.
+#[tactic(auto, using(regions::proofs::Regions::region_at, regions::proofs::Regions::region_past))]
+pub fn control_at(control: &[u8; CONTROL], field: InControl, i: usize) -> u8
+    ensures { result ≡ at (region (cut control.now) (control_region field)) i }
 {
-    let p = value_place(k, i);
-    if p < VALUES { values[p] } else { 0 }
+    if i < field.width() {
+        control.get(field.start() + i).copied().unwrap_or(0)
+    } else {
+        0
+    }
+}
+
+// Puts a byte there, where there is such a place: no other place of any field changes.
+#[tactic(auto, using(regions::proofs::Regions::regions_put, regions::proofs::Regions::regions_put_past, regions::proofs::Regions::regions_put_out))]
+pub fn put_control(control: &mut [u8; CONTROL], field: InControl, i: usize, x: u8)
+    ensures { cut control.new ≡ set (cut control.old) (control_region field) (set (region (cut control.old) (control_region field)) i x) }
+{
+    if i < field.width() {
+        let p = field.start() + i;
+        if p < CONTROL {
+            control[p] = x;
+        }
+    }
+}
+
+// What stands at place `i` of a field of the values or of the times; 0 where there is no such place.
+#[tactic(auto, using(regions::proofs::Regions::region_at, regions::proofs::Regions::region_past))]
+pub fn entry_at<F: Field>(numbers: &[u32], field: F, i: usize) -> u32
+    ensures { result ≡ at (region (regions F.widths numbers.now) (F.number field)) i }
+{
+    if i < field.width() {
+        numbers.get(field.start() + i).copied().unwrap_or(0)
+    } else {
+        0
+    }
 }
 
 // Puts a number there, where there is such a place.
-pub fn put_value(values: &mut [u32; VALUES], k: usize, i: usize, x: u32)
-    ensures { cut_values values.new ≡ set (cut_values values.old) k (set (region (cut_values values.old) k) i x) }
+#[tactic(auto, using(regions::proofs::Regions::regions_put, regions::proofs::Regions::regions_put_past, regions::proofs::Regions::regions_put_out))]
+pub fn put_entry<F: Field>(numbers: &mut [u32], field: F, i: usize, x: u32)
+    ensures { regions F.widths numbers.new ≡ set (regions F.widths numbers.old) (F.number field) (set (region (regions F.widths numbers.old) (F.number field)) i x) }
 {
-    let p = value_place(k, i);
-    if p < VALUES {
-        values[p] = x;
-    }
-}
-
-// Where place `i` of region `k` of the times stands, likewise.
-fn time_place(k: usize, i: usize) -> usize
-    ensures { result ≡ place time_widths k i }
-{
-    if k < LAST {
-        if i < TASKS {
-            return k * TASKS + i;
+    if i < field.width() {
+        let p = field.start() + i;
+        if p < numbers.len() {
+            numbers[p] = x;
         }
-    } else if k < POLICY + 1 {
-        if i < 1 {
-            return 2 * TASKS + (k - LAST);
-        }
-    }
-    TIMES
-}
-
-// What stands at place `i` of region `k` of the times; 0 where there is no such place.
-pub fn time_at(times: &[u32; TIMES], k: usize, i: usize) -> u32
-    ensures { result ≡ at (region (cut_times times.now) k) i }
-{
-    let p = time_place(k, i);
-    if p < TIMES { times[p] } else { 0 }
-}
-
-// Puts a number there, where there is such a place.
-pub fn put_time(times: &mut [u32; TIMES], k: usize, i: usize, x: u32)
-    ensures { cut_times times.new ≡ set (cut_times times.old) k (set (region (cut_times times.old) k) i x) }
-{
-    let p = time_place(k, i);
-    if p < TIMES {
-        times[p] = x;
     }
 }
 
@@ -201,12 +234,12 @@ pub fn cells_in(values: &[u32; VALUES]) -> &[u32]
 pub fn cell_at(values: &[u32; VALUES], t: u8, p: u8) -> u32
     ensures { result ≡ at (cells_in values.now) (cell_of t p) }
 {
-    value_at(values, CELL, cell_of(t, p))
+    entry_at(values, InValues::Cell, cell_of(t, p))
 }
 
 // Puts a number at position `p` of task `t`, where there is such a position.
 pub fn put_cell(values: &mut [u32; VALUES], t: u8, p: u8, x: u32)
     ensures { cut_values values.new ≡ set (cut_values values.old) cell_region (set (cells_in values.old) (cell_of t p) x) }
 {
-    put_value(values, CELL, cell_of(t, p), x);
+    put_entry(values, InValues::Cell, cell_of(t, p), x);
 }

@@ -8,15 +8,15 @@ ghost use Rattle.mailbox_plan.specs.Plan.{is_flagged, is_one, Planned};
 
 use lists::few;
 use mailbox_base::numbers::{LINKS, pick};
-use mailbox_layout::{CONTROL, DEADLINE, READER, TIMES, WRITER, control_at, time_at};
+use mailbox_layout::{CONTROL, InControl, InTimes, TIMES, control_at, entry_at};
 
 // Whether task `u` is ahead of task `t`: its relative deadline is smaller, or the same and it is earlier in the table, as under fixed
 // priorities, where no task has one. Every order of two tasks is asked for here.
 pub fn is_ahead(times: &[u32; TIMES], u: usize, t: usize) -> bool
     ensures { result ≡ ahead_among times.now u t }
 {
-    let x = time_at(times, DEADLINE, u);
-    let y = time_at(times, DEADLINE, t);
+    let x = entry_at(times, InTimes::Deadline, u);
+    let y = entry_at(times, InTimes::Deadline, t);
     (x < y) | ((x == y) & (u < t))
 }
 
@@ -56,8 +56,8 @@ pub fn plan_of(links: usize, control: &[u8; CONTROL], times: &[u32; TIMES]) -> [
     let mut plan = [0u8; LINKS];
     let mut l = 0;
     while l < n {
-        let w = control_at(control, WRITER, l);
-        let r = control_at(control, READER, l);
+        let w = control_at(control, InControl::Writer, l);
+        let r = control_at(control, InControl::Reader, l);
         put_flag(&mut plan, l, is_ahead(times, w as usize, r as usize));
         l += 1;
     }

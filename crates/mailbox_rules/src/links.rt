@@ -8,7 +8,7 @@ ghost use Rattle.mailbox_plan.specs.Plan.{Planned};
 
 use lists::few;
 use mailbox_base::numbers::{LINKS, TASKS};
-use mailbox_layout::{CONTROL, READER, WRITER, control_at};
+use mailbox_layout::{CONTROL, InControl, control_at};
 use mailbox_plan::goes_behind;
 
 // Whether a link from `w0` to `r0` goes from `w` to `r`.
@@ -27,8 +27,8 @@ pub fn has_pair(control: &[u8; CONTROL], n: usize, w: u8, r: u8) -> bool
     let mut l = 0;
     while l < end {
         found = is_pair(
-            control_at(control, WRITER, l),
-            control_at(control, READER, l),
+            control_at(control, InControl::Writer, l),
+            control_at(control, InControl::Reader, l),
             w,
             r,
         ) | found;
@@ -61,7 +61,11 @@ pub fn readers_behind(plan: &[u8; LINKS], control: &[u8; CONTROL], n: usize, t: 
     let mut c: u8 = 0;
     let mut l = 0;
     while l < end {
-        c += byte_if(is_behind(control_at(control, WRITER, l), goes_behind(plan, l), t));
+        c += byte_if(is_behind(
+            control_at(control, InControl::Writer, l),
+            goes_behind(plan, l),
+            t,
+        ));
         l += 1;
     }
     c as usize

@@ -11,9 +11,7 @@ ghost use Rattle.mailbox_rules.specs.CountsBehind.{CountsBehind};
 
 use crate::links::{count_at, count_link, has_pair, readers_behind};
 use mailbox_base::numbers::{LINKS, TASKS, pick};
-use mailbox_layout::{
-    CONTROL, KIND, Link, READER, START_VALUE, TIMES, VALUES, WRITER, control_at, value_at,
-};
+use mailbox_layout::{CONTROL, InControl, InValues, Link, TIMES, VALUES, control_at, entry_at};
 use mailbox_plan::{goes_behind, is_ahead};
 
 // The refusal that a link earns, the lowest that applies: `behind` says that its reader is behind its writer; `twice` and `n` speak of its
@@ -69,10 +67,10 @@ fn fault_at(
     ensures { (ahead : ℕ → ℕ → Bool) → Ranks ahead → Planned ahead (at (writer_in control.now)) (at (reader_in control.now)) (l + 1) plan.now → CountsBehind ahead (at (writer_in control.now)) (at (reader_in control.now)) l counts.now → result ≡ fault ahead tasks (link_held control.now values.now) l }
 {
     let link = Link {
-        writer: control_at(control, WRITER, l),
-        reader: control_at(control, READER, l),
-        kind: control_at(control, KIND, l),
-        start_value: value_at(values, START_VALUE, l),
+        writer: control_at(control, InControl::Writer, l),
+        reader: control_at(control, InControl::Reader, l),
+        kind: control_at(control, InControl::Kind, l),
+        start_value: entry_at(values, InValues::StartValue, l),
     };
     let twice = has_pair(control, l, link.writer, link.reader);
     let count = count_at(counts, link.writer as usize);
@@ -100,7 +98,7 @@ fn first_fault(
         found = pick(found == 0, fault, found);
         count_link(
             counts,
-            control_at(control, WRITER, l) as usize,
+            control_at(control, InControl::Writer, l) as usize,
             goes_behind(plan, l),
         );
         l += 1;

@@ -10,10 +10,7 @@ ghost use Rattle.mailbox_plan.specs.Plan.{Planned};
 ghost use Rattle.mailbox_rules.specs.CountsBehind.{CountsBehind};
 
 use mailbox_base::numbers::{LINKS, MOST_TICK, TASKS};
-use mailbox_layout::{
-    CONTROL, DEADLINE, KIND, LAST, MARK, NEWEST, PHASE, POINTER, POLICY, PREVIOUS, READER, SEEN,
-    SINCE, TIMES, VALUES, WRITER, control_at, time_at,
-};
+use mailbox_layout::{CONTROL, InControl, InTimes, TIMES, VALUES, control_at, entry_at};
 use mailbox_plan::goes_behind;
 use mailbox_rules::links::count_at;
 use mailbox_rules::table::judge_table;
@@ -44,9 +41,9 @@ fn task_ok(counts: &[u8; TASKS], control: &[u8; CONTROL], t: usize) -> bool
     ensures { t < state_room.tasks → (ahead : ℕ → ℕ → Bool) (L : ℕ) → CountsBehind ahead (at (writer_in control.now)) (at (reader_in control.now)) L counts.now → (T : ℕ) (v x : List ℕ) → result ≡ task_ok ahead (state_of T L control.now v x) t }
 {
     task_is(
-        control_at(control, PHASE, t),
-        control_at(control, NEWEST, t),
-        control_at(control, PREVIOUS, t),
+        control_at(control, InControl::Phase, t),
+        control_at(control, InControl::Newest, t),
+        control_at(control, InControl::Previous, t),
         count_at(counts, t),
     )
 }
@@ -69,9 +66,16 @@ fn deadline_is(policy: u32, d: u32) -> bool
 fn time_ok(control: &[u8; CONTROL], times: &[u32; TIMES], t: usize) -> bool
     ensures { (T L : ℕ) (v : List ℕ) → result ≡ time_ok (state_of T L control.now v times.now) t }
 {
-    let phase = control_at(control, PHASE, t);
-    let since_stands = since_is(phase, time_at(times, SINCE, t), time_at(times, LAST, 0));
-    let deadline_stands = deadline_is(time_at(times, POLICY, 0), time_at(times, DEADLINE, t));
+    let phase = control_at(control, InControl::Phase, t);
+    let since_stands = since_is(
+        phase,
+        entry_at(times, InTimes::Since, t),
+        entry_at(times, InTimes::Last, 0),
+    );
+    let deadline_stands = deadline_is(
+        entry_at(times, InTimes::Policy, 0),
+        entry_at(times, InTimes::Deadline, t),
+    );
     since_stands & deadline_stands
 }
 
@@ -95,7 +99,10 @@ fn task_stands(
 ) -> bool
     ensures { t < state_room.tasks → (ahead : ℕ → ℕ → Bool) (L : ℕ) → CountsBehind ahead (at (writer_in control.now)) (at (reader_in control.now)) L counts.now → (T : ℕ) (v : List ℕ) → result ≡ task_stands ahead (state_of T L control.now v times.now) t }
 {
-    let seen_stands = seen_is(control_at(control, PHASE, t), control_at(control, SEEN, t));
+    let seen_stands = seen_is(
+        control_at(control, InControl::Phase, t),
+        control_at(control, InControl::Seen, t),
+    );
     let time_stands = time_ok(control, times, t);
     task_ok(counts, control, t) & (seen_stands & time_stands)
 }
@@ -137,12 +144,12 @@ fn pointer_is(behind: bool, y: u8, phase: u8, n: u8) -> bool
 fn pointer_ok(counts: &[u8; TASKS], plan: &[u8; LINKS], control: &[u8; CONTROL], l: usize) -> bool
     ensures { at (writer_in control.now) l < state_room.tasks → (ahead : ℕ → ℕ → Bool) (L : ℕ) → Planned ahead (at (writer_in control.now)) (at (reader_in control.now)) L plan.now → CountsBehind ahead (at (writer_in control.now)) (at (reader_in control.now)) L counts.now → l < L → (T : ℕ) (v x : List ℕ) → result ≡ pointer_ok ahead (state_of T L control.now v x) l }
 {
-    let w = control_at(control, WRITER, l);
-    let r = control_at(control, READER, l);
-    let phase = control_at(control, PHASE, r as usize);
+    let w = control_at(control, InControl::Writer, l);
+    let r = control_at(control, InControl::Reader, l);
+    let phase = control_at(control, InControl::Phase, r as usize);
     let n = count_at(counts, w as usize);
     let behind = goes_behind(plan, l);
-    pointer_is(behind, control_at(control, POINTER, l), phase, n)
+    pointer_is(behind, control_at(control, InControl::Pointer, l), phase, n)
 }
 
 // Whether a link of kind `k` with pointer `y` may have the mark `m`, where its writer has had so many arrivals: at a present pointer of a
@@ -161,13 +168,13 @@ fn mark_is(k: u8, y: u8, seen: u8, m: u8) -> bool
 fn mark_ok(control: &[u8; CONTROL], l: usize) -> bool
     ensures { (T L : ℕ) (v x : List ℕ) → result ≡ mark_ok (state_of T L control.now v x) l }
 {
-    let w = control_at(control, WRITER, l);
-    let seen = control_at(control, SEEN, w as usize);
+    let w = control_at(control, InControl::Writer, l);
+    let seen = control_at(control, InControl::Seen, w as usize);
     mark_is(
-        control_at(control, KIND, l),
-        control_at(control, POINTER, l),
+        control_at(control, InControl::Kind, l),
+        control_at(control, InControl::Pointer, l),
         seen,
-        control_at(control, MARK, l),
+        control_at(control, InControl::Mark, l),
     )
 }
 
@@ -214,7 +221,10 @@ pub fn is_sound(
     if refusal != 0 {
         return false;
     }
-    let clock_stands = clock_is(time_at(times, POLICY, 0), time_at(times, LAST, 0));
+    let clock_stands = clock_is(
+        entry_at(times, InTimes::Policy, 0),
+        entry_at(times, InTimes::Last, 0),
+    );
     let a = tasks_stand(&counts, tasks, control, times);
     let b = links_stand(&counts, plan, links, control);
     clock_stands & (a & b)

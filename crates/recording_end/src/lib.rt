@@ -9,7 +9,7 @@ ghost use Rattle.mailbox_layout.specs.Layout.{phase_in};
 ghost use Rattle.recording_core.specs.Playing.{unfinished};
 
 use mailbox_base::numbers::pick;
-use mailbox_layout::{CONTROL, PHASE, control_at};
+use mailbox_layout::{CONTROL, InControl, control_at};
 
 // Whether a task of a state is active, waiting or running: it has arrived and not finished.
 fn some_active(tasks: usize, control: &[u8; CONTROL]) -> bool
@@ -18,7 +18,7 @@ fn some_active(tasks: usize, control: &[u8; CONTROL]) -> bool
     let mut found = false;
     let mut t = 0;
     while t < tasks {
-        found = (control_at(control, PHASE, t) != 0) | found;
+        found = (control_at(control, InControl::Phase, t) != 0) | found;
         t += 1;
     }
     found

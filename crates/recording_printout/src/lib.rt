@@ -12,10 +12,7 @@ use lists::few;
 use mailbox::State;
 use mailbox_base::numbers::{LINKS, POSITIONS, TASKS};
 use mailbox_event::Event;
-use mailbox_layout::{
-    CONTROL, LAST, MARK, NEWEST, PHASE, POINTER, POLICY, PREVIOUS, SEEN, SINCE, TIMES, VALUES,
-    cells_in, control_at, time_at,
-};
+use mailbox_layout::{CONTROL, InControl, InTimes, TIMES, VALUES, cells_in, control_at, entry_at};
 use mailbox_plan::plan_of;
 use mailbox_rules::links::readers_behind;
 use recording::{replay, rest};
@@ -127,12 +124,12 @@ fn print_task(
     let own = part(cells_in(values), t * POSITIONS, behind + 2);
     let shown = Task {
         number: t,
-        phase: control_at(control, PHASE, t),
-        newest: control_at(control, NEWEST, t),
-        previous: control_at(control, PREVIOUS, t),
-        seen: control_at(control, SEEN, t),
-        policy: time_at(times, POLICY, 0),
-        since: time_at(times, SINCE, t),
+        phase: control_at(control, InControl::Phase, t),
+        newest: control_at(control, InControl::Newest, t),
+        previous: control_at(control, InControl::Previous, t),
+        seen: control_at(control, InControl::Seen, t),
+        policy: entry_at(times, InTimes::Policy, 0),
+        since: entry_at(times, InTimes::Since, t),
     };
     show(put_task(shown, own, &mut line), &line);
 }
@@ -167,8 +164,8 @@ fn print_links(links: usize, control: &[u8; CONTROL]) {
     while l < end {
         print_link(
             l,
-            control_at(control, POINTER, l),
-            control_at(control, MARK, l),
+            control_at(control, InControl::Pointer, l),
+            control_at(control, InControl::Mark, l),
         );
         l += 1;
     }
@@ -176,9 +173,9 @@ fn print_links(links: usize, control: &[u8; CONTROL]) {
 
 // Writes the last tick, where there are deadlines: under fixed priorities no tick is kept.
 fn print_last_tick(times: &[u32; TIMES]) {
-    if time_at(times, POLICY, 0) != 0 {
+    if entry_at(times, InTimes::Policy, 0) != 0 {
         let mut line = [0u8; LINE];
-        show(put_last(time_at(times, LAST, 0), &mut line), &line);
+        show(put_last(entry_at(times, InTimes::Last, 0), &mut line), &line);
     }
 }
 

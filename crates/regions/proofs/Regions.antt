@@ -2,14 +2,12 @@
 -- Assumes nothing.
 use mathlib.Core.Path.{◌≡◌, refl, sym, ap, ◌∙◌}
 use mathlib.Core.List.{List, [], ◌∷◌, ◌++◌}
-use Prim.Native.Nat.{ℕ, zero, suc, ◌+◌, ◌*◌, ◌≤◌, ◌<◌}
-use native.Mathlib.Nat.{not-suc-le-zero, le_of_suc-le-suc, min-le_left, min-eq_left, zero-mul, suc-mul}
+use Prim.Native.Nat.{ℕ, zero, suc, ◌+◌, ◌≤◌, ◌<◌}
+use native.Mathlib.Nat.{not-suc-le-zero, min-le_left, min-eq_left}
 use native.Mathlib.Omega.{arith}
-use lib.ListN.{length, get_or, set, take, drop, replicate, length-take, length-drop, length-append, take-append-drop, get_or-eq_default}
+use lib.ListN.{length, get_or, set, take, drop, length-take, length-drop, length-append, take-append-drop, get_or-eq_default}
 use lib.Seq.{get_or-take, get_or-drop, take-set-lt, take-set-le, drop-set-lt, drop-set-add, set_out, set-get_or, take-append_seam, drop-append_seam}
-use borrow.Author.Tests.{lt-ltb, le-ltb}
-use native.Mathlib.Decide.{dec_le}
-use Rattle.regions.specs.Regions.{regions, region, start, width, extent, place, joined, Widths}
+use Rattle.regions.specs.Regions.{regions, region, start, width, extent, joined, Widths}
 
 -- what stands at place i of region k
 pub region_at : (ws xs : List ℕ) (k i : ℕ) → i < width ws k → get_or (region (regions ws xs) k) i 0 ≡ get_or xs (start ws k + i) 0
@@ -71,93 +69,17 @@ regions_whole (w ∷ ws) xs ys h k e =
     regions_whole ws (drop w xs) (drop w ys) (rw length-drop (omega arith)) (rw length-drop (omega arith)) r in
     sym (take-append-drop w xs) ∙ rw (t, d) (take-append-drop w ys)
 
--- where regions of one width begin: a of width w, and then those of ws
-module _ (w : ℕ) (ws : List ℕ) where
-  pub start_even : (a k : ℕ) → k < a → start (replicate a w ++ ws) k ≡ k * w
-  unfolding start
-  start_even zero k h = absurd (not-suc-le-zero h)
-  start_even (suc a) zero h = sym (zero-mul w)
-  start_even (suc a) (suc k) h =
-      let e : start (replicate a w ++ ws) k ≡ k * w = start_even a k (le_of_suc-le-suc h) in
-      let m : suc k * w ≡ k * w + w = suc-mul k w in
-      omega arith
-
-  pub width_even : (a k : ℕ) → k < a → width (replicate a w ++ ws) k ≡ w
-  width_even zero k h = absurd (not-suc-le-zero h)
-  width_even (suc a) zero h = refl
-  width_even (suc a) (suc k) h = width_even a k (le_of_suc-le-suc h)
-
-  -- and where those of ws begin after them
-  pub start_after : (a k : ℕ) → start (replicate a w ++ ws) (a + k) ≡ a * w + start ws k
-  unfolding start
-  start_after zero k =
-      let e : 0 + k ≡ k = omega arith in
-      let m : 0 * w ≡ 0 = zero-mul w in
-      rw (e, m) (omega arith)
-  start_after (suc a) k =
-      let e : suc a + k ≡ suc (a + k) = omega arith in
-      let m : suc a * w ≡ a * w + w = suc-mul a w in
-      let i : start (replicate a w ++ ws) (a + k) ≡ a * w + start ws k = start_after a k in
-      rw (e, m) (omega arith)
-
-  pub width_after : (a k : ℕ) → width (replicate a w ++ ws) (a + k) ≡ width ws k
-  width_after zero k =
-      let e : 0 + k ≡ k = omega arith in
-      rw e
-  width_after (suc a) k =
-      let e : suc a + k ≡ suc (a + k) = omega arith in
-      rw e (width_after a k)
-
--- a place of a region lies within all widths together
-region_within : (ws : List ℕ) (k i : ℕ) → i < width ws k → start ws k + i < extent ws
-unfolding start
-region_within [] k i h = absurd (not-suc-le-zero h)
-region_within (w ∷ ws) zero i h = omega arith
-region_within (w ∷ ws) (suc k) i h = omega (arith, region_within ws k i h)
-
 -- what is put past a region changes nothing
-regions_put_past :
+pub regions_put_past :
     (ws xs : List ℕ) (k i v : ℕ) → width ws k ≤ i → regions ws xs ≡ set (regions ws xs) k (set (region (regions ws xs) k) i v)
 regions_put_past ws xs k i v h =
     sym (set-get_or (regions ws xs) k []) ∙ ap (set (regions ws xs) k) (sym (region_set_past ws xs k i v h))
 
--- where a place stands: there is one
-pub place_is : (ws : List ℕ) (k i : ℕ) → i < width ws k → place ws k i ≡ start ws k + i
-place_is ws k i h = rw (lt-ltb i (width ws k) h)
-
--- there is none
-pub place_none : (ws : List ℕ) (k i : ℕ) → width ws k ≤ i → place ws k i ≡ extent ws
-place_none ws k i h = rw (le-ltb i (width ws k) h)
-
--- what stands there, and what is put there
-module _ (ws xs : List ℕ) (k i : ℕ) {p : ℕ} (e : p ≡ place ws k i) where
-  pub place_at : p < extent ws → get_or xs p 0 ≡ get_or (region (regions ws xs) k) i 0
-  place_at h = go (dec_le (width ws k) i) where
-    go : Dec (width ws k ≤ i) → get_or xs p 0 ≡ get_or (region (regions ws xs) k) i 0
-    go (yes l) = absurd (omega (arith, place_none ws k i l))
-    go (no l) =
-        ap (λ (j : ℕ). get_or xs j 0) (e ∙ place_is ws k i (omega arith)) ∙ sym (region_at ws xs k i (omega arith))
-
-  pub place_past : extent ws ≤ p → 0 ≡ get_or (region (regions ws xs) k) i 0
-  place_past h = go (dec_le (width ws k) i) where
-    go : Dec (width ws k ≤ i) → 0 ≡ get_or (region (regions ws xs) k) i 0
-    go (yes l) = sym (region_past ws xs k i l)
-    go (no l) =
-        absurd (omega (arith, place_is ws k i (omega arith), region_within ws k i (omega arith)))
-
-  pub place_put : (v : ℕ) → p < extent ws → regions ws (set xs p v) ≡ set (regions ws xs) k (set (region (regions ws xs) k) i v)
-  place_put v h = go (dec_le (width ws k) i) where
-    go : Dec (width ws k ≤ i) → regions ws (set xs p v) ≡ set (regions ws xs) k (set (region (regions ws xs) k) i v)
-    go (yes l) = absurd (omega (arith, place_none ws k i l))
-    go (no l) =
-        ap (λ (j : ℕ). regions ws (set xs j v)) (e ∙ place_is ws k i (omega arith)) ∙ regions_put ws xs k i v (omega arith)
-
-  pub place_put_past : (v : ℕ) → extent ws ≤ p → regions ws xs ≡ set (regions ws xs) k (set (region (regions ws xs) k) i v)
-  place_put_past v h = go (dec_le (width ws k) i) where
-    go : Dec (width ws k ≤ i) → regions ws xs ≡ set (regions ws xs) k (set (region (regions ws xs) k) i v)
-    go (yes l) = regions_put_past ws xs k i v l
-    go (no l) =
-        absurd (omega (arith, place_is ws k i (omega arith), region_within ws k i (omega arith)))
+-- nor does what is put past the end of the list
+pub regions_put_out :
+    (ws xs : List ℕ) (k i v : ℕ) → i < width ws k → length xs ≤ start ws k + i →
+    regions ws xs ≡ set (regions ws xs) k (set (region (regions ws xs) k) i v)
+regions_put_out ws xs k i v h l = ap (regions ws) (sym (set_out xs (start ws k + i) v l)) ∙ regions_put ws xs k i v h
 
 -- regions put together are cut into themselves, and fill the list
 pub regions_joined : (ws : List ℕ) (rs : List (List ℕ)) → Widths ws rs → regions ws (joined rs) ≡ rs

@@ -1,6 +1,6 @@
 -- A list that is cut into regions of given widths, one after the other.
 -- Assumes nothing.
-use Rattle.std.specs.Prelude.{◌≡◌, List, [], ◌∷◌, ◌++◌, cond, ℕ, zero, suc, ◌+◌, ltb, length, get_or, take, drop}
+use Rattle.std.specs.Prelude.{◌≡◌, List, [], ◌∷◌, ◌++◌, ℕ, zero, suc, ◌+◌, length, get_or, take, drop}
 
 -- the regions of `xs`, from the left; what is left over belongs to none
 unfoldable pub regions : List ℕ → List ℕ → List (List ℕ)
@@ -24,10 +24,6 @@ width ws k = get_or ws k 0
 -- how wide all of them are together
 abbrev pub extent : List ℕ → ℕ
 extent ws = start ws (length ws)
-
--- where place i of region k stands in the list; past the last region, if there is no such place
-abbrev pub place : List ℕ → ℕ → ℕ → ℕ
-place ws k i = cond (ltb i (width ws k)) (start ws k + i) (extent ws)
 
 -- regions put together again, one after the other
 unfoldable pub joined : List (List ℕ) → List ℕ

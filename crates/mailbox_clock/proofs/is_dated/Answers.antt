@@ -3,4 +3,4 @@
 use Rattle.mailbox_clock.proofs.is_dated.Goals as goal
 
 pub returns : goal.returns
-returns c = rw c.time_at.ensures
+returns c = rw c.entry_at.ensures

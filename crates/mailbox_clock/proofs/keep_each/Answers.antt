@@ -16,7 +16,7 @@ loop-t-preserved c = let h = c in
     let a = l.args in (
       omega arith,
       elim c.if-has.branch [
-        | then-has w ↦ kept_in a.set a.tick a.times.now _ l.loop-t.times l.loop-t.invariant.1 (sym h.has.ensures ∙ w.if-has.true) _ (ap cut_times w.times-is ∙ w.put_time.ensures)
+        | then-has w ↦ kept_in a.set a.tick a.times.now _ l.loop-t.times l.loop-t.invariant.1 (sym h.has.ensures ∙ w.if-has.true) _ (ap cut_times w.times-is ∙ w.put_entry.ensures)
         | else-has w ↦ ap cut_times w.times-is ∙ kept_out a.set a.tick a.times.now _ l.loop-t.times l.loop-t.invariant.1 (sym h.has.ensures ∙ w.if-has.false)
       ],
     )

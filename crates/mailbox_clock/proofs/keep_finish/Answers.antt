@@ -11,6 +11,6 @@ pub returns : goal.returns
 unfolding since_after
 returns c = let s = c in
     let a = s.args in record {
-      times = c.put_time-2.ensures ∙ ap (last_put a.tick) s.put_time.ensures;
-      dated = λ dated T L w k v. clock_goes T L k v a.times.now _ (finish _ w) dated _ _ s.put_time.ensures c.put_time-2.ensures;
+      times = c.put_entry-2.ensures ∙ ap (last_put a.tick) s.put_entry.ensures;
+      dated = λ dated T L w k v. clock_goes T L k v a.times.now _ (finish _ w) dated _ _ s.put_entry.ensures c.put_entry-2.ensures;
     }

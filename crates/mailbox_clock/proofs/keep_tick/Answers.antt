@@ -8,7 +8,7 @@ use Rattle.mailbox_clock.proofs.keep_tick.Goals as goal
 pub returns : goal.returns
 unfolding since_after
 returns c = let x = c.args.times.now in record {
-  times = c.put_time.ensures;
-  start = λ dated T L t k v. clock_goes T L k v x _ (start t) dated x _ (ticks_same x) c.put_time.ensures;
-  read = λ dated T L l k v. clock_goes T L k v x _ (read l) dated x _ (ticks_same x) c.put_time.ensures;
+  times = c.put_entry.ensures;
+  start = λ dated T L t k v. clock_goes T L k v x _ (start t) dated x _ (ticks_same x) c.put_entry.ensures;
+  read = λ dated T L l k v. clock_goes T L k v x _ (read l) dated x _ (ticks_same x) c.put_entry.ensures;
 }

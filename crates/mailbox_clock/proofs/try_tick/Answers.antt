@@ -3,4 +3,4 @@
 use Rattle.mailbox_clock.proofs.try_tick.Goals as goal
 
 pub returns : goal.returns
-returns c = rw (c.pick.ensures, c.pick-large.ensures, c.pick-falls.ensures, c.time_at.ensures, c.pick-other.ensures)
+returns c = rw (c.pick.ensures, c.pick-large.ensures, c.pick-falls.ensures, c.entry_at.ensures, c.pick-other.ensures)

@@ -4,7 +4,7 @@ use borrow.Author.Tests.{ne_eqb}
 use Rattle.mailbox_finish.proofs.number_of.Goals as goal
 
 pub returns-then-control_at-eq1 : goal.returns-then-control_at-eq1
-returns-then-control_at-eq1 c = rw (← c.control_at.ensures, c.if-control_at-eq1.true, c.value_at.ensures)
+returns-then-control_at-eq1 c = rw (← c.control_at.ensures, c.if-control_at-eq1.true, c.entry_at.ensures)
 
 pub returns : goal.returns
 returns c = let i = c in

@@ -3,4 +3,4 @@
 use Rattle.mailbox_layout.proofs.cell_at.Goals as goal
 
 pub returns : goal.returns
-returns c = rw c.cell_of.ensures at c.value_at.ensures
+returns c = rw c.cell_of.ensures at c.entry_at.ensures

@@ -3,4 +3,4 @@
 use Rattle.mailbox_layout.proofs.put_cell.Goals as goal
 
 pub returns : goal.returns
-returns c = rw c.cell_of.ensures at c.put_value.ensures
+returns c = rw c.cell_of.ensures at c.put_entry.ensures

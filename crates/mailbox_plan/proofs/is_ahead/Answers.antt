@@ -5,4 +5,4 @@ use Rattle.mailbox_plan.proofs.is_ahead.Goals as goal
 
 pub returns : goal.returns
 unfolding smaller ahead_by
-returns c = rw (c.time_at-x.ensures, c.time_at-y.ensures)
+returns c = rw (c.entry_at-x.ensures, c.entry_at-y.ensures)

@@ -29,6 +29,6 @@ returns c plan = let t = c in
     let all = rw (min-eq_left keeps.links) at plan in
     let counted = j.judge_table-refusal.ensures.counts (λ two. omega (arith, zero, two)) (λ three. omega (arith, zero, three)) ahead ranks plan in
     sound ahead (state_of a.tasks a.links a.control.now a.values.now a.times.now) judged zero
-    (rw (k.time_at-2.ensures, k.time_at.ensures) at k.clock_is-clock_stands.ensures)
+    (rw (k.entry_at-2.ensures, k.entry_at.ensures) at k.clock_is-clock_stands.ensures)
     (t.tasks_stand-a.ensures keeps.tasks.1 ahead a.links counted a.tasks a.values.now)
     (c.links_stand-b.ensures (λ l h. omega (arith, (keeps.each l h).writer, keeps.tasks.1)) ahead all counted a.tasks a.values.now a.times.now)

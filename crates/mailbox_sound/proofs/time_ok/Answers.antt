@@ -6,10 +6,10 @@ pub returns : goal.returns
 returns c T L v = let s = c in
     rw (
       c.deadline_is-deadline_stands.ensures,
-      c.time_at-4.ensures,
-      c.time_at-3.ensures,
+      c.entry_at-4.ensures,
+      c.entry_at-3.ensures,
       s.since_is-since_stands.ensures,
-      s.time_at-2.ensures,
-      s.time_at.ensures,
+      s.entry_at-2.ensures,
+      s.entry_at.ensures,
       s.control_at-phase.ensures,
     )

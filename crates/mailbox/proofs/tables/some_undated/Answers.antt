@@ -20,7 +20,7 @@ loop-t-init c = (omega arith, some_none _)
 
 pub loop-t-preserved : goal.loop-t-preserved
 loop-t-preserved c = let a = c.args in
-    (omega arith, some_more (undated_at a.times.now) _ (ap (λ (d : ℕ). eqb d 0) c.time_at.ensures) c.loop-t.invariant.1)
+    (omega arith, some_more (undated_at a.times.now) _ (ap (λ (d : ℕ). eqb d 0) c.entry_at.ensures) c.loop-t.invariant.1)
 
 pub returns : goal.returns
 returns c = some_end _ _ _ c.loop-t.invariant.1 c.loop-t.invariant.0 c.loop-t-test.false

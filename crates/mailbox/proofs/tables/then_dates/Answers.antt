@@ -7,12 +7,12 @@ use Rattle.mailbox.proofs.tables.then_dates.Goals as goal
 pub returns-then-refusal-eq2 : goal.returns-then-refusal-eq2
 returns-then-refusal-eq2 c room = rw c.if-refusal-eq2.true
 
-pub returns-then-time_at-eq0 : goal.returns-then-time_at-eq0
-returns-then-time_at-eq0 c room = dates_fixed c.if-refusal-eq2.false _ (rw c.time_at.ensures at c.if-time_at-eq0.true)
+pub returns-then-entry_at-eq0 : goal.returns-then-entry_at-eq0
+returns-then-entry_at-eq0 c room = dates_fixed c.if-refusal-eq2.false _ (rw c.entry_at.ensures at c.if-entry_at-eq0.true)
 
 pub returns : goal.returns
 returns c room = let s = c in
     let f = s in
     let i = f in
     let h = i.if-refusal-eq2.false in
-    dates_asked h _ (rw i.time_at.ensures at i.if-time_at-eq0.false) (rw (s.some_undated.ensures, f.few.ensures, min-eq_left (room h)) at c.pick.ensures)
+    dates_asked h _ (rw i.entry_at.ensures at i.if-entry_at-eq0.false) (rw (s.some_undated.ensures, f.few.ensures, min-eq_left (room h)) at c.pick.ensures)

@@ -12,7 +12,7 @@ loop-t-init c = (omega arith, λ D. c.fresh_times-times.ensures)
 pub loop-t-preserved : goal.loop-t-preserved
 loop-t-preserved c = let turn = c in
     let a = turn.args in
-    (omega arith, λ D. deadlines_more D a.deadlines.now 1 _ (turn.loop-t.invariant.1 D) (rw c.wide.ensures at c.put_time.ensures))
+    (omega arith, λ D. deadlines_more D a.deadlines.now 1 _ (turn.loop-t.invariant.1 D) (rw c.wide.ensures at c.put_entry.ensures))
 
 pub returns : goal.returns
 returns c D = let a = c.args in

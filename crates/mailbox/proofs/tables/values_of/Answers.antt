@@ -14,7 +14,7 @@ loop-t-init c = (omega arith, λ X. no_tasks)
 pub loop-t-preserved : goal.loop-t-preserved
 loop-t-preserved c = let turn = c in
     let a = turn.args in
-    (omega arith, λ X. tasks_more a.defaults.now X _ (turn.loop-t.invariant.1 X) c.put_value.ensures)
+    (omega arith, λ X. tasks_more a.defaults.now X _ (turn.loop-t.invariant.1 X) c.put_entry.ensures)
 
 pub returns : goal.returns
 returns c X = let l = c in

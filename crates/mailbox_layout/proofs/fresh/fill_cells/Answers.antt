@@ -8,7 +8,7 @@ pub loop-i-init : goal.loop-i-init
 loop-i-init c = (omega arith, cells_none _)
 
 pub loop-i-preserved : goal.loop-i-preserved
-loop-i-preserved c = (omega arith, cells_more _ _ _ _ c.loop-i.invariant.1 c.value_at-x.ensures c.put_value.ensures)
+loop-i-preserved c = (omega arith, cells_more _ _ _ _ c.loop-i.invariant.1 c.entry_at-x.ensures c.put_entry.ensures)
 
 pub returns : goal.returns
 returns c = cells_end _ _ c.loop-i.invariant.1 c.loop-i.invariant.0 c.loop-i-test.false

@@ -4,4 +4,4 @@ use Rattle.mailbox_layout.proofs.Tables.{no_deadlines}
 use Rattle.mailbox_layout.proofs.fresh.fresh_times.Goals as goal
 
 pub returns : goal.returns
-returns c = no_deadlines _ c.put_time.ensures
+returns c = no_deadlines _ c.put_entry.ensures

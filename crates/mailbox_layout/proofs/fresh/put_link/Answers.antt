@@ -10,5 +10,5 @@ returns c = let p = c in
     let a = p.args in record {
       control = p.put_control-3.ensures
           ∙ ap (with_number kind_region a.l a.link.kind) (p.put_control-2.ensures ∙ ap (with_number reader_region a.l a.link.reader) p.put_control.ensures);
-      values = c.put_value.ensures;
+      values = c.put_entry.ensures;
     }

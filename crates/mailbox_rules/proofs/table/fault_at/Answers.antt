@@ -31,6 +31,6 @@ returns c ahead ranks plan counted = let g = c in
       w.control_at.ensures,
       r.control_at-2.ensures,
       k.control_at-3.ensures,
-      v.value_at.ensures,
+      v.entry_at.ensures,
     ) at (c.fault_of.ensures ahead ranks (g.goes_behind.ensures ∙ flag_says a.args.l plan (omega arith) ∙ rw (w.control_at.ensures, r.control_at-2.ensures)))
     ∙ fault_by_count ahead a.args.tasks (link a.args.l) (some (λ j. same_pair (link a.args.l) (link j)) a.args.l) (λ h. counted.count (link a.args.l).writer (omega (arith, h, a.requires)))
