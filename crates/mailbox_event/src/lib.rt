@@ -1,8 +1,8 @@
 // An event, as it is given to the mailboxes and stands in a recording.
 #![tactic(auto)]
 
-ghost use Rattle.std.specs.Prelude.{◌≡◌};
-ghost use Rattle.mailbox_event.specs.Plain.{policy_for};
+ghost use Rattle.std.specs.Prelude.{◌≡◌, ◌%◌};
+ghost use Rattle.mailbox_event.specs.Plain.{row, policy_for};
 
 // The kinds of event, in the order of their numbers.
 #[derive(Clone, Copy, Debug, PartialEq, Eq)]
@@ -11,6 +11,20 @@ pub enum Kind {
     Start,
     Read,
     Finish,
+}
+
+// The kind of a number: any has one, by its remainder by four, as it has a row in the decision table.
+impl From<usize> for Kind {
+    ghost from_gives = { λ n kind. row kind ≡ n % 4 };
+
+    fn from(n: usize) -> Kind {
+        match n % 4 {
+            0 => Kind::Arrival,
+            1 => Kind::Start,
+            2 => Kind::Read,
+            _ => Kind::Finish,
+        }
+    }
 }
 
 // The arrival of a set of tasks, the start of a task, a read by a link, the finish of a task with a value.

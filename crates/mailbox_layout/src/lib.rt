@@ -72,7 +72,7 @@ pub enum InTimes {
 // The numbers of a state's times.
 pub const TIMES: usize = 2 * TASKS + 2;
 
-// A field of one of the three arrays, which is one of the regions that the array is cut into.
+// A field of an array, which is one of the regions that the array is cut into.
 pub trait Field: Copy {
     // how wide the regions are, and which of them it is
     ghost widths: { List ℕ };
@@ -164,10 +164,11 @@ impl Field for InTimes {
     }
 }
 
-// What stands at place `i` of a field of the control, by task or by link; 0 where there is no such place.
+// What stands at place `i` of a field of the control, by task or by link; 0 where there is no such place. Here and below anything may be asked for
+// that is a field, one past the last too.
 #[tactic(auto, using(regions::proofs::Regions::region_at, regions::proofs::Regions::region_past))]
-pub fn control_at(control: &[u8; CONTROL], field: InControl, i: usize) -> u8
-    ensures { result ≡ at (region (cut control.now) (control_region field)) i }
+pub fn control_at<F: Field>(control: &[u8], field: F, i: usize) -> u8
+    ensures { result ≡ at (region (regions F.widths control.now) (F.number field)) i }
 {
     if i < field.width() {
         control.get(field.start() + i).copied().unwrap_or(0)
@@ -178,12 +179,12 @@ pub fn control_at(control: &[u8; CONTROL], field: InControl, i: usize) -> u8
 
 // Puts a byte there, where there is such a place: no other place of any field changes.
 #[tactic(auto, using(regions::proofs::Regions::regions_put, regions::proofs::Regions::regions_put_past, regions::proofs::Regions::regions_put_out))]
-pub fn put_control(control: &mut [u8; CONTROL], field: InControl, i: usize, x: u8)
-    ensures { cut control.new ≡ set (cut control.old) (control_region field) (set (region (cut control.old) (control_region field)) i x) }
+pub fn put_control<F: Field>(control: &mut [u8], field: F, i: usize, x: u8)
+    ensures { regions F.widths control.new ≡ set (regions F.widths control.old) (F.number field) (set (region (regions F.widths control.old) (F.number field)) i x) }
 {
     if i < field.width() {
         let p = field.start() + i;
-        if p < CONTROL {
+        if p < control.len() {
             control[p] = x;
         }
     }
