@@ -33,29 +33,34 @@ module _ (ss : List Slot) (n : ℕ) (old : List ℕ) where
   unfolding back_buffer
   list_there e b = (e, b ∙ sym (rw (← e)))
 
+-- so much room
+module _ (ss : List Slot) (n room : ℕ) where
   -- no settings
-  pub none_given : n ≡ 0 → answer 2 0 ≡ written ss n (length old)
+  pub none_given : n ≡ 0 → answer 2 0 ≡ written ss n room
   unfolding written
   none_given e = sym (rw e)
 
   -- more than 64
-  pub many_given : 64 < n → answer 2 0 ≡ written ss n (length old)
+  pub many_given : 64 < n → answer 2 0 ≡ written ss n room
   unfolding written
   many_given h = sym (rw (ne_eqb n 0 (omega arith), lt-ltb 64 n h))
 
   module _ (z : n ≢ 0) (h : n ≤ 64) {b : ℕ} (e : b ≡ first_bad ss n) where
     -- a bad float
-    pub bad_given : b < n → answer 26 (1 + 9 * b) ≡ written ss n (length old)
+    pub bad_given : b < n → answer 26 (1 + 9 * b) ≡ written ss n room
     unfolding written
     bad_given l = sym (rw (count_fine n z h, ← e, lt-ltb b n l))
 
     module _ (g : n ≤ b) where
       -- a short buffer
-      pub short_buffer_lem : length old < list_size n → answer 18 (list_size n) ≡ written ss n (length old)
+      pub short_buffer_lem : room < list_size n → answer 18 (list_size n) ≡ written ss n room
       unfolding written
-      short_buffer_lem l = sym (rw (count_fine n z h, ← e, le-ltb b n g, lt-ltb (length old) (list_size n) l))
+      short_buffer_lem l = sym (rw (count_fine n z h, ← e, le-ltb b n g, lt-ltb room (list_size n) l))
 
       -- room enough
-      pub room_enough_lem : list_size n ≤ length old → answer 0 (list_size n) ≡ written ss n (length old)
+      pub room_enough_lem : list_size n ≤ room → answer 0 (list_size n) ≡ written ss n room
       unfolding written
-      room_enough_lem l = sym (rw (count_fine n z h, ← e, le-ltb b n g, le-ltb (length old) (list_size n) l))
+      room_enough_lem l = sym (rw (count_fine n z h, ← e, le-ltb b n g, le-ltb room (list_size n) l))
+
+-- what `judge` cites
+pub ruleset judge_steps = (none_given, many_given, bad_given, short_buffer_lem, room_enough_lem)

@@ -10,6 +10,7 @@ use native.Mathlib.Omega.{arith}
 use borrow.Author.Tests.{ltb-true, ltb-false}
 use lib.Dec.{eqb, ltb}
 use lib.ListN.{length, get_or, take, drop, length-map, length-append}
+use Rattle.std.proofs.lemmas.List.{get_or-take}
 use lib.Seq.{take-suc, drop_at, drop-drop, length-take-le}
 use Rattle.byte_format.specs.Number.{bytes_of}
 use Rattle.byte_format.specs.Format.{encodes}
@@ -39,13 +40,17 @@ within (x ∷ l) (suc i) d e h = within l i d e (le_of_suc-le-suc h)
 pub slot_there : (ss : List Slot) (i : ℕ) (d : Slot) → length ss ≡ 64 → i < 64 → (get_or ss i d).setting ≡ setting_at ss i
 slot_there ss i d l h = ap (λ (s : Slot). s.setting) (within ss i d (slot (Count 0)) (omega arith))
 
+-- and among the first n
+pub slot_taken : (ss : List Slot) (n i : ℕ) (d : Slot) → length ss ≡ 64 → n ≤ 64 → i < n → (get_or (take n ss) i d).setting ≡ setting_at ss i
+slot_taken ss n i d l m h = ap (λ (s : Slot). s.setting) (get_or-take n ss i d h) ∙ slot_there ss i d l (omega arith)
+
 -- and whether it is good
-pub good_there : (ss : List Slot) (i : ℕ) (d : Slot) {b : Bool} → length ss ≡ 64 → i < 64 → b ≡ eqb (float_fault (get_or ss i d).setting) 0 → b ≡ good_at ss i
-good_there ss i d l h e = e ∙ ap (λ (x : Setting). eqb (float_fault x) 0) (slot_there ss i d l h)
+pub good_taken : (ss : List Slot) (n i : ℕ) (d : Slot) {b : Bool} → length ss ≡ 64 → n ≤ 64 → i < n → b ≡ eqb (float_fault (get_or (take n ss) i d).setting) 0 → b ≡ good_at ss i
+good_taken ss n i d l m h e = e ∙ ap (λ (x : Setting). eqb (float_fault x) 0) (slot_taken ss n i d l m h)
 
 -- and that the machine holds it
-pub held_there : (ss : List Slot) (i : ℕ) (d : Slot) → length ss ≡ 64 → i < 64 → Held (get_or ss i d).setting → Held (setting_at ss i)
-held_there ss i d l h e = subst Held (slot_there ss i d l h) e
+pub held_taken : (ss : List Slot) (n i : ℕ) (d : Slot) → length ss ≡ 64 → n ≤ 64 → i < n → Held (get_or (take n ss) i d).setting → Held (setting_at ss i)
+held_taken ss n i d l m h e = subst Held (slot_taken ss n i d l m h) e
 
 -- one more that it holds
 pub held_more : (ss : List Slot) (i : ℕ) → ((k : ℕ) → k < i → Held (setting_at ss k)) → Held (setting_at ss i) → (k : ℕ) → k < i + 1 → Held (setting_at ss k)
@@ -106,16 +111,17 @@ module _ (ss : List Slot) (l : length ss ≡ 64) where
 
   -- a turn of the loop puts the next entry behind those before it
   pub entry_behind :
-      (n i : ℕ) (d : Slot) (old : List ℕ) {at : ℕ} {out new : List ℕ} → i < 64 → 1 + 9 * i + 9 ≤ length old → at ≡ 1 + 9 * i → length out ≡ length old → out ≡ begun ss n i ++ drop (1 + 9 * i) old →
-      float_fault (setting_at ss i) ≡ 0 → new ≡ entry_put out at (get_or ss i d).setting → new ≡ begun ss n (i + 1) ++ drop (1 + 9 * (i + 1)) old
-  entry_behind n i d old {at} {out} h g k o e z f =
+      (n i : ℕ) (d : Slot) (old : List ℕ) {out new : List ℕ} → n ≤ 64 → i < n → 1 + 9 * i + 9 ≤ length old → length out ≡ length old → out ≡ begun ss n i ++ drop (1 + 9 * i) old →
+      float_fault (setting_at ss i) ≡ 0 → new ≡ entry_put out (1 + 9 * i) (get_or (take n ss) i d).setting → new ≡ begun ss n (i + 1) ++ drop (1 + 9 * (i + 1)) old
+  entry_behind n i d old {out} m h g o e z f =
       let b = begun ss n i in
       let x = encode_entry (entry_of (setting_at ss i)) in
       let u : 1 + 9 * i ≡ length b = sym (length_begun n i (omega arith)) in
       let v : length (b ++ x) ≡ 1 + 9 * (i + 1) = omega (arith, length-append b x, length_entry (entry_of (setting_at ss i))) in
       let p : put_at (b ++ drop (length b) old) (length b) x ≡ (b ++ x) ++ drop (length (b ++ x)) old = put_behind old b x (omega (arith, length_entry (entry_of (setting_at ss i)))) in
       let q : put_at (b ++ drop (1 + 9 * i) old) (1 + 9 * i) x ≡ (b ++ x) ++ drop (1 + 9 * (i + 1)) old = rw (u, ← v) p in
-      entry_put_lem out at (setting_at ss i) (omega arith) z (f ∙ ap (entry_put out at) (slot_there ss i d l h)) ∙ rw (e, k, ← begun_more n i h) q
+      entry_put_lem out (1 + 9 * i) (setting_at ss i) (omega arith) z (f ∙ ap (entry_put out (1 + 9 * i)) (slot_taken ss n i d l m h))
+      ∙ rw (e, ← begun_more n i (omega arith)) q
 
   -- and after the last the list stands there
   pub all_behind : (n : ℕ) (old out₀ : List ℕ) {out : List ℕ} → n ≤ 64 → drop 1 out₀ ≡ drop 1 old → out ≡ begun ss n n ++ drop (1 + 9 * n) out₀ → out ≡ list_of ss n ++ drop (1 + 9 * n) old

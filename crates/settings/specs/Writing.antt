@@ -1,8 +1,10 @@
 -- Writing settings back: the answer, and the lent buffer.
 -- Assumes nothing.
-use Rattle.std.specs.Prelude.{◌≡◌, Bool, cond, List, ◌++◌, map, ℕ, ◌+◌, ◌*◌, ◌<◌, eqb, ltb, length, take, drop, get_or}
+use Rattle.std.specs.Prelude.{◌≡◌, Result, Ok, Err, Bool, cond, List, ◌++◌, map, ℕ, ◌+◌, ◌*◌, ◌<◌, eqb, ltb, length, take, drop, get_or}
 use Rattle.lists.specs.Lists.{first}
 use Rattle.byte_format.specs.Format.{encode_section}
+use Rattle.refusals.specs.declared.Refused.{Refused}
+use Rattle.refusals.specs.Numbers.{number}
 use Rattle.settings_entry.specs.declared.Setting.{Setting}
 use Rattle.settings_entry.specs.declared.Setting.TheVariants.{Count}
 use Rattle.settings_list.specs.declared.Slot.{Slot}
@@ -47,6 +49,11 @@ list_size n = 1 + 9 * n
 -- an answer with these two
 abbrev pub answer : ℕ → ℕ → Written
 answer r p = record { refusal = r; place = p }
+
+-- the answer of judging: how long the list is, or the refusal
+abbrev pub written_of : Result ℕ Refused → Written
+written_of (Ok p) = answer 0 p
+written_of (Err r) = answer (number r.refusal) r.place
 
 -- "it refuses a wrong number of settings (2), then a bad float (26), then a short buffer (18)"; the place is that in the list as it would be written
 unfoldable pub written : List Slot → ℕ → ℕ → Written

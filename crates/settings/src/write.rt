@@ -1,83 +1,77 @@
 // Settings written back: judged whole before the first byte is written.
-ghost use Rattle.std.specs.Prelude.{◌≡◌, ◌++◌, ◌+◌, ◌*◌, ◌≤◌, length, drop};
-ghost use Rattle.settings.specs.Writing.{first_bad, AllGood, HeldSlots, list_of, written, back_buffer};
+ghost use Rattle.std.specs.Prelude.{◌≡◌, ◌++◌, ◌+◌, ◌*◌, ◌≤◌, ◌<◌, length, drop, MatchOption, OnOk};
+ghost use Rattle.settings.specs.Writing.{first_bad, AllGood, HeldSlots, list_of, written, written_of, back_buffer};
 
 use crate::Written;
 use lent_bytes::number::put_number;
+use refusals::{Refusal, Refused};
 use settings_entry::ENTRY;
 use settings_list::{SETTINGS, Slot};
 use settings_put::{is_good, put_entry};
 
-// The first of so many settings that is a bad float; their number where none is.
-fn first_bad(settings: [Slot; SETTINGS], n: usize) -> usize
+// The first of so many settings that is a bad float, if one is.
+fn first_bad(settings: &[Slot; SETTINGS], n: usize) -> Option<usize>
     requires { n ≤ 64 }
-    ensures answer { result ≡ first_bad settings n }
-    ensures held { HeldSlots settings result }
+    ensures { MatchOption result ((n ≡ first_bad settings.now n) × (AllGood settings.now n × HeldSlots settings.now n))
+        (λ i. (i ≡ first_bad settings.now n) × (i < n)) }
 {
-    let mut i = 0;
-    while i < n {
-        let slot = settings[i];
-        let setting = slot.setting;
-        if !is_good(setting) {
-            return i;
+    for (i, slot) in settings[..n].iter().enumerate() {
+        if !is_good(slot.setting) {
+            return Some(i);
         }
-        i += 1;
     }
-    n
+    None
+}
+
+// How long the list of so many settings is, where it may be written into so much room: else 2 for a wrong number, then 26 for a bad float, then
+// 18 for too little room.
+#[tactic(auto, using(crate::proofs::WriteAnswers::judge_steps))]
+fn judge(settings: &[Slot; SETTINGS], number: usize, room: usize) -> Result<usize, Refused>
+    ensures answer { written_of result ≡ written settings.now number room }
+    ensures ready { OnOk result ((number ≤ 64) × ((1 + 9 * number ≤ room) × (AllGood settings.now number × HeldSlots settings.now number))) }
+{
+    if number == 0 || number > SETTINGS {
+        return Err(Refusal::WrongCount.at(0));
+    }
+    if let Some(bad) = first_bad(settings, number) {
+        return Err(Refusal::BadFloat.at(1 + ENTRY * bad));
+    }
+    let size = 1 + ENTRY * number;
+    if room < size {
+        return Err(Refusal::NoRoom.at(size));
+    }
+    Ok(size)
 }
 
 // Puts the count and so many entries, all of which may stand in a list.
-fn put_list(settings: [Slot; SETTINGS], n: usize, out: &mut [u8])
-    requires { (n ≤ 64) × ((1 + 9 * n ≤ length out.old) × AllGood settings n) }
-    ensures { out.new ≡ list_of settings n ++ drop (1 + 9 * n) out.old }
+fn put_list(settings: &[Slot; SETTINGS], n: usize, out: &mut [u8])
+    requires { (n ≤ 64) × ((1 + 9 * n ≤ length out.old) × AllGood settings.now n) }
+    ensures { out.new ≡ list_of settings.now n ++ drop (1 + 9 * n) out.old }
 {
     put_number(n as u64, 1, out, 0);
-    let mut at = 1;
-    let mut i = 0;
-    while i < n {
-        let slot = settings[i];
-        let setting = slot.setting;
-        put_entry(setting, out, at);
-        at += ENTRY;
-        i += 1;
+    for (i, slot) in settings[..n].iter().enumerate() {
+        put_entry(slot.setting, out, 1 + ENTRY * i);
     }
 }
 
-// Writes so many settings: 2 for a wrong number, then 26 for a bad float, then 18 for a short buffer.
+// Writes so many settings, unless they are refused.
+#[tactic(auto, using(refusals::proofs::Numbers::number_not_0), unfolding(crate::specs::Writing::back_buffer))]
 pub fn write_list(settings: [Slot; SETTINGS], number: usize, out: &mut [u8]) -> Written
     ensures answer { result ≡ written settings number (length out.old) }
     ensures buffer { out.new ≡ back_buffer settings number out.old }
     ensures held { result.refusal ≡ 0 → HeldSlots settings number }
 {
-    if number == 0 {
-        return Written {
-            refusal: 2,
-            place: 0,
-        };
-    }
-    if number > SETTINGS {
-        return Written {
-            refusal: 2,
-            place: 0,
-        };
-    }
-    let bad = first_bad(settings, number);
-    if bad < number {
-        return Written {
-            refusal: 26,
-            place: 1 + ENTRY * bad,
-        };
-    }
-    let size = 1 + ENTRY * number;
-    if out.len() < size {
-        return Written {
-            refusal: 18,
-            place: size,
-        };
-    }
-    put_list(settings, number, out);
-    Written {
-        refusal: 0,
-        place: size,
+    match judge(&settings, number, out.len()) {
+        Ok(size) => {
+            put_list(&settings, number, out);
+            Written {
+                refusal: 0,
+                place: size,
+            }
+        }
+        Err(why) => Written {
+            refusal: u8::from(why.refusal),
+            place: why.place,
+        },
     }
 }

@@ -20,11 +20,11 @@ use Rattle.settings_demands.proofs.FirstBad.{before_good, found_bad, past_good, 
 -- ---- the answer
 module _ (ss : List Slot) (n : ℕ) (old : List ℕ) where
   fault_written : {r p : ℕ} → WriteFault ss n (length old) r p → answer r p ≡ written ss n (length old)
-  fault_written (wrong_number (inl e)) = none_given ss n old e
-  fault_written (wrong_number (inr h)) = many_given ss n old h
-  fault_written (first_bad_float few i l g b) = bad_given ss n old (λ z. omega (arith, few.0)) few.1 (bad_found ss n i l g b) l
-  fault_written (short_buffer m l) = short_buffer_lem ss n old (λ z. omega (arith, m.few.0)) m.few.1 refl (past_good ss n n (omega arith) m.good) l
-  fault_written (room_enough m l) = room_enough_lem ss n old (λ z. omega (arith, m.few.0)) m.few.1 refl (past_good ss n n (omega arith) m.good) l
+  fault_written (wrong_number (inl e)) = none_given ss n (length old) e
+  fault_written (wrong_number (inr h)) = many_given ss n (length old) h
+  fault_written (first_bad_float few i l g b) = bad_given ss n (length old) (λ z. omega (arith, few.0)) few.1 (bad_found ss n i l g b) l
+  fault_written (short_buffer m l) = short_buffer_lem ss n (length old) (λ z. omega (arith, m.few.0)) m.few.1 refl (past_good ss n n (omega arith) m.good) l
+  fault_written (room_enough m l) = room_enough_lem ss n (length old) (λ z. omega (arith, m.few.0)) m.few.1 refl (past_good ss n n (omega arith) m.good) l
 
   abbrev Fault : Written → Type 0
   Fault w = WriteFault ss n (length old) w.refusal w.place

@@ -1,52 +1,23 @@
 -- An entry, read and judged: what the code finds at a place is what the format says of it.
 -- Assumes nothing.
-use mathlib.Core.Path.{◌≡◌, refl, sym, ap, ◌∙◌}
-use mathlib.Core.Logic.{◌≢◌, inl, inr, ⊎_elim}
-use mathlib.Core.Bool.{Bool, true, false, cond, true≢false}
-use mathlib.Core.List.{List, [], ◌∷◌}
-use Prim.Native.Nat.{ℕ, ◌+◌, ◌-◌, ◌<◌}
+use mathlib.Core.Path.{◌≡◌, refl, sym, ◌∙◌}
+use mathlib.Core.Logic.{◌≢◌}
+use mathlib.Core.Bool.{Bool, true, false, cond}
+use mathlib.Core.List.{List}
+use Prim.Native.Nat.{ℕ, ◌+◌, ◌-◌, ◌≤◌, ◌<◌}
 use native.Mathlib.Omega.{arith}
-use borrow.Author.Tests.{eqb-true, eqb-false, eq-eqb, ltb-true}
-use types.Run.{OneOf}
-use denote.Enum.Declared.{tag_of}
-use lib.Dec.{eqb, ltb, leb}
+use borrow.Author.Tests.{eqb-true, eqb-false, ltb-true, lt-leb, le-leb}
+use lib.Dec.{eqb, ltb}
 use lib.ListN.{length, get_or}
 use Rattle.byte_format.specs.Number.{number_at}
 use Rattle.byte_format.specs.Format.{Got, got, stop, then_read, sized}
 use Rattle.byte_format.specs.Kinded.{first_byte, record_at}
-use Rattle.settings_float.specs.AboveZero.{above_zero}
 use Rattle.settings_entry.specs.declared.Setting.{Setting}
-use Rattle.settings_entry.specs.declared.Setting.TheVariants.{Margin, Feed, Count}
 use Rattle.settings_entry.specs.declared.code.Code.{Code}
-use Rattle.settings_entry.specs.declared.code.Found.{Found}
-use Rattle.settings_entry.specs.declared.code.Found.TheVariants as found
 use Rattle.settings_entry.specs.Setting.{float_fault}
-use Rattle.settings_entry.specs.Entry.{Entry, code_of, codes, setting_made, setting_of}
-use Rattle.settings_entry.specs.Found.{code_found, reason_of, setting_judged, setting_taken}
-use Rattle.settings_entry.specs.contracts.code.Found as F
+use Rattle.settings_entry.specs.Entry.{Entry, code_of, codes, setting_of}
+use Rattle.settings_entry.specs.Found.{setting_judged, setting_taken}
 use Rattle.settings_entry.proofs.Records.{entries_lawful}
-
--- a setting without a fault is taken
-pub good_entry : (k : Code) (n : ℕ) → float_fault (setting_made k n) ≡ 0 → (q : ℕ) → got (setting_made k n) q ≡ setting_judged k n q
-unfolding setting_judged
-good_entry k n h q = rw (eq-eqb (float_fault (setting_made k n)) 0 h)
-
--- and one with a fault is refused with it, which is 26
-only_fault : (k : Code) (n : ℕ) → eqb (float_fault (setting_made k n)) 0 ≡ false → float_fault (setting_made k n) ≡ 26
-only_fault k n h = go (setting_made k n) h
-  where
-    bad : (b : Bool) → eqb (cond b 0 26) 0 ≡ false → ◌≡◌ {A = ℕ} (cond b 0 26) 26
-    bad true e = absurd (true≢false e)
-    bad false e = refl
-
-    go : (x : Setting) → eqb (float_fault x) 0 ≡ false → float_fault x ≡ 26
-    go (Margin x) e = bad (above_zero x) e
-    go (Feed x) e = bad (above_zero x) e
-    go (Count x) e = absurd (true≢false e)
-
-pub bad_entry_lem : (k : Code) (n : ℕ) → eqb (float_fault (setting_made k n)) 0 ≡ false → (q : ℕ) → stop 26 ≡ setting_judged k n q
-unfolding setting_judged
-bad_entry_lem k n h q = sym (rw (h, only_fault k n h))
 
 -- an entry of a found code, judged
 then_judged : List ℕ → ℕ → Got Code → Got Setting
@@ -56,41 +27,34 @@ then_taken : (s : List ℕ) (p : ℕ) {x : Got Code} → x ≡ first_byte code_o
 unfolding then_judged setting_taken
 then_taken s p e = rw e
 
--- which of the other two it is, where it is no known code
-pub no_code_tag : (x : Found) → ((k : Code) → x ≡ found.Known k → ⊥) → OneOf (1 ∷ 2 ∷ []) (tag_of F.the_type x)
-no_code_tag (found.Known k) h = absurd (h k refl)
-no_code_tag found.Unknown h = inl refl
-no_code_tag found.Missing h = inr refl
-
-module _ (f : Found) (s : List ℕ) (p : ℕ) (e : code_found f (p + 1) ≡ first_byte code_of s p) where
+module _ (s : List ℕ) (p : ℕ) where
   -- no code: the byte is unknown, or it is missing
-  pub no_code_lem : {r : ℕ} → OneOf (1 ∷ 2 ∷ []) (tag_of F.the_type f) → r ≡ reason_of f → stop r ≡ setting_taken s p
+  pub no_code_lem : {r : ℕ} → stop r ≡ first_byte code_of s p → stop r ≡ setting_taken s p
   unfolding then_judged
-  no_code_lem {r} o h = ap stop h ∙ go f o ∙ then_taken s p e
-    where
-      go : (x : Found) → OneOf (1 ∷ 2 ∷ []) (tag_of F.the_type x) → stop (reason_of x) ≡ then_judged s p (code_found x (p + 1))
-      go (found.Known k) t = ⊎_elim (λ (u : ◌≡◌ {A = ℕ} 0 1). absurd (omega arith)) (λ (u : ◌≡◌ {A = ℕ} 0 2). absurd (omega arith)) t
-      go found.Unknown t = refl
-      go found.Missing t = refl
+  no_code_lem e = then_taken s p e
 
-  module _ {k : Code} (g : f ≡ found.Known k) where
+  module _ {k : Code} (e : got k (p + 1) ≡ first_byte code_of s p) where
     -- a code: its byte is there
     pub code_there : p < length s
     unfolding first_byte
-    code_there = go (ltb p (length s)) refl (ap (λ (x : Found). code_found x (p + 1)) (sym g) ∙ e)
+    code_there = go (ltb p (length s)) refl e
       where
         go : (t : Bool) → ltb p (length s) ≡ t → got k (p + 1) ≡ cond t (code_of (get_or s p 0) (p + 1)) (stop 1) → p < length s
         go true t u = ltb-true _ _ t
         go false t u = let y : ◌≡◌ {A = ℕ} 0 1 = cc in absurd (omega arith)
 
-    -- and what follows is cut, or is judged
-    pub known_entry : {m n : ℕ} {x : Got Setting} → m ≡ length s - p → n ≡ number_at 8 s (p + 1) → x ≡ cond (leb 9 m) (setting_judged k n (p + 9)) (stop 1) → x ≡ setting_taken s p
+    -- what follows is cut
+    pub cut_entry : length s - p < 9 → stop 1 ≡ setting_taken s p
     unfolding then_judged
-    known_entry {m} {n} {x} l u v = v ∙ rw (l, u) (go (leb 9 (length s - p)) refl) ∙ ap (λ (y : Found). then_judged s p (code_found y (p + 1))) (sym g) ∙ then_taken s p e
-      where
-        go : (t : Bool) → leb 9 (length s - p) ≡ t → cond t (setting_judged k (number_at 8 s (p + 1)) (p + 9)) (stop 1) ≡ then_judged s p (got k (p + 1))
-        go true t = sym (rw t)
-        go false t = sym (rw t)
+    cut_entry h = sym (rw (lt-leb 9 (length s - p) h)) ∙ then_taken s p e
+
+    -- or it is judged
+    pub known_entry : 9 ≤ length s - p → setting_judged k (number_at 8 s (p + 1)) (p + 9) ≡ setting_taken s p
+    unfolding then_judged
+    known_entry h = sym (rw (le-leb 9 (length s - p) h)) ∙ then_taken s p e
+
+-- what `entry_at` cites
+pub ruleset entry_steps = (no_code_lem, code_there, cut_entry, known_entry)
 
 -- what stands at a place where an entry is due: an entry that is taken, one with a fault, or none
 pub data Turn (s : List ℕ) (p : ℕ) : Type 0 where

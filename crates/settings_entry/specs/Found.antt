@@ -1,33 +1,24 @@
 -- What the reader of an entry answers with, as the format says it.
 -- Assumes nothing.
-use Rattle.std.specs.Prelude.{cond, List, ℕ, eqb}
+use Rattle.std.specs.Prelude.{Result, Ok, Err, cond, List, ℕ, eqb}
 use Rattle.byte_format.specs.Format.{Got, got, stop, then_read}
 use Rattle.byte_format.specs.Kinded.{record_at}
+use Rattle.refusals.specs.declared.Refusal.{Refusal}
+use Rattle.refusals.specs.Numbers.{number}
 use Rattle.settings_entry.specs.declared.Setting.{Setting}
 use Rattle.settings_entry.specs.declared.code.Code.{Code}
-use Rattle.settings_entry.specs.declared.code.Found.{Found}
-use Rattle.settings_entry.specs.declared.code.Found.TheVariants as found
-use Rattle.settings_entry.specs.declared.Next.{Next}
-use Rattle.settings_entry.specs.declared.Next.TheVariants as next
 use Rattle.settings_entry.specs.Setting.{float_fault}
 use Rattle.settings_entry.specs.Entry.{codes, setting_made}
 
--- the document's number for what stands where a code is due: why there is none, 0 where there is one
-abbrev pub reason_of : Found → ℕ
-reason_of (found.Known k) = 0
-reason_of found.Unknown = 11
-reason_of found.Missing = 1
-
 -- a code and the place after it, or the refusal
-abbrev pub code_found : Found → ℕ → Got Code
-code_found (found.Known k) q = got k q
-code_found found.Unknown q = stop (reason_of found.Unknown)
-code_found found.Missing q = stop (reason_of found.Missing)
+abbrev pub code_found : Result Code Refusal → ℕ → Got Code
+code_found (Ok k) q = got k q
+code_found (Err r) q = stop (number r)
 
 -- a setting and the place after its entry, or the refusal
-abbrev pub next_of : Next → ℕ → Got Setting
-next_of (next.Got x) q = got x q
-next_of (next.Refused r) q = stop r
+abbrev pub next_of : Result Setting Refusal → ℕ → Got Setting
+next_of (Ok x) q = got x q
+next_of (Err r) q = stop (number r)
 
 -- the setting of a code and 8 bytes that end at q, judged
 unfoldable pub setting_judged : Code → ℕ → ℕ → Got Setting

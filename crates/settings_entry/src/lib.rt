@@ -1,15 +1,16 @@
 // One entry of a list, judged from the left: code missing, code unknown, rest missing, bad float.
 #![tactic(auto)]
 
-ghost use Rattle.std.specs.Prelude.{◌≡◌, cond, ℕ, ◌+◌, eqb};
-ghost use Rattle.byte_format.specs.Format.{stop};
-ghost use Rattle.settings_entry.specs.Setting.{float_fault};
-ghost use Rattle.settings_entry.specs.Entry.{setting_made};
+ghost use Rattle.std.specs.Prelude.{◌≡◌, true, false, ℕ, ◌+◌, MatchResult};
+ghost use Rattle.std.specs.Float.{binary64};
+ghost use Rattle.std.specs.Float.Ieee.{of_bits};
+ghost use Rattle.settings_float.specs.AboveZero.{above_zero};
 ghost use Rattle.settings_entry.specs.Found.{next_of, setting_judged, setting_taken};
 
-use crate::code::{Code, Found, code_at, reason};
+use crate::code::{Code, code_at};
 use lent_bytes::number::number_at;
 use lent_bytes::place::room;
+use refusals::Refusal;
 use settings_float::bits_above_zero;
 
 mod code;
@@ -18,7 +19,7 @@ mod code;
 pub const ENTRY: usize = 9;
 
 // A setting, with its own value.
-#[derive(Clone, Copy)]
+#[derive(Clone, Copy, Debug, PartialEq)]
 pub enum Setting {
     // millimetres
     Margin(f64),
@@ -27,59 +28,39 @@ pub enum Setting {
     Count(u64),
 }
 
-// What stands at a place where an entry is due: its setting, or the refusal.
-#[derive(Clone, Copy)]
-pub enum Next {
-    Got(Setting),
-    Refused(u8),
+// The float of eight bytes, where they are those of a finite number above zero. The bits of a bad float are never made a float.
+#[tactic(auto, using(settings_float::proofs::Floats::no_nan_bits))]
+fn float_of(bits: u64) -> Result<f64, Refusal>
+    ensures { MatchResult result (λ x. (x ≡ of_bits binary64 bits) × (above_zero x ≡ true))
+        (λ why. (why ≡ Refusal.BadFloat) × (above_zero (of_bits binary64 bits) ≡ false)) }
+{
+    if bits_above_zero(bits) {
+        Ok(f64::from_bits(bits))
+    } else {
+        Err(Refusal::BadFloat)
+    }
 }
 
-// Whether a code and eight bytes may be a setting: a margin and a feed rate only where the bytes are those of a finite number above zero.
-fn is_good(code: Code, bits: u64) -> bool
-    ensures { result ≡ eqb (float_fault (setting_made code bits)) 0 }
+// The setting of a code and eight bytes: a margin and a feed rate only of a float above zero.
+#[tactic(auto, unfolding(crate::specs::Found::setting_judged))]
+fn setting_of(code: Code, bits: u64) -> Result<Setting, Refusal>
+    ensures { (q : ℕ) → next_of result q ≡ setting_judged code bits q }
 {
     match code {
-        Code::Margin => bits_above_zero(bits),
-        Code::Feed => bits_above_zero(bits),
-        Code::Count => true,
+        Code::Margin => Ok(Setting::Margin(float_of(bits)?)),
+        Code::Feed => Ok(Setting::Feed(float_of(bits)?)),
+        Code::Count => Ok(Setting::Count(bits)),
     }
 }
 
-// The setting of a code and eight bytes that may be one. The bits of a bad float are never made a float.
-fn make(code: Code, bits: u64) -> Setting
-    requires { float_fault (setting_made code bits) ≡ 0 }
-    ensures { result ≡ setting_made code bits }
-{
-    match code {
-        Code::Margin => Setting::Margin(f64::from_bits(bits)),
-        Code::Feed => Setting::Feed(f64::from_bits(bits)),
-        Code::Count => Setting::Count(bits),
-    }
-}
-
-// An entry of a known code: 1 where it is cut, then 26 for a bad float, else its setting.
-fn judge(code: Code, bits: u64, whole: bool) -> Next
-    ensures { (q : ℕ) → next_of result q ≡ cond whole (setting_judged code bits q) (stop 1) }
-{
-    let good = is_good(code, bits);
-    if !whole {
-        return Next::Refused(1);
-    }
-    if !good {
-        return Next::Refused(26);
-    }
-    let setting = make(code, bits);
-    Next::Got(setting)
-}
-
-// The entry at a place.
-pub fn entry_at(s: &[u8], at: usize) -> Next
+// The entry at a place: its setting, or the refusal.
+#[tactic(auto, using(crate::proofs::Entries::entry_steps))]
+pub fn entry_at(s: &[u8], at: usize) -> Result<Setting, Refusal>
     ensures { next_of result (at + 9) ≡ setting_taken s.now at }
 {
-    let found = code_at(s, at);
-    let Found::Known(code) = found else {
-        return Next::Refused(reason(found));
-    };
-    let bits = number_at(s, at + 1, 8);
-    judge(code, bits, room(s, at) >= ENTRY)
+    let code = code_at(s, at)?;
+    if room(s, at) < ENTRY {
+        return Err(Refusal::Ends);
+    }
+    setting_of(code, number_at(s, at + 1, 8))
 }

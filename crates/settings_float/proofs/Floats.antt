@@ -12,6 +12,7 @@ use lib.IntN.{ℤ, pos, negsuc}
 use lib.Pow.{pow_pos}
 use lib.Ieee.{Float, nan, inf, fin, Format, binary64, prec, low, hid, ones, top, up, down, size, odd, of_fields, of_bits, to_bits, nan_bits, is_nan, lt}
 use lib.Ieee.Bits.{to_bits-of_bits, nan_bits_is, nan_bits_above}
+use Rattle.std.specs.Float.{float_is_finite}
 use Rattle.settings_float.specs.AboveZero.{above_zero}
 
 -- the bits of the infinity above zero
@@ -128,11 +129,6 @@ bits_kept b h a = to_bits-of_bits binary64 b h (no_nan (of_bits binary64 b) a)
 pub no_nan_bits : (b : ℕ) → above_zero (of_bits binary64 b) ≡ true → T (not (nan_bits binary64 b))
 no_nan_bits b a = rw (nan_bits_is binary64 b) (no_nan (of_bits binary64 b) a)
 
--- the infinity's bits are no NaN's
-pub infinity_no_nan : T (not (nan_bits binary64 infinite))
-unfolding nan_bits
-infinity_no_nan = tt
-
 -- a power of two
 up_pos : (e : ℤ) → 0 < up e
 up_pos (pos k) = pow_pos k
@@ -146,12 +142,12 @@ scaled u d h (suc m) =
     let b : 0 * d < suc m * u * 1 = rw zero-mul (omega arith) in
     rw (lt-ltb (0 * d) (suc m * u * 1) b, lt-ltb 0 (suc m) (omega arith))
 
--- by comparing: above zero and below the infinity
-pub above_zero_compared : (x : Float) → above_zero x ≡ (lt (of_bits binary64 0) x && lt x (of_bits binary64 infinite))
-unfolding lt
-above_zero_compared x = rw (zero_bits, infinite_bits) (go x)
+-- by comparing: above zero, and finite
+pub above_zero_compared : (x : Float) → above_zero x ≡ (lt (of_bits binary64 0) x && float_is_finite x)
+unfolding lt float_is_finite
+above_zero_compared x = rw zero_bits (go x)
   where
-    go : (x : Float) → above_zero x ≡ (lt (fin false 0 (pos 0)) x && lt x (inf false))
+    go : (x : Float) → above_zero x ≡ (lt (fin false 0 (pos 0)) x && float_is_finite x)
     go nan = refl
     go (inf true) = refl
     go (inf false) = refl

@@ -47,6 +47,9 @@ module _ (s : List ℕ) (h : length s ≢ 0) where
   pub count_right : get_or s 0 0 ≢ 0 → get_or s 0 0 ≤ 64 → got (get_or s 0 0) 1 ≡ count_at 1 count_limit s 0
   count_right n l = sym (is ∙ rw (ne_eqb (get_or s 0 0) 0 n, le-ltb 64 (get_or s 0 0) l))
 
+-- what `count` cites
+pub ruleset count_steps = (no_count_lem, count_none, count_many, count_right)
+
 -- a count that was read is from 1 to 64
 pub count_said : (s : List ℕ) → Bytes s → {n q : ℕ} → got n q ≡ count_at 1 count_limit s 0 → n ≤ 64
 count_said s b {n} e = go (counted 1 count_limit s 0 b (omega arith))

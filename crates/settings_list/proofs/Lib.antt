@@ -2,3 +2,4 @@
 pub mod Turns
 pub mod Counting
 pub mod Answers
+pub mod Placed

@@ -21,13 +21,14 @@ use text_line::show;
 pub const BYTES: usize = 1 + 9 * SETTINGS + 1;
 
 // The line of a setting, with its number in the list. A margin and a feed rate are shown by the bits of their float.
+#[tactic(auto, using(settings_float::proofs::Floats::no_nan, settings_entry::proofs::Faults::good_float))]
 fn put_setting(number: usize, setting: Setting, out: &mut [u8]) -> usize
     requires { float_fault setting ≡ 0 }
     ensures { Put (setting_line number setting) out.old result out.new }
 {
     match setting {
-        Setting::Margin(x) => put_margin(number, f64::to_bits(x), out),
-        Setting::Feed(x) => put_feed(number, f64::to_bits(x), out),
+        Setting::Margin(x) => put_margin(number, x.to_bits(), out),
+        Setting::Feed(x) => put_feed(number, x.to_bits(), out),
         Setting::Count(n) => put_count(number, n, out),
     }
 }
@@ -41,15 +42,12 @@ fn print_setting(number: usize, setting: Setting)
 }
 
 // Writes the lines of the first n settings, which have the numbers from 1 on.
-fn print_settings(settings: [Slot; SETTINGS], n: usize)
-    requires { (n ≤ 64) × AllGood settings n }
+#[tactic(auto, using(settings::proofs::Writing::slot_taken))]
+fn print_settings(settings: &[Slot; SETTINGS], n: usize)
+    requires { (n ≤ 64) × AllGood settings.now n }
 {
-    let mut i = 0;
-    while i < n {
-        let slot = settings[i];
-        let setting = slot.setting;
-        print_setting(i + 1, setting);
-        i += 1;
+    for (i, slot) in settings[..n].iter().enumerate() {
+        print_setting(i + 1, slot.setting);
     }
 }
 
@@ -71,12 +69,11 @@ pub fn print_migration(s: &[u8]) -> Migration
     ensures { result ≡ migration s.now }
 {
     let m = migrate(s);
-    if m.refusal != 0 {
+    if m.refusal == 0 {
+        print_settings(&m.settings, m.number);
+        print_migrated(m.number);
+    } else {
         print_refused(m.refusal, m.place);
-        return m;
     }
-    let settings = m.settings;
-    print_settings(settings, m.number);
-    print_migrated(m.number);
     m
 }

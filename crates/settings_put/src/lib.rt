@@ -1,8 +1,8 @@
 // One setting put into a list: whether it may stand there, and its entry.
 #![tactic(auto)]
 
-ghost use Rattle.std.specs.Prelude.{◌≡◌, true, ◌∷◌, ◌+◌, ◌≤◌, eqb, length};
-ghost use Rattle.byte_format.specs.Number.{bytes_of, Wide};
+ghost use Rattle.std.specs.Prelude.{◌≡◌, ◌∷◌, ◌+◌, ◌≤◌, eqb, length};
+ghost use Rattle.byte_format.specs.Number.{bytes_of};
 ghost use Rattle.lent_bytes.specs.Put.{put_at};
 ghost use Rattle.settings_entry.specs.Setting.{float_fault, Held};
 ghost use Rattle.settings_entry.specs.Entry.{encode_entry, entry_of};
@@ -13,55 +13,46 @@ use lent_bytes::place::left;
 use settings_entry::{ENTRY, Setting};
 use settings_float::above_zero;
 
-// Any count may stand in a list: it is a number of 64 bits.
-fn any_count(n: u64) -> bool
-    ensures answer { result ≡ true }
-    ensures held { Wide 8 n }
-{
-    true
-}
-
-// Whether a setting may stand in a list: a margin and a feed rate only where they are finite and above zero.
+// Whether a setting may stand in a list: a margin and a feed rate only where they are finite and above zero, a count always.
 pub fn is_good(setting: Setting) -> bool
     ensures answer { result ≡ eqb (float_fault setting) 0 }
     ensures held { Held setting }
 {
     match setting {
-        Setting::Margin(x) => above_zero(x),
-        Setting::Feed(x) => above_zero(x),
-        Setting::Count(n) => any_count(n),
+        Setting::Margin(x) | Setting::Feed(x) => above_zero(x),
+        Setting::Count(_) => true,
     }
 }
 
 // Puts a code byte and eight bytes.
+#[tactic(auto, using(lent_bytes::proofs::Puts::put_byte_number))]
 fn put_coded(code: u8, bits: u64, out: &mut [u8], at: usize)
     requires { at + 9 ≤ length out.old }
     ensures { out.new ≡ put_at out.old at (code ∷ bytes_of 8 bits) }
 {
-    put_number(code as u64, 1, out, at);
+    put_number(u64::from(code), 1, out, at);
     put_number(bits, 8, out, at + 1);
 }
 
 // Puts the entry of a setting that may stand in a list.
+#[tactic(auto, using(settings_float::proofs::Floats::no_nan, settings_entry::proofs::Faults::good_float))]
 fn put_good(setting: Setting, out: &mut [u8], at: usize)
     requires { (at + 9 ≤ length out.old) × (float_fault setting ≡ 0) }
     ensures { out.new ≡ put_at out.old at (encode_entry (entry_of setting)) }
 {
     match setting {
-        Setting::Margin(x) => put_coded(1, f64::to_bits(x), out, at),
-        Setting::Feed(x) => put_coded(2, f64::to_bits(x), out, at),
+        Setting::Margin(x) => put_coded(1, x.to_bits(), out, at),
+        Setting::Feed(x) => put_coded(2, x.to_bits(), out, at),
         Setting::Count(n) => put_coded(3, n, out, at),
     }
 }
 
 // Puts the entry of a setting that may stand in a list, where there is room for it; else no byte changes.
+#[tactic(auto, unfolding(crate::specs::Put::entry_put))]
 pub fn put_entry(setting: Setting, out: &mut [u8], at: usize)
     ensures { out.new ≡ entry_put out.old at setting }
 {
-    if left(out.len(), at) < ENTRY {
-        return;
-    }
-    if is_good(setting) {
+    if left(out.len(), at) >= ENTRY && is_good(setting) {
         put_good(setting, out, at);
     }
 }
