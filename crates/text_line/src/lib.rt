@@ -1,12 +1,9 @@
 // A line of text, made piece by piece: what no longer fits its room is cut off, and nothing is asked of whoever makes one.
 #![tactic(auto)]
 
-ghost use Rattle.std.specs.Prelude.{◌≡◌, ◌+◌, ◌≤◌, length};
-ghost use Rattle.std.proofs.Math.Seq.{paste};
+ghost use Rattle.std.specs.Prelude.{◌≡◌, length};
 ghost use Rattle.text_line.specs.Numeral.{space, digits, number};
 ghost use Rattle.text_line.specs.Shown.{shown, joined, feed, fit, empty_line, with_text, Put};
-
-use lists::few;
 
 // The room of a line, its line feed among it.
 pub const ROOM: usize = 384;
@@ -16,30 +13,11 @@ const STDOUT_FILENO: i32 = 1;
 
 const STDERR_FILENO: i32 = 2;
 
-// A line: its first `size` bytes are there.
+// A line: its first `size` bytes are there. An array with its size beside: a line takes no memory but its own, and `shown` speaks of both.
 #[derive(Clone, Copy)]
 pub struct Line {
     pub bytes: [u8; ROOM],
     pub size: usize,
-}
-
-// How much of a buffer a line of n bytes takes: all n, or none where it has no room.
-fn fitting(n: usize, room: usize) -> usize
-    ensures { result ≡ fit n room }
-{
-    if n <= room { n } else { 0 }
-}
-
-// The first n bytes of a text, copied into a buffer from a place on.
-fn copy(text: &[u8], n: usize, out: &mut [u8], at: usize)
-    requires { (n ≤ length text.now) × (at + n ≤ length out.old) }
-    ensures { out.new ≡ paste out.old at text.now n }
-{
-    let mut i = 0;
-    while i < n {
-        out[at + i] = text[i];
-        i += 1;
-    }
 }
 
 impl Line {
@@ -54,18 +32,15 @@ impl Line {
     }
 
     // One text more.
-    pub fn text(self, text: &[u8]) -> Line
+    pub fn text(mut self, text: &[u8]) -> Line
         ensures answer { result ≡ with_text self text.now }
         ensures shows { shown result ≡ joined (shown self) text.now }
     {
-        let at = few(self.size, ROOM);
-        let n = few(ROOM - at, text.len());
-        let mut bytes = self.bytes;
-        copy(text, n, &mut bytes, at);
-        Line {
-            bytes,
-            size: at + n,
-        }
+        let at = self.size.min(ROOM);
+        let n = (ROOM - at).min(text.len());
+        self.bytes[at..at + n].copy_from_slice(&text[..n]);
+        self.size = at + n;
+        self
     }
 
     // A space and a number in decimal.
@@ -75,8 +50,7 @@ impl Line {
     {
         let mut digits = [0u8; 20];
         let k = io::decimal(n, &mut digits);
-        let spaced = self.text(b" ");
-        spaced.text(&digits[..k])
+        self.text(b" ").text(&digits[..k])
     }
 
     // The line with its line feed, at the start of a lent buffer: how many bytes it has. Where the buffer has no room for it, it is left as
@@ -85,9 +59,11 @@ impl Line {
         ensures { Put (joined (shown self) feed) out.old result out.new }
     {
         let whole = self.text(b"\n");
-        let size = fitting(few(whole.size, ROOM), out.len());
-        let bytes = whole.bytes;
-        copy(&bytes, size, out, 0);
+        let size = whole.size.min(ROOM);
+        if out.len() < size {
+            return 0;
+        }
+        out[..size].copy_from_slice(&whole.bytes[..size]);
         size
     }
 }
@@ -96,11 +72,11 @@ impl Line {
 fn write_line(file: i32, n: usize, line: &[u8]) -> usize
     ensures { result ≡ fit n (length line.now) }
 {
-    if n <= line.len() {
-        io::write_all(file, &line[..n]);
-        return n;
-    }
-    0
+    let Some(part) = line.get(..n) else {
+        return 0;
+    };
+    io::write_all(file, part);
+    n
 }
 
 // Writes the first n bytes of a made line to standard output: how many are handed over, none where the line has fewer than n.

@@ -17,9 +17,9 @@ returns c =
     let a = c.args in
     let d = c.decimal-k in
     let x = spelled a.n d.result d.new.out (search rules) d.ensures.len d.ensures.digits in
-    let first = c.text-spaced.ensures in
+    let first = c.text.ensures in
     record {
-      answer = c.text.ensures.answer ∙ rw (first.answer, x.1);
-      shows = c.text.ensures.shows ∙ onto (shown a.self) space (take d.result d.new.out) first.shows
+      answer = c.text-2.ensures.answer ∙ rw (first.answer, x.1);
+      shows = c.text-2.ensures.shows ∙ onto (shown a.self) space (take d.result d.new.out) first.shows
           ∙ ap (λ (z : List ℕ). joined (shown a.self) (space ++ z)) x.1;
     }
