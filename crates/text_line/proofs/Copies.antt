@@ -12,7 +12,7 @@ use lib.Seq.{paste, take-paste, take-append-add, take-length, take_all, length-t
 use Rattle.text_line.specs.Shown.{joined}
 
 -- no more can be taken than there is
-pub take_least : (n : ℕ) (l : List ℕ) → take (min n (length l)) l ≡ take n l
+take_least : (n : ℕ) (l : List ℕ) → take (min n (length l)) l ≡ take n l
 take_least n l = go (leb n (length l)) refl
   where
     go : (b : Bool) → leb n (length l) ≡ b → take (min n (length l)) l ≡ take n l

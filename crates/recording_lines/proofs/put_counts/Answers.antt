@@ -12,4 +12,4 @@ returns c =
     (piece _ _ _ c.number.ensures.shows
     (piece _ _ _ c.number-2.ensures.shows
     (piece _ _ _ c.number-3.ensures.shows
-    (piece _ _ _ c.number-line.ensures.shows c.put.ensures)))))
+    (piece _ _ _ c.number-4.ensures.shows c.put.ensures)))))

@@ -12,4 +12,4 @@ returns c =
     (piece _ _ _ c.number.ensures.shows
     (piece _ _ _ c.text-named.ensures.shows
     (piece _ _ _ c.with_pointer.ensures
-    (piece _ _ _ c.with_mark-line.ensures c.put.ensures)))))
+    (piece _ _ _ c.with_mark.ensures c.put.ensures)))))

@@ -9,4 +9,4 @@ returns c =
     let a = c.args in
     whole _ c.empty.ensures (named_fits a.word.now a.n c.requires)
     (piece _ _ _ c.text.ensures.shows
-    (piece _ _ _ c.number-line.ensures.shows c.put.ensures))
+    (piece _ _ _ c.number.ensures.shows c.put.ensures))

@@ -9,5 +9,5 @@ returns c =
     let a = c.args in
     whole _ c.empty.ensures (read_fits a.link a.value)
     (piece _ _ _ c.text.ensures.shows
-    (piece _ _ _ c.number.ensures.shows
-    (piece _ _ _ c.number-line.ensures.shows c.put.ensures)))
+    (piece _ _ _ (rw c.from.ensures at c.number.ensures.shows)
+    (piece _ _ _ (rw c.from-2.ensures at c.number-2.ensures.shows) c.put.ensures)))

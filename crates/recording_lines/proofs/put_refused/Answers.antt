@@ -9,6 +9,6 @@ returns c =
     let a = c.args in
     whole _ c.empty.ensures (refused_fits a.refusal a.place)
     (piece _ _ _ c.text.ensures.shows
-    (piece _ _ _ c.number.ensures.shows
+    (piece _ _ _ (rw c.from.ensures at c.number.ensures.shows)
     (piece _ _ _ c.text-2.ensures.shows
-    (piece _ _ _ c.number-line.ensures.shows c.put.ensures))))
+    (piece _ _ _ c.number-2.ensures.shows c.put.ensures))))

@@ -12,9 +12,9 @@ returns c =
     (piece _ _ _ c.number-named.ensures.shows
     (piece _ _ _ c.with_phase.ensures
     (piece _ _ _ c.text-2.ensures.shows
-    (piece _ _ _ c.number.ensures.shows
+    (piece _ _ _ (rw c.from.ensures at c.number.ensures.shows)
     (piece _ _ _ c.text-3.ensures.shows
-    (piece _ _ _ c.number-placed.ensures.shows
+    (piece _ _ _ (rw c.from-2.ensures at c.number-placed.ensures.shows)
     (piece _ _ _ c.text-4.ensures.shows
     (piece _ _ _ c.with_cells-filled.ensures
     (piece _ _ _ c.with_had-had.ensures
