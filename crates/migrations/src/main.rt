@@ -27,11 +27,6 @@ const HEAD: usize = 5;
 // What each byte of a buffer is before it is lent, so that a touched one shows.
 const UNTOUCHED: u8 = 170;
 
-// A number of two bytes.
-fn number_of(low: u8, high: u8) -> usize {
-    low as usize + 256 * high as usize
-}
-
 // Writes how many bytes were written.
 fn print_length(n: usize) {
     let mut bytes = [0u8; ROOM];
@@ -65,9 +60,8 @@ fn answer(list: &[u8], number: usize, room: usize)
     requires { room ≤ 600 }
 {
     let m = print_migration(list);
-    let settings = m.settings;
     let mut buffer = [UNTOUCHED; MOST];
-    print_lent(settings, number, &mut buffer[..room]);
+    print_lent(m.settings, number, &mut buffer[..room]);
 }
 
 // Reads the list of a frame into a lent buffer of its length and answers, unless the input ends inside it: whether to go on.
@@ -75,11 +69,11 @@ fn answer_list(list: &mut [u8], number: usize, room: usize) -> bool
     requires { room ≤ 600 }
 {
     let n = io::read_full(STDIN_FILENO, list);
-    if n < list.len() {
-        return false;
+    let whole = n == list.len();
+    if whole {
+        answer(list, number, room);
     }
-    answer(list, number, room);
-    true
+    whole
 }
 
 // Reads a frame and answers: whether to go on. What is no frame ends the run, as the input's end does.
@@ -88,22 +82,21 @@ fn answer_frame() -> bool {
     if io::read_full(STDIN_FILENO, &mut head) < HEAD {
         return false;
     }
-    let length = number_of(head[0], head[1]);
-    let room = number_of(head[3], head[4]);
-    if length > MOST {
-        return false;
-    }
-    if room > MOST {
+    let [l0, l1, number, r0, r1] = head;
+    let length = usize::from(u16::from_le_bytes([l0, l1]));
+    let room = usize::from(u16::from_le_bytes([r0, r1]));
+    if length > MOST || room > MOST {
         return false;
     }
     let mut list = [0u8; MOST];
-    answer_list(&mut list[..length], number_of(head[2], 0), room)
+    answer_list(&mut list[..length], usize::from(number), room)
 }
 
-// A proved loop has to end, and nothing says that an input does, so the loop counts its turns down from a number that no run uses up.
+// A proved loop has to end, and nothing says that an input does, so the loop has a number of turns that no run uses up.
 fn main() {
-    let mut turns = u64::MAX;
-    while turns > 0 && answer_frame() {
-        turns -= 1;
+    for _ in 0..u64::MAX {
+        if !answer_frame() {
+            break;
+        }
     }
 }

@@ -11,13 +11,13 @@ const DIGITS: u64 = 1000000000000000000;
 const HEX_DIGITS: u64 = 0x1000_0000_0000_0000;
 
 // Where in a line the script is: before it, or in a comment, the name or the words.
-const START: u8 = 0;
-
-const COMMENT: u8 = 1;
-
-const NAME: u8 = 2;
-
-const WORDS: u8 = 3;
+#[derive(Clone, Copy, Debug, PartialEq, Eq)]
+enum Place {
+    Start,
+    Comment,
+    Name,
+    Words,
+}
 
 // A digit's number. The low four bits of the letter `a` are 1.
 fn digit(c: u8) -> u8
@@ -28,20 +28,20 @@ fn digit(c: u8) -> u8
 
 // A number with a digit more.
 fn decimal(n: u64, c: u8) -> u64 {
-    n % DIGITS * 10 + digit(c) as u64
+    n % DIGITS * 10 + u64::from(digit(c))
 }
 
 // Bits with a digit more.
 fn hexadecimal(n: u64, c: u8) -> u64 {
-    n % HEX_DIGITS * 16 + digit(c) as u64
+    n % HEX_DIGITS * 16 + u64::from(digit(c))
 }
 
 // What the script is at.
 #[derive(Clone, Copy)]
 pub struct Desk {
-    at: u8,
-    // the word: its letter, 0 before it, and the number that follows
-    letter: u8,
+    at: Place,
+    // the word: its letter, and the number that follows
+    letter: Option<u8>,
     value: u64,
     // the list to migrate, by its digits
     list: [u8; MOST],
@@ -60,10 +60,10 @@ impl Desk {
             setting: Setting::Count(0),
         };
         Desk {
-            at: START,
-            letter: 0,
+            at: Place::Start,
+            letter: None,
             value: 0,
-            list: [0u8; MOST],
+            list: [0; MOST],
             digits: 0,
             settings: [nothing; SETTINGS],
             given: 0,
@@ -73,122 +73,89 @@ impl Desk {
     }
 
     // One byte of the script more.
-    pub(crate) fn byte(self, c: u8) -> Desk {
-        if c == b'\n' {
-            return self.done().ended();
+    pub(crate) fn byte(&mut self, c: u8) {
+        match (self.at, c) {
+            (_, b'\n') => {
+                self.done();
+                self.ended();
+            }
+            (Place::Start, b'#') => self.at = Place::Comment,
+            (Place::Start, _) => {
+                self.at = Place::Name;
+                self.named(c);
+            }
+            (Place::Comment, _) => {}
+            (Place::Name, _) => self.named(c),
+            (Place::Words, _) => self.worded(c),
         }
-        let at = self.at;
-        match at {
-            START => self.begun(c),
-            COMMENT => self,
-            NAME => self.named(c),
-            _ => self.worded(c),
-        }
-    }
-
-    // The first byte of a line.
-    fn begun(mut self, c: u8) -> Desk {
-        if c == b'#' {
-            self.at = COMMENT;
-            return self;
-        }
-        self.at = NAME;
-        self.named(c)
     }
 
     // A byte of the name, which is printed.
-    fn named(mut self, c: u8) -> Desk {
-        if c == b' ' {
-            self.at = WORDS;
-        } else {
-            text(&[c]);
+    fn named(&mut self, c: u8) {
+        match c {
+            b' ' => self.at = Place::Words,
+            _ => text(&[c]),
         }
-        self
     }
 
-    // A byte of the words.
-    fn worded(mut self, c: u8) -> Desk {
-        if c == b' ' {
-            return self.done();
+    // A byte of the words. A zero byte is no letter.
+    fn worded(&mut self, c: u8) {
+        match (self.letter, c) {
+            (_, b' ') => self.done(),
+            (None | Some(0), _) => self.letter = Some(c),
+            (Some(b'L'), _) => self.listed(c),
+            (Some(b'N' | b'R'), _) => self.value = decimal(self.value, c),
+            (Some(_), _) => self.value = hexadecimal(self.value, c),
         }
-        let letter = self.letter;
-        match letter {
-            0 => self.letter = c,
-            b'L' => return self.listed(c),
-            b'N' | b'R' => self.value = decimal(self.value, c),
-            _ => self.value = hexadecimal(self.value, c),
-        }
-        self
     }
 
     // A digit of the list: two are a byte.
-    fn listed(mut self, c: u8) -> Desk {
+    fn listed(&mut self, c: u8) {
         let k = self.digits / 2;
         if k < MOST {
             self.list[k] = self.list[k] % 16 * 16 + digit(c);
-            self.digits = self.digits + 1;
+            self.digits += 1;
         }
-        self
     }
 
     // The end of a line.
-    fn ended(self) -> Desk {
-        if NAME <= self.at {
+    fn ended(&mut self) {
+        if matches!(self.at, Place::Name | Place::Words) {
             text(b"\n");
         }
-        Desk::cleared()
+        *self = Desk::cleared();
     }
 
     // The end of a word.
-    fn done(mut self) -> Desk {
-        let letter = self.letter;
+    fn done(&mut self) {
+        let letter = self.letter.take();
         let value = self.value;
-        self.letter = 0;
         self.value = 0;
         match letter {
-            b'L' => self.migrated(),
-            b'M' => return self.added(Setting::Margin(float_of(value))),
-            b'F' => return self.added(Setting::Feed(float_of(value))),
-            b'C' => return self.added(Setting::Count(value)),
-            b'N' => self.number = value as usize,
-            b'R' => self.room = value as usize,
-            b'W' => self.written(),
+            Some(b'L') => migrated(first_bytes(&self.list, self.digits / 2)),
+            Some(b'M') => self.added(Setting::Margin(float_of(value))),
+            Some(b'F') => self.added(Setting::Feed(float_of(value))),
+            Some(b'C') => self.added(Setting::Count(value)),
+            Some(b'N') => self.number = value as usize,
+            Some(b'R') => self.room = value as usize,
+            Some(b'W') => written(self.settings, self.number, self.room),
             _ => {}
         }
-        self
     }
 
     // One setting more to write back.
-    fn added(mut self, setting: Setting) -> Desk {
-        let n = self.given;
-        if n < SETTINGS {
-            let mut settings = self.settings;
-            settings[n] = Slot { setting };
-            self.settings = settings;
-            self.given = n + 1;
+    fn added(&mut self, setting: Setting) {
+        if self.given < SETTINGS {
+            self.settings[self.given] = Slot { setting };
+            self.given += 1;
         }
-        self
-    }
-
-    // The list migrated.
-    fn migrated(self) {
-        let list = self.list;
-        migrated(first_bytes(&list, self.digits / 2));
-    }
-
-    // The settings written back.
-    fn written(self) {
-        let settings = self.settings;
-        written(settings, self.number, self.room);
     }
 }
 
 // The whole script.
 pub(crate) fn play(script: &[u8]) {
     let mut desk = Desk::cleared();
-    let mut i = 0;
-    while i < script.len() {
-        desk = desk.byte(script[i]);
-        i += 1;
+    for c in script {
+        desk.byte(*c);
     }
 }

@@ -1,5 +1,4 @@
 // What is printed of answers.
-use lists::few;
 use settings::{SETTINGS, Setting, Slot, migrate, write_back};
 
 // The number of standard output.
@@ -27,10 +26,10 @@ fn hex(n: u64, digits: usize) {
 
 // A float by its bits. A NaN's are not known.
 fn float(x: f64) {
-    if x == x {
-        hex(f64::to_bits(x), 16);
-    } else {
+    if x.is_nan() {
         text(b"nan");
+    } else {
+        hex(x.to_bits(), 16);
     }
 }
 
@@ -53,46 +52,28 @@ fn setting(setting: Setting) {
 }
 
 // The first n settings.
-fn first_settings(settings: [Slot; SETTINGS], n: usize) {
-    let mut i = 0;
-    while i < n && i < SETTINGS {
-        let slot = settings[i];
-        let one = slot.setting;
-        setting(one);
-        i += 1;
-    }
-}
-
-fn is_zero(setting: Setting) -> bool {
-    match setting {
-        Setting::Margin(_) => false,
-        Setting::Feed(_) => false,
-        Setting::Count(n) => n == 0,
+fn first_settings(settings: &[Slot; SETTINGS], n: usize) {
+    for slot in settings.iter().take(n) {
+        setting(slot.setting);
     }
 }
 
 // Whether all slots from `n` on are counts of 0.
-fn zeros_from(settings: [Slot; SETTINGS], n: usize) -> bool {
-    let mut zeros = true;
-    let mut i = n;
-    while i < SETTINGS {
-        let slot = settings[i];
-        let one = slot.setting;
-        zeros = zeros & is_zero(one);
-        i += 1;
-    }
-    zeros
+fn zeros_from(settings: &[Slot; SETTINGS], n: usize) -> bool {
+    settings
+        .iter()
+        .skip(n)
+        .all(|slot| matches!(slot.setting, Setting::Count(0)))
 }
 
 // What a list is migrated to.
 pub(crate) fn migrated(list: &[u8]) {
     let m = migrate(list);
-    let settings = m.settings;
-    number(m.refusal as u64);
+    number(u64::from(m.refusal));
     number(m.place as u64);
     number(m.number as u64);
-    first_settings(settings, m.number);
-    if zeros_from(settings, m.number) {
+    first_settings(&m.settings, m.number);
+    if zeros_from(&m.settings, m.number) {
         text(b" zeros");
     } else {
         text(b" filled");
@@ -101,34 +82,19 @@ pub(crate) fn migrated(list: &[u8]) {
 
 // The first n bytes; all where there are fewer.
 pub(crate) fn first_bytes(s: &[u8], n: usize) -> &[u8] {
-    if n <= s.len() {
-        return &s[..n];
-    }
-    s
-}
-
-fn wide(b: u8) -> u64 {
-    b as u64
+    s.get(..n).unwrap_or(s)
 }
 
 // Bytes, two digits each.
 fn bytes(s: &[u8]) {
-    let mut i = 0;
-    while i < s.len() {
-        hex(wide(s[i]), 2);
-        i += 1;
+    for b in s {
+        hex(u64::from(*b), 2);
     }
 }
 
 // Whether all bytes from `n` on are as before.
 fn kept_from(s: &[u8], n: usize) -> bool {
-    let mut kept = true;
-    let mut i = n;
-    while i < s.len() {
-        kept = kept & (s[i] == UNTOUCHED);
-        i += 1;
-    }
-    kept
+    s.iter().skip(n).all(|b| *b == UNTOUCHED)
 }
 
 // A buffer after n bytes were written into it.
@@ -147,7 +113,7 @@ fn buffer(s: &[u8], n: usize) {
 // What writing back into a lent buffer comes to.
 fn lent(settings: [Slot; SETTINGS], n: usize, out: &mut [u8]) {
     let w = write_back(settings, n, out);
-    number(w.refusal as u64);
+    number(u64::from(w.refusal));
     number(w.place as u64);
     if w.refusal == 0 {
         buffer(out, w.place);
@@ -159,6 +125,5 @@ fn lent(settings: [Slot; SETTINGS], n: usize, out: &mut [u8]) {
 // What writing back into a buffer of so many bytes comes to, 600 at most.
 pub(crate) fn written(settings: [Slot; SETTINGS], n: usize, room: usize) {
     let mut out = [UNTOUCHED; MOST];
-    let size = few(room, MOST);
-    lent(settings, n, &mut out[..size]);
+    lent(settings, n, &mut out[..room.min(MOST)]);
 }

@@ -44,6 +44,10 @@ remainder m k =
     let e : m * 15625 % (2 ^ k * 16) ≡ m * 15625 / 16 % 2 ^ k * 16 + m * 15625 % 16 = mod-mul (m * 15625) {m = 2 ^ k} {c = 16} p (lit< tt) in
     a ∙ b ∙ rw (c, d, e) (omega arith)
 
+-- the field of a float that is not large
+pub field_small : (b : ℕ) → large b ≡ false → exponent b ≤ 1065
+field_small b h = ltb-false 1065 (exponent b) h
+
 -- a float that is not large has ten digits or more under the point
 under_ten : (b : ℕ) → large b ≡ false → 10 ≤ under b
 under_ten b h = omega (arith, ltb-false 1065 (exponent b) h)
@@ -58,9 +62,15 @@ units_small : (b : ℕ) {k : ℕ} → 64 ≤ k → significand b * 15625 / 16 < 
 units_small b h = lt_of_lt_of_le (omega (arith, significand_small b)) (pow_mono h)
 
 -- by one that does not fit, there are none
-pub millionths_far : (b k : ℕ) → k + 10 ≡ under b → 64 ≤ k → 0 ≡ millionths b
+pub millionths_far : (b : ℕ) → 74 ≤ under b → 0 ≡ millionths b
 unfolding millionths
-millionths_far b k g h = rw (← g) (sym (quotient (significand b) k ∙ div-eq_of_lt (units_small b h)))
+millionths_far b h =
+    let k = under b - 10 in
+    let g : under b ≡ k + 10 = omega arith in
+    rw g (sym (quotient (significand b) k ∙ div-eq_of_lt (units_small b (omega arith))))
+
+-- what `millionths` cites
+pub ruleset millionths_steps = (significand_small, pow_pos, millionths_near, millionths_far)
 
 -- 15625 times 9 is one more than 16 times 8789
 odd_times : (m : ℕ) → m * 15625 % 16 ≡ 0 → m % 16 ≡ 0
@@ -99,7 +109,12 @@ cut_units b k {m} e h g =
     rw (← g, ← e, remainder m k, zero_alike (m * 15625 / 16 % 2 ^ k) (m * 15625 % 16) (times_odd m h))
 
 -- by a power of two that does not fit, all units are cut off
-pub cut_far : (b k : ℕ) {m : ℕ} → m ≡ significand b → m % 16 ≡ 0 → k + 10 ≡ under b → 64 ≤ k → not (eqb (m * 15625 / 16) 0) ≡ cut_off b
-cut_far b k {m} e h g l =
-    let s : m * 15625 / 16 < 2 ^ k = rw e (units_small b l) in
+pub cut_far : (b m : ℕ) → m ≡ significand b → m % 16 ≡ 0 → 74 ≤ under b → not (eqb (m * 15625 / 16) 0) ≡ cut_off b
+cut_far b m e h l =
+    let k = under b - 10 in
+    let g : k + 10 ≡ under b = omega arith in
+    let s : m * 15625 / 16 < 2 ^ k = rw e (units_small b (omega arith)) in
     rw (← mod-eq_of_lt s) (cut_units b k e h g)
+
+-- what `is_cut` cites
+pub ruleset cut_steps = (significand_small, pow_pos, cut_sixteenth, cut_units, cut_far)

@@ -5,10 +5,9 @@ ghost use Rattle.std.specs.Prelude.{◌≡◌, false, ◌+◌, ◌*◌, ◌/◌,
 ghost use Rattle.settings_decimal.specs.Decimal.{under, cut_off, significand as Decimal·significand, large as Decimal·large, millionths as Decimal·millionths};
 ghost use Rattle.settings_decimal.specs.Answer.{decimal_of};
 
-// A float in decimal: whether it is too large to be shown, else its whole millionths and whether there is more.
-#[derive(Clone, Copy)]
+// A float in decimal: its whole millionths and whether there is more.
+#[derive(Clone, Copy, Debug, PartialEq, Eq)]
 pub struct Decimal {
-    pub large: bool,
     pub millionths: u64,
     pub cut: bool,
 }
@@ -17,13 +16,14 @@ pub struct Decimal {
 const FIELD: u64 = 4503599627370496;
 
 // The digits of a float, with the leading one.
+#[tactic(auto, unfolding(crate::specs::Decimal::significand))]
 fn significand(bits: u64) -> u64
     ensures { result ≡ Decimal·significand bits }
 {
-    if bits / FIELD == 0 {
-        return bits % FIELD;
+    match bits / FIELD {
+        0 => bits % FIELD,
+        _ => FIELD + bits % FIELD,
     }
-    FIELD + bits % FIELD
 }
 
 // Whether a float is too large to be shown in decimal.
@@ -34,18 +34,19 @@ fn large(bits: u64) -> bool
 }
 
 // By how many binary digits the units of a float that is not large lie below millionths.
+#[tactic(auto, using(crate::proofs::Divisions::field_small))]
 fn below(bits: u64) -> u64
     requires { Decimal·large bits ≡ false }
     ensures { result + 10 ≡ under bits }
 {
-    let field = bits / FIELD;
-    if field == 0 {
-        return 1064;
+    match bits / FIELD {
+        0 => 1064,
+        field => 1065 - field,
     }
-    1065 - field
 }
 
 // A power of two.
+#[tactic(auto, using(std::proofs::lemmas::Nat::one_shl))]
 fn power(k: u64) -> u64
     requires { k < 64 }
     ensures { result ≡ 2 ^ k }
@@ -63,19 +64,18 @@ fn units(m: u64) -> u64
 }
 
 // The whole millionths of a float that is not large.
+#[tactic(auto, using(crate::proofs::Divisions::millionths_steps))]
 fn millionths(bits: u64) -> u64
     requires { Decimal·large bits ≡ false }
     ensures { result ≡ Decimal·millionths bits }
 {
     let n = units(significand(bits));
     let k = below(bits);
-    if k < 64 {
-        return n / power(k);
-    }
-    0
+    if k < 64 { n / power(k) } else { 0 }
 }
 
 // Whether a float that is not large has more than its whole millionths.
+#[tactic(auto, using(crate::proofs::Divisions::cut_steps))]
 fn is_cut(bits: u64) -> bool
     requires { Decimal·large bits ≡ false }
     ensures { result ≡ cut_off bits }
@@ -86,26 +86,19 @@ fn is_cut(bits: u64) -> bool
     }
     let n = units(m);
     let k = below(bits);
-    if k < 64 {
-        return n % power(k) != 0;
-    }
-    n != 0
+    if k < 64 { n % power(k) != 0 } else { n != 0 }
 }
 
-// The float of 64 bits in decimal.
-pub fn in_decimal(bits: u64) -> Decimal
+// The float of 64 bits in decimal, unless it is too large to be shown.
+#[tactic(auto, unfolding(crate::specs::Answer::decimal_of))]
+pub fn in_decimal(bits: u64) -> Option<Decimal>
     ensures { result ≡ decimal_of bits }
 {
     if large(bits) {
-        return Decimal {
-            large: true,
-            millionths: 0,
-            cut: false,
-        };
+        return None;
     }
-    Decimal {
-        large: false,
+    Some(Decimal {
         millionths: millionths(bits),
         cut: is_cut(bits),
-    }
+    })
 }

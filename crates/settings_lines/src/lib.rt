@@ -20,7 +20,7 @@ fn digit(n: u64, w: u64) -> u8
     requires { 0 < w }
     ensures { result ≡ digit_at w n }
 {
-    48 + (n / w % 10) as u8
+    b'0' + (n / w % 10) as u8
 }
 
 // A line with the last six decimal digits of a number more.
@@ -52,12 +52,12 @@ fn with_cut(line: Line, unit: &[u8], cut: bool) -> Line
     ensures { shown result ≡ joined (shown line) (cut_words unit.now cut) }
 {
     if cut {
-        return line
-            .text(b" (cut off: less than 0.000001")
+        line.text(b" (cut off: less than 0.000001")
             .text(unit)
-            .text(b")");
+            .text(b")")
+    } else {
+        line
     }
-    line
 }
 
 // A line with so many millionths more, in decimal, with their unit.
@@ -73,14 +73,13 @@ fn with_millionths(line: Line, unit: &[u8], n: u64, cut: bool) -> Line
 fn with_value(line: Line, unit: &[u8], bits: u64) -> Line
     ensures { shown result ≡ joined (shown line) (value unit.now bits) }
 {
-    let d = in_decimal(bits);
-    if d.large {
-        return line
+    match in_decimal(bits) {
+        Some(d) => with_millionths(line, unit, d.millionths, d.cut),
+        None => line
             .text(b" at least 8796093022208")
             .text(unit)
-            .text(b" (cut off: what is above)");
+            .text(b" (cut off: what is above)"),
     }
-    with_millionths(line, unit, d.millionths, d.cut)
 }
 
 // The start of a setting's line: its number in the list, and its kind.

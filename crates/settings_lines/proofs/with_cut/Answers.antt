@@ -10,6 +10,6 @@ unfolding cut_words
 returns-then-cut c = rw c.if-cut.true
     (chain _ _ _ c.text.ensures.shows (chain _ _ _ c.text-then-cut.ensures.shows c.text-then-cut-2.ensures.shows))
 
-pub returns : goal.returns
+pub returns-else-cut : goal.returns-else-cut
 unfolding cut_words
-returns c = rw c.if-cut.false (no_piece c.args.line (search rules))
+returns-else-cut c = rw c.if-cut.false (no_piece c.args.line (search rules))
