@@ -65,27 +65,18 @@ fn load(rt: &impl Files, path: &[u8], bytes: &mut [u8]) -> usize
 
 // The printout of every beginning of a recording, the shortest first, each after a line with its length.
 fn print_beginnings(s: &[u8], out: &mut [u32]) {
-    let mut n = 0;
-    while n <= s.len() {
+    for n in 0..=s.len() {
         print_named(b"first", n as u64);
         print_replay(&s[..n], out);
-        n += 1;
     }
-}
-
-// A number of a list, as wide as one to print.
-fn wide(x: u32) -> u64 {
-    x as u64
 }
 
 // A list's numbers, in a line.
 fn print_list(list: &[u32]) {
     io::write_all(STDOUT_FILENO, b"list");
-    let mut i = 0;
-    while i < list.len() {
+    for x in list {
         io::write_all(STDOUT_FILENO, b" ");
-        io::print_decimal(STDOUT_FILENO, wide(list[i]));
-        i += 1;
+        io::print_decimal(STDOUT_FILENO, u64::from(*x));
     }
     io::write_all(STDOUT_FILENO, b"\n");
 }
@@ -106,32 +97,32 @@ fn print_with_room(s: &[u8], room: usize)
 }
 
 // A recording's printout, as the word before its name says.
-fn print_recording(s: &[u8], how: u8) {
+fn print_recording(s: &[u8], how: Option<u8>) {
     let mut out = [0u32; NUMBERS];
     match how {
-        b'-' => print_last(s, &mut out),
-        b'/' => print_beginnings(s, &mut out),
-        b'0'..=b'9' => print_with_room(s, (how - b'0') as usize),
+        Some(b'-') => print_last(s, &mut out),
+        Some(b'/') => print_beginnings(s, &mut out),
+        Some(digit @ b'0'..=b'9') => print_with_room(s, usize::from(digit - b'0')),
         _ => print_replay(s, &mut out),
     }
 }
 
 // One argument: a word of one byte is kept for the next, and a name's recording is printed, with nothing kept.
-fn print_word(rt: &impl Files, word: &[u8], how: u8) -> u8 {
-    if word.len() == 1 {
-        return word[0];
+fn print_word(rt: &impl Files, word: &[u8], how: Option<u8>) -> Option<u8> {
+    if let [only] = word {
+        return Some(*only);
     }
     io::write_all(STDOUT_FILENO, word);
     io::write_all(STDOUT_FILENO, b"\n");
     let mut bytes = io::large_buffer();
     let size = load(rt, word, &mut bytes);
     print_recording(&bytes[..size], how);
-    0
+    None
 }
 
 // Every argument in turn. One that is longer than any path counts as empty.
 fn main(rt: HostRuntime) {
-    let mut how = 0;
+    let mut how = None;
     let mut word = io::buffer();
     for i in 1..usize::MAX {
         let n = match rt.arg(i, &mut word) {

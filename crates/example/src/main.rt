@@ -23,28 +23,28 @@ fn passed_on() -> Answer {
         [0u8; State::LINKS],
         start_value,
     );
-    let refusal = made.refusal;
-    if refusal != 0 {
-        return Answer { refusal, value: 0 };
+    if made.refusal != 0 {
+        return Answer {
+            refusal: made.refusal,
+            value: 0,
+        };
     }
-    let fresh = made.state;
     // both arrive: bit t is task t
-    let arrived = fresh.arrival(3);
+    let arrived = made.state.arrival(3);
     let started = arrived.state.start(0);
     let finished = started.state.finish(0, 101);
     let next = finished.state.start(1);
     // an event that was refused changed nothing, so the last answer tells: 15, had task 1 not been let run
-    let read = next.state.read(0);
-    read.answer
+    next.state.read(0).answer
 }
 
 fn main() {
     let answer = passed_on();
     if answer.refusal == 0 {
-        io::print_decimal(STDOUT_FILENO, answer.value as u64);
+        io::print_decimal(STDOUT_FILENO, u64::from(answer.value));
     } else {
         io::write_all(STDOUT_FILENO, b"refused ");
-        io::print_decimal(STDOUT_FILENO, answer.refusal as u64);
+        io::print_decimal(STDOUT_FILENO, u64::from(answer.refusal));
     }
     io::write_all(STDOUT_FILENO, b"\n");
 }

@@ -9,14 +9,14 @@ const DEFAULTS: [u32; TASKS] = [
     26, 27, 28, 29, 30, 31,
 ];
 
-// What `State::fresh` and `State::fresh_dated` take, and which of them does. Slots that no word has filled hold 77, so that a copy of too much
-// is seen.
+// What `State::fresh` and `State::fresh_dated` take: that is why a link stands in four arrays. Slots that no word has filled hold 77, so that a
+// copy of too much is seen.
 #[derive(Clone, Copy)]
 pub struct Table {
-    dated: bool,
     tasks: usize,
     links: usize,
-    deadlines: [u16; TASKS],
+    // relative deadlines, where the table has any
+    deadlines: Option<[u16; TASKS]>,
     writer: [u8; LINKS],
     reader: [u8; LINKS],
     kind: [u8; LINKS],
@@ -27,10 +27,9 @@ impl Table {
     // So many tasks and no links.
     pub(crate) fn of(tasks: usize) -> Table {
         Table {
-            dated: false,
             tasks,
             links: 0,
-            deadlines: [77u16; TASKS],
+            deadlines: None,
             writer: [77u8; LINKS],
             reader: [77u8; LINKS],
             kind: [77u8; LINKS],
@@ -38,119 +37,82 @@ impl Table {
         }
     }
 
-    // The same table with deadlines, and this one for a task, as long as there is a slot.
-    pub(crate) fn deadline(mut self, t: usize, x: u16) -> Table {
-        self.dated = true;
+    // This deadline for a task, as long as there is a slot; with it the table has deadlines.
+    pub(crate) fn deadline(&mut self, t: usize, x: u16) {
+        let mut deadlines = self.deadlines.unwrap_or([77u16; TASKS]);
         if t < TASKS {
-            self.deadlines[t] = x;
+            deadlines[t] = x;
         }
-        self
+        self.deadlines = Some(deadlines);
     }
 
     // One link more, as long as there is a slot.
-    pub(crate) fn link(mut self, w: u8, r: u8, k: u8, v: u32) -> Table {
+    pub(crate) fn link(&mut self, w: u8, r: u8, k: u8, v: u32) {
         let l = self.links;
         if l < LINKS {
             self.writer[l] = w;
             self.reader[l] = r;
             self.kind[l] = k;
             self.start_value[l] = v;
-            self.links = l + 1;
+            self.links += 1;
         }
-        self
     }
 
-    // The same table that says it has so many links.
-    pub(crate) fn count(mut self, links: usize) -> Table {
+    // It says that it has so many links.
+    pub(crate) fn count(&mut self, links: usize) {
         self.links = links;
-        self
     }
 
     // What it makes.
-    pub(crate) fn made(self) -> Made {
-        let writer = self.writer;
-        let reader = self.reader;
-        let kind = self.kind;
-        let start_value = self.start_value;
-        if self.dated {
-            let deadlines = self.deadlines;
-            return State::fresh_dated(
+    pub(crate) fn made(&self) -> Made {
+        match self.deadlines {
+            Some(deadlines) => State::fresh_dated(
                 self.tasks,
                 self.links,
                 DEFAULTS,
                 deadlines,
-                writer,
-                reader,
-                kind,
-                start_value,
-            );
+                self.writer,
+                self.reader,
+                self.kind,
+                self.start_value,
+            ),
+            None => State::fresh(
+                self.tasks,
+                self.links,
+                DEFAULTS,
+                self.writer,
+                self.reader,
+                self.kind,
+                self.start_value,
+            ),
         }
-        State::fresh(
-            self.tasks,
-            self.links,
-            DEFAULTS,
-            writer,
-            reader,
-            kind,
-            start_value,
-        )
     }
 }
 
-// The state with `x` in this field of its control, at `i`.
-fn with_control(mut s: State, field: InControl, i: usize, x: u8) -> State {
-    let mut control = s.control;
-    put_control(&mut control, field, i, x);
-    s.control = control;
-    s
-}
-
-// The same of its values.
-fn with_value(mut s: State, field: InValues, i: usize, x: u32) -> State {
-    let mut values = s.values;
-    put_entry(&mut values, field, i, x);
-    s.values = values;
-    s
-}
-
-// The same of its times.
-fn with_time(mut s: State, field: InTimes, i: usize, x: u32) -> State {
-    let mut times = s.times;
-    put_entry(&mut times, field, i, x);
-    s.times = times;
-    s
-}
-
-// The state with `x` in the field that this letter names, at `i` where it is an array; as it is for any other letter. Of what is put into its
-// control the low byte counts.
-pub(crate) fn with(mut s: State, field: u8, i: usize, x: u32) -> State {
+// Puts `x` into the field of a state that this letter names, at `i` where it is an array; any other letter leaves the state as it is. Of what is
+// put into its control the low byte counts.
+pub(crate) fn spoil(s: &mut State, letter: u8, i: usize, x: u32) {
     let t = i % TASKS;
     let l = i % LINKS;
     let b = (x % 256) as u8;
-    match field {
-        b't' => {
-            s.tasks = x as usize;
-            s
-        }
-        b'l' => {
-            s.links = x as usize;
-            s
-        }
-        b'p' => with_control(s, InControl::Phase, t, b),
-        b'n' => with_control(s, InControl::Newest, t, b),
-        b'o' => with_control(s, InControl::Previous, t, b),
-        b's' => with_control(s, InControl::Seen, t, b),
-        b'c' => with_value(s, InValues::Cell, i % CELLS, x),
-        b'w' => with_control(s, InControl::Writer, l, b),
-        b'r' => with_control(s, InControl::Reader, l, b),
-        b'k' => with_control(s, InControl::Kind, l, b),
-        b'v' => with_value(s, InValues::StartValue, l, x),
-        b'x' => with_control(s, InControl::Pointer, l, b),
-        b'm' => with_control(s, InControl::Mark, l, b),
-        b'u' => with_time(s, InTimes::Deadline, t, x),
-        b'i' => with_time(s, InTimes::Since, t, x),
-        b'e' => with_time(s, InTimes::Last, 0, x),
-        b'y' => with_time(s, InTimes::Policy, 0, x),
-        _ => s,
+    match letter {
+        b't' => s.tasks = x as usize,
+        b'l' => s.links = x as usize,
+        b'p' => put_control(&mut s.control, InControl::Phase, t, b),
+        b'n' => put_control(&mut s.control, InControl::Newest, t, b),
+        b'o' => put_control(&mut s.control, InControl::Previous, t, b),
+        b's' => put_control(&mut s.control, InControl::Seen, t, b),
+        b'c' => put_entry(&mut s.values, InValues::Cell, i % CELLS, x),
+        b'w' => put_control(&mut s.control, InControl::Writer, l, b),
+        b'r' => put_control(&mut s.control, InControl::Reader, l, b),
+        b'k' => put_control(&mut s.control, InControl::Kind, l, b),
+        b'v' => put_entry(&mut s.values, InValues::StartValue, l, x),
+        b'x' => put_control(&mut s.control, InControl::Pointer, l, b),
+        b'm' => put_control(&mut s.control, InControl::Mark, l, b),
+        b'u' => put_entry(&mut s.times, InTimes::Deadline, t, x),
+        b'i' => put_entry(&mut s.times, InTimes::Since, t, x),
+        b'e' => put_entry(&mut s.times, InTimes::Last, 0, x),
+        b'y' => put_entry(&mut s.times, InTimes::Policy, 0, x),
+        _ => {}
     }
 }

@@ -1,87 +1,114 @@
-// The fields of a state, by their letters, and whether two states are the same, field by field, slots past the counts too.
+// The fields of a state, and whether two states are the same, field by field, slots past the counts too.
 use mailbox::{State, Step};
 use mailbox_base::numbers::{CELLS, LINKS, TASKS};
 
-// The entry `i` of the field that this letter names, by its accessor; 0 for any other letter.
-pub(crate) fn entry_of(s: State, field: u8, i: usize) -> u32 {
-    match field {
-        b'd' => s.defaults(i),
-        b'p' => s.phase(i) as u32,
-        b'n' => s.newest(i) as u32,
-        b'o' => s.previous(i) as u32,
-        b's' => s.seen(i) as u32,
-        b'c' => s.cells(i),
-        b'w' => s.writer(i) as u32,
-        b'r' => s.reader(i) as u32,
-        b'k' => s.kind(i) as u32,
-        b'v' => s.start_value(i),
-        b'x' => s.pointer(i) as u32,
-        b'm' => s.mark(i) as u32,
-        b'u' => s.deadline(i),
-        b'i' => s.since(i),
-        b'e' => s.last(),
-        b'y' => s.policy(),
-        _ => 0,
+// The fields of a state but for its counts.
+#[derive(Clone, Copy, PartialEq, Eq)]
+pub(crate) enum InState {
+    Default,
+    Phase,
+    Newest,
+    Previous,
+    Seen,
+    Cell,
+    Writer,
+    Reader,
+    Kind,
+    StartValue,
+    Pointer,
+    Mark,
+    Deadline,
+    Since,
+    Last,
+    Policy,
+}
+
+// Those that no event may change, besides the counts,
+const OF_TABLE: [InState; 7] = [
+    InState::Default,
+    InState::Writer,
+    InState::Reader,
+    InState::Kind,
+    InState::StartValue,
+    InState::Deadline,
+    InState::Policy,
+];
+
+// and those that events change.
+const OF_BOXES: [InState; 9] = [
+    InState::Cell,
+    InState::Phase,
+    InState::Newest,
+    InState::Previous,
+    InState::Seen,
+    InState::Pointer,
+    InState::Mark,
+    InState::Since,
+    InState::Last,
+];
+
+impl InState {
+    // Its entry `i` in a state, by its accessor.
+    pub(crate) fn entry(self, s: State, i: usize) -> u32 {
+        match self {
+            InState::Default => s.defaults(i),
+            InState::Phase => u32::from(s.phase(i)),
+            InState::Newest => u32::from(s.newest(i)),
+            InState::Previous => u32::from(s.previous(i)),
+            InState::Seen => u32::from(s.seen(i)),
+            InState::Cell => s.cells(i),
+            InState::Writer => u32::from(s.writer(i)),
+            InState::Reader => u32::from(s.reader(i)),
+            InState::Kind => u32::from(s.kind(i)),
+            InState::StartValue => s.start_value(i),
+            InState::Pointer => u32::from(s.pointer(i)),
+            InState::Mark => u32::from(s.mark(i)),
+            InState::Deadline => s.deadline(i),
+            InState::Since => s.since(i),
+            InState::Last => s.last(),
+            InState::Policy => s.policy(),
+        }
+    }
+
+    // How many entries it has.
+    pub(crate) fn size(self) -> usize {
+        match self {
+            InState::Cell => CELLS,
+            InState::Default
+            | InState::Phase
+            | InState::Newest
+            | InState::Previous
+            | InState::Seen
+            | InState::Deadline
+            | InState::Since => TASKS,
+            InState::Last | InState::Policy => 1,
+            InState::Writer
+            | InState::Reader
+            | InState::Kind
+            | InState::StartValue
+            | InState::Pointer
+            | InState::Mark => LINKS,
+        }
+    }
+
+    // Whether two states have the same in it.
+    fn same(self, a: State, b: State) -> bool {
+        (0..self.size()).all(|i| self.entry(a, i) == self.entry(b, i))
     }
 }
 
-// How many entries a field has.
-pub(crate) fn size_of(field: u8) -> usize {
-    match field {
-        b'c' => CELLS,
-        b'd' | b'p' | b'n' | b'o' | b's' | b'u' | b'i' => TASKS,
-        b'e' | b'y' => 1,
-        _ => LINKS,
-    }
-}
-
-// Whether two states have the same in a field.
-fn same_field(a: State, b: State, field: u8) -> bool {
-    let size = size_of(field);
-    let mut same = true;
-    let mut i = 0;
-    while i < size {
-        same = same & (entry_of(a, field, i) == entry_of(b, field, i));
-        i += 1;
-    }
-    same
-}
-
-// The fields that no event may change.
+// Whether two states have the same table: no event may change it.
 pub(crate) fn same_table(a: State, b: State) -> bool {
-    same_field(a, b, b'd')
-        & (a.tasks == b.tasks)
-        & (a.links == b.links)
-        & same_field(a, b, b'w')
-        & same_field(a, b, b'r')
-        & same_field(a, b, b'k')
-        & same_field(a, b, b'v')
-        & same_field(a, b, b'u')
-        & same_field(a, b, b'y')
-}
-
-// The fields that events change.
-fn same_boxes(a: State, b: State) -> bool {
-    same_field(a, b, b'c')
-        & same_field(a, b, b'p')
-        & same_field(a, b, b'n')
-        & same_field(a, b, b'o')
-        & same_field(a, b, b's')
-        & same_field(a, b, b'x')
-        & same_field(a, b, b'm')
-        & same_field(a, b, b'i')
-        & same_field(a, b, b'e')
+    a.tasks == b.tasks && a.links == b.links && OF_TABLE.iter().all(|field| field.same(a, b))
 }
 
 pub(crate) fn same(a: State, b: State) -> bool {
-    same_table(a, b) & same_boxes(a, b)
+    same_table(a, b) && OF_BOXES.iter().all(|field| field.same(a, b))
 }
 
 // Whether two events were answered alike.
 pub(crate) fn same_step(a: Step, b: Step) -> bool {
-    let p = a.answer;
-    let q = b.answer;
-    let s = a.state;
-    let t = b.state;
-    (p.refusal == q.refusal) & (p.value == q.value) & same(s, t)
+    a.answer.refusal == b.answer.refusal
+        && a.answer.value == b.answer.value
+        && same(a.state, b.state)
 }

@@ -1,5 +1,5 @@
 // The script: one line for each case, read byte by byte. Its words are explained at its head, in the file `stdin`.
-use crate::make::{Table, with};
+use crate::make::{Table, spoil};
 use crate::show::{answered, made, past, text};
 use mailbox::{State, Step};
 use mailbox_event::{Event, When};
@@ -7,7 +7,8 @@ use mailbox_event::{Event, When};
 // Numbers have at most 19 digits; the remainder only keeps the sum from wrapping.
 const DIGITS: u64 = 1000000000000000000;
 
-// A word of a line: a letter and at most four numbers with commas between, the last one in `z`.
+// A word of a line: a letter, 0 before it, and at most four numbers with commas between, the last one in `z`. A byte of the script that is 0 is no
+// letter, so an Option would say no more.
 #[derive(Clone, Copy)]
 pub struct Word {
     letter: u8,
@@ -29,22 +30,21 @@ impl Word {
     }
 
     // One byte more: the letter, a comma, or a digit, whose low four bits are its number.
-    fn spelled(mut self, c: u8) -> Word {
-        if self.letter == 0 {
-            self.letter = c;
-        } else if c == b',' {
-            self.w = self.x;
-            self.x = self.y;
-            self.y = self.z;
-            self.z = 0;
-        } else {
-            self.z = self.z % DIGITS * 10 + (c % 16) as u64;
+    fn spelled(&mut self, c: u8) {
+        match (self.letter, c) {
+            (0, _) => self.letter = c,
+            (_, b',') => {
+                self.w = self.x;
+                self.x = self.y;
+                self.y = self.z;
+                self.z = 0;
+            }
+            _ => self.z = self.z % DIGITS * 10 + u64::from(c % 16),
         }
-        self
     }
 }
 
-// The numbers of a word as a state and an event have them.
+// The numbers of a word as a state and an event have them: what is too large is cut, where `try_from` would refuse it.
 fn narrow(n: u64) -> u8 {
     (n % 256) as u8
 }
@@ -87,198 +87,123 @@ impl Desk {
     }
 
     // One byte of the script more.
-    pub(crate) fn byte(self, c: u8) -> Desk {
-        if c == b'\n' {
-            return self.done().ended();
+    pub(crate) fn byte(&mut self, c: u8) {
+        match (c, self.line) {
+            (b'\n', _) => {
+                self.done();
+                self.ended();
+            }
+            (_, 0) => self.begun(c),
+            (_, b'#') => {}
+            _ if self.naming => self.named(c),
+            (b' ', _) => self.done(),
+            _ => self.word.spelled(c),
         }
-        if self.line == 0 {
-            return self.begun(c);
-        }
-        if self.line == b'#' {
-            return self;
-        }
-        if self.naming {
-            return self.named(c);
-        }
-        if c == b' ' {
-            return self.done();
-        }
-        self.spelled(c)
     }
 
     // The first byte of a line says what becomes of it; a name follows. No tick holds from one line to the next.
-    fn begun(self, c: u8) -> Desk {
-        let mut desk = self.timed(When::Untimed);
-        desk.line = c;
-        desk.naming = true;
-        desk
-    }
-
-    // The events that follow are handed over like this.
-    fn timed(self, when: When) -> Desk {
-        let table = self.table;
-        let base = self.base;
-        let now = self.now;
-        let word = self.word;
-        Desk {
-            table,
-            base,
-            now,
-            when,
-            line: self.line,
-            naming: self.naming,
-            word,
-        }
+    fn begun(&mut self, c: u8) {
+        self.when = When::Untimed;
+        self.line = c;
+        self.naming = true;
     }
 
     // Whether the line is printed.
-    fn shown(self) -> bool {
-        (self.line == b'=') | (self.line == b'?')
+    fn shown(&self) -> bool {
+        matches!(self.line, b'=' | b'?')
     }
 
-    fn named(mut self, c: u8) -> Desk {
+    // A byte of the name.
+    fn named(&mut self, c: u8) {
         if c == b' ' {
             self.naming = false;
         } else if self.shown() {
             text(&[c]);
         }
-        self
-    }
-
-    fn spelled(mut self, c: u8) -> Desk {
-        let word = self.word;
-        self.word = word.spelled(c);
-        self
     }
 
     // The end of a line: `?` goes back to the state before it.
-    fn ended(mut self) -> Desk {
+    fn ended(&mut self) {
         if self.shown() {
             text(b"\n");
         }
         if self.line == b'?' {
-            let s = self.base;
-            self.now = s;
+            self.now = self.base;
         } else {
-            let s = self.now;
-            self.base = s;
+            self.base = self.now;
         }
         self.line = 0;
-        self
     }
 
     // The end of a word.
-    fn done(mut self) -> Desk {
+    fn done(&mut self) {
         let word = self.word;
-        let letter = word.letter;
         self.word = Word::none();
-        match letter {
-            b'T' | b'L' | b'C' | b'D' => self.tabled(word),
+        match word.letter {
+            b'T' => self.table = Table::of(word.z as usize),
+            b'L' => self.table.link(
+                narrow(word.w),
+                narrow(word.x),
+                narrow(word.y),
+                number(word.z),
+            ),
+            b'C' => self.table.count(word.z as usize),
+            b'D' => self.table.deadline(word.y as usize, short(word.z)),
             b'M' => self.made(),
             b'A' => self.given(Event::Arrival(number(word.z))),
             b'S' => self.given(Event::Start(narrow(word.z))),
             b'R' => self.given(Event::Read(narrow(word.z))),
             b'F' => self.given(Event::Finish(narrow(word.y), number(word.z))),
-            b'@' => self.timed(When::At(number(word.z))),
+            b'@' => self.when = When::At(number(word.z)),
             b'J' => self.looked(),
-            _ => self.spoiled(word),
+            _ => spoil(&mut self.now, word.letter, word.y as usize, number(word.z)),
         }
-    }
-
-    // The table begun anew, with one link more, with a relative deadline, or with another count.
-    fn tabled(mut self, word: Word) -> Desk {
-        let t = self.table;
-        let letter = word.letter;
-        match letter {
-            b'T' => self.table = Table::of(word.z as usize),
-            b'L' => {
-                self.table = t.link(
-                    narrow(word.w),
-                    narrow(word.x),
-                    narrow(word.y),
-                    number(word.z),
-                )
-            }
-            b'D' => self.table = t.deadline(word.y as usize, short(word.z)),
-            _ => self.table = t.count(word.z as usize),
-        }
-        self
     }
 
     // The fresh state of the table.
-    fn made(mut self) -> Desk {
-        let t = self.table;
-        let m = t.made();
+    fn made(&mut self) {
+        let m = self.table.made();
         if self.shown() {
             made(m);
         }
-        let s = m.state;
-        self.now = s;
-        self
+        self.now = m.state;
     }
 
     // An event given to the state.
-    fn given(mut self, e: Event) -> Desk {
-        let before = self.now;
-        let when = self.when;
-        let step = called(before, when, e);
+    fn given(&mut self, e: Event) {
+        let step = called(self.now, self.when, e);
         if self.shown() {
-            answered(before, when, e, step);
+            answered(self.now, self.when, e, step);
         }
-        let s = step.state;
-        self.now = s;
-        self
+        self.now = step.state;
     }
 
     // What stands past the counts.
-    fn looked(self) -> Desk {
+    fn looked(&self) {
         if self.shown() {
-            let s = self.now;
-            past(s);
+            past(self.now);
         }
-        self
-    }
-
-    // A number of the state changed.
-    fn spoiled(mut self, word: Word) -> Desk {
-        let s = self.now;
-        self.now = with(s, word.letter, word.y as usize, number(word.z));
-        self
     }
 }
 
 // The event given to the state by the method of its kind, without a tick or at one.
 fn called(s: State, when: When, e: Event) -> Step {
-    match when {
-        When::Untimed => called_untimed(s, e),
-        When::At(tick) => called_at(s, tick, e),
-    }
-}
-
-fn called_at(s: State, tick: u32, e: Event) -> Step {
-    match e {
-        Event::Arrival(set) => s.arrival_at(tick, set),
-        Event::Start(t) => s.start_at(tick, t),
-        Event::Read(l) => s.read_at(tick, l),
-        Event::Finish(t, value) => s.finish_at(tick, t, value),
-    }
-}
-
-fn called_untimed(s: State, e: Event) -> Step {
-    match e {
-        Event::Arrival(set) => s.arrival(set),
-        Event::Start(t) => s.start(t),
-        Event::Read(l) => s.read(l),
-        Event::Finish(t, value) => s.finish(t, value),
+    match (when, e) {
+        (When::Untimed, Event::Arrival(set)) => s.arrival(set),
+        (When::Untimed, Event::Start(t)) => s.start(t),
+        (When::Untimed, Event::Read(l)) => s.read(l),
+        (When::Untimed, Event::Finish(t, value)) => s.finish(t, value),
+        (When::At(tick), Event::Arrival(set)) => s.arrival_at(tick, set),
+        (When::At(tick), Event::Start(t)) => s.start_at(tick, t),
+        (When::At(tick), Event::Read(l)) => s.read_at(tick, l),
+        (When::At(tick), Event::Finish(t, value)) => s.finish_at(tick, t, value),
     }
 }
 
 // The whole script.
 pub(crate) fn play(script: &[u8]) {
     let mut desk = Desk::cleared();
-    let mut i = 0;
-    while i < script.len() {
-        desk = desk.byte(script[i]);
-        i += 1;
+    for c in script {
+        desk.byte(*c);
     }
 }

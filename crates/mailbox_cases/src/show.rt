@@ -1,11 +1,28 @@
 // What is printed of tables, states and answers.
-use crate::same::{entry_of, same, same_step, same_table, size_of};
+use crate::same::{InState, same, same_step, same_table};
 use mailbox::{Made, State, Step};
 use mailbox_base::numbers::POSITIONS;
 use mailbox_event::{Event, When, policy_for};
 
 // The number of standard output.
 const STDOUT_FILENO: i32 = 1;
+
+// What is printed past the counts of tasks, and of links.
+const BY_TASK: [InState; 4] = [
+    InState::Phase,
+    InState::Newest,
+    InState::Previous,
+    InState::Seen,
+];
+
+const BY_LINK: [InState; 6] = [
+    InState::Writer,
+    InState::Reader,
+    InState::Kind,
+    InState::StartValue,
+    InState::Pointer,
+    InState::Mark,
+];
 
 pub(crate) fn text(s: &[u8]) {
     io::write_all(STDOUT_FILENO, s);
@@ -16,39 +33,25 @@ fn number(n: u64) {
     io::print_decimal(STDOUT_FILENO, n);
 }
 
-fn byte(n: u8) {
-    number(n as u64);
-}
-
 // The first `n` of a field.
-fn list(label: &[u8], s: State, field: u8, n: usize) {
+fn list(label: &[u8], s: State, field: InState, n: usize) {
     text(label);
-    let mut i = 0;
-    while i < n {
-        number(entry_of(s, field, i) as u64);
-        i += 1;
+    for i in 0..n {
+        number(u64::from(field.entry(s, i)));
     }
 }
 
 // The largest number of a field from `n` on.
-fn largest(s: State, field: u8, n: usize) -> u32 {
-    let size = size_of(field);
-    let mut most = 0;
-    let mut i = n;
-    while i < size {
-        most = larger(most, entry_of(s, field, i));
-        i += 1;
-    }
-    most
-}
-
-fn larger(x: u32, y: u32) -> u32 {
-    if x < y { y } else { x }
+fn largest(s: State, field: InState, n: usize) -> u32 {
+    (n..field.size())
+        .map(|i| field.entry(s, i))
+        .max()
+        .unwrap_or(0)
 }
 
 // The name of entry `i` of the cells or the defaults: a task and one of its positions, or a task.
-fn place(field: u8, i: usize) {
-    if field == b'c' {
+fn place(field: InState, i: usize) {
+    if field == InState::Cell {
         text(b" cell");
         number((i / POSITIONS) as u64);
         number((i % POSITIONS + 1) as u64);
@@ -58,52 +61,40 @@ fn place(field: u8, i: usize) {
     }
 }
 
-// The entry `i`, which holds `y`, unless `x` stood there too.
-fn entry(field: u8, i: usize, x: u32, y: u32) {
-    if x != y {
-        place(field, i);
-        number(y as u64);
-    }
-}
-
 // The entries of a field that hold another number than before.
-fn entries(before: State, after: State, field: u8) {
-    let size = size_of(field);
-    let mut i = 0;
-    while i < size {
-        entry(
-            field,
-            i,
-            entry_of(before, field, i),
-            entry_of(after, field, i),
-        );
-        i += 1;
+fn entries(before: State, after: State, field: InState) {
+    for i in 0..field.size() {
+        let now = field.entry(after, i);
+        if now != field.entry(before, i) {
+            place(field, i);
+            number(u64::from(now));
+        }
     }
 }
 
 // Phases, newest, previous and seen of its tasks, pointers and marks of its links; with deadlines, the arrival ticks of its tasks and the last
 // tick too.
 fn boxes(s: State) {
-    list(b" phase", s, b'p', s.tasks);
-    list(b" newest", s, b'n', s.tasks);
-    list(b" previous", s, b'o', s.tasks);
-    list(b" seen", s, b's', s.tasks);
-    list(b" pointer", s, b'x', s.links);
-    list(b" mark", s, b'm', s.links);
+    list(b" phase", s, InState::Phase, s.tasks);
+    list(b" newest", s, InState::Newest, s.tasks);
+    list(b" previous", s, InState::Previous, s.tasks);
+    list(b" seen", s, InState::Seen, s.tasks);
+    list(b" pointer", s, InState::Pointer, s.links);
+    list(b" mark", s, InState::Mark, s.links);
     if s.policy() != 0 {
-        list(b" since", s, b'i', s.tasks);
-        list(b" last", s, b'e', 1);
+        list(b" since", s, InState::Since, s.tasks);
+        list(b" last", s, InState::Last, 1);
     }
 }
 
 // Writers, readers, kinds and start values of its links, and the relative deadlines of its tasks where it has them.
 fn ends(s: State) {
-    list(b" writer", s, b'w', s.links);
-    list(b" reader", s, b'r', s.links);
-    list(b" kind", s, b'k', s.links);
-    list(b" start-value", s, b'v', s.links);
+    list(b" writer", s, InState::Writer, s.links);
+    list(b" reader", s, InState::Reader, s.links);
+    list(b" kind", s, InState::Kind, s.links);
+    list(b" start-value", s, InState::StartValue, s.links);
     if s.policy() != 0 {
-        list(b" deadline", s, b'u', s.tasks);
+        list(b" deadline", s, InState::Deadline, s.tasks);
     }
 }
 
@@ -111,26 +102,22 @@ fn ends(s: State) {
 // deadline and arrival tick too.
 pub(crate) fn past(s: State) {
     text(b" past");
-    number(largest(s, b'p', s.tasks) as u64);
-    number(largest(s, b'n', s.tasks) as u64);
-    number(largest(s, b'o', s.tasks) as u64);
-    number(largest(s, b's', s.tasks) as u64);
-    number(largest(s, b'w', s.links) as u64);
-    number(largest(s, b'r', s.links) as u64);
-    number(largest(s, b'k', s.links) as u64);
-    number(largest(s, b'v', s.links) as u64);
-    number(largest(s, b'x', s.links) as u64);
-    number(largest(s, b'm', s.links) as u64);
+    for field in BY_TASK {
+        number(u64::from(largest(s, field, s.tasks)));
+    }
+    for field in BY_LINK {
+        number(u64::from(largest(s, field, s.links)));
+    }
     if s.policy() != 0 {
-        number(largest(s, b'u', s.tasks) as u64);
-        number(largest(s, b'i', s.tasks) as u64);
+        number(u64::from(largest(s, InState::Deadline, s.tasks)));
+        number(u64::from(largest(s, InState::Since, s.tasks)));
     }
 }
 
 // What a table made.
 pub(crate) fn made(m: Made) {
     let s = m.state;
-    byte(m.refusal);
+    number(u64::from(m.refusal));
     number(s.tasks as u64);
     number(s.links as u64);
     if same(s, State::single()) {
@@ -138,8 +125,8 @@ pub(crate) fn made(m: Made) {
     } else {
         ends(s);
         boxes(s);
-        entries(State::single(), s, b'd');
-        entries(State::single(), s, b'c');
+        entries(State::single(), s, InState::Default);
+        entries(State::single(), s, InState::Cell);
     }
     past(s);
 }
@@ -151,7 +138,7 @@ fn changed(before: State, after: State) {
     } else {
         text(b" changed");
         boxes(after);
-        entries(before, after, b'c');
+        entries(before, after, InState::Cell);
     }
     if !same_table(before, after) {
         text(b" table");
@@ -170,8 +157,8 @@ fn given(s: State, when: When, e: Event) -> Step {
 // the state is not sound or of the other policy.
 pub(crate) fn answered(s: State, when: When, e: Event, step: Step) {
     let answer = step.answer;
-    byte(answer.refusal);
-    number(answer.value as u64);
+    number(u64::from(answer.refusal));
+    number(u64::from(answer.value));
     changed(s, step.state);
     let takes = s.sound() & (s.policy() == policy_for(when));
     if !same_step(step, given(s, when, e)) | (takes == (answer.refusal == 19)) {
