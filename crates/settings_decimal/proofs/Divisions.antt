@@ -5,9 +5,10 @@ use mathlib.Core.Bool.{Bool, true, false, cond, not}
 use Prim.Native.Nat.{ℕ, ◌+◌, ◌-◌, ◌*◌, ◌/◌, ◌%◌, ◌^◌, ◌≤◌, ◌<◌}
 use native.Mathlib.Nat.{div-div-eq-div-mul, mul-div-mul_right, div-eq_of_lt, mod-eq_of_lt, mul-div_cancel, mul-mod_left, mul-mod_right, lt_of_lt_of_le}
 use native.Mathlib.Omega.{arith}
-use borrow.Author.Tests.{ltb-false, eqb-true, eqb-false, eq-eqb, ne_eqb}
+use borrow.Author.Tests.{lt-ltb, le-ltb, ltb-false, eqb-true, eqb-false, eq-eqb, ne_eqb}
 use lib.Arith.{mod-mul}
 use lib.Dec.{eqb, lit<}
+use Rattle.std.proofs.lemmas.Nat.{one_shl}
 use lib.Pow.{pow-add, pow_pos, pow_mono}
 use Rattle.settings_decimal.specs.Decimal.{exponent, significand, under, large, millionths, cut_off}
 
@@ -44,33 +45,34 @@ remainder m k =
     let e : m * 15625 % (2 ^ k * 16) ≡ m * 15625 / 16 % 2 ^ k * 16 + m * 15625 % 16 = mod-mul (m * 15625) {m = 2 ^ k} {c = 16} p (lit< tt) in
     a ∙ b ∙ rw (c, d, e) (omega arith)
 
--- the field of a float that is not large
-pub field_small : (b : ℕ) → large b ≡ false → exponent b ≤ 1065
-field_small b h = ltb-false 1065 (exponent b) h
+-- the field of a float that is not large, and that of a large one
+pub field_small : (b : ℕ) → exponent b ≤ 1065 → large b ≡ false
+field_small b h = le-ltb 1065 (exponent b) h
+
+pub field_large : (b : ℕ) → 1065 < exponent b → large b ≡ true
+field_large b h = lt-ltb 1065 (exponent b) h
+
+-- what `below` cites
+pub ruleset field_steps = (field_small, field_large)
+
+-- a number of 64 bits by a power of two that is larger
+pub far_quotient : (n k : ℕ) → n < 18446744073709551616 → 64 ≤ k → 0 ≡ n / 2 ^ k
+far_quotient n k h l = sym (div-eq_of_lt (lt_of_lt_of_le h (pow_mono {i = 64} {j = k} l)))
+
+pub far_remainder : (n k : ℕ) → n < 18446744073709551616 → 64 ≤ k → n ≡ n % 2 ^ k
+far_remainder n k h l = sym (mod-eq_of_lt (lt_of_lt_of_le h (pow_mono {i = 64} {j = k} l)))
+
+-- what `divided` cites
+pub ruleset power_steps = (one_shl, pow_pos, far_quotient, far_remainder)
 
 -- a float that is not large has ten digits or more under the point
 under_ten : (b : ℕ) → large b ≡ false → 10 ≤ under b
 under_ten b h = omega (arith, ltb-false 1065 (exponent b) h)
 
--- its whole millionths, by a power of two that fits
-pub millionths_near : (b k : ℕ) {m n p : ℕ} → m ≡ significand b → n ≡ m * 15625 / 16 → k + 10 ≡ under b → p ≡ 2 ^ k → n / p ≡ millionths b
+-- its whole millionths
+pub millionths_units : (b k m : ℕ) → m ≡ significand b → k + 10 ≡ under b → m * 15625 / 16 / 2 ^ k ≡ millionths b
 unfolding millionths
-millionths_near b k e f g h = rw (← g, h, f, e) (sym (quotient (significand b) k))
-
--- the units fit 64 bits
-units_small : (b : ℕ) {k : ℕ} → 64 ≤ k → significand b * 15625 / 16 < 2 ^ k
-units_small b h = lt_of_lt_of_le (omega (arith, significand_small b)) (pow_mono h)
-
--- by one that does not fit, there are none
-pub millionths_far : (b : ℕ) → 74 ≤ under b → 0 ≡ millionths b
-unfolding millionths
-millionths_far b h =
-    let k = under b - 10 in
-    let g : under b ≡ k + 10 = omega arith in
-    rw g (sym (quotient (significand b) k ∙ div-eq_of_lt (units_small b (omega arith))))
-
--- what `millionths` cites
-pub ruleset millionths_steps = (significand_small, pow_pos, millionths_near, millionths_far)
+millionths_units b k m e g = rw (← g, e) (sym (quotient (significand b) k))
 
 -- 15625 times 9 is one more than 16 times 8789
 odd_times : (m : ℕ) → m * 15625 % 16 ≡ 0 → m % 16 ≡ 0
@@ -103,18 +105,10 @@ zero_alike a c e = go (eqb a 0) refl
     go false h = ne_eqb ((a * 16 + c) * 64) 0 (λ z. eqb-false a 0 h (omega arith))
 
 -- where the significand is a multiple of 16, the units' remainder tells whether anything is cut off
-pub cut_units : (b k : ℕ) {m : ℕ} → m ≡ significand b → m % 16 ≡ 0 → k + 10 ≡ under b → not (eqb (m * 15625 / 16 % 2 ^ k) 0) ≡ cut_off b
+pub cut_units : (b k m : ℕ) → m ≡ significand b → m % 16 ≡ 0 → k + 10 ≡ under b → not (eqb (m * 15625 / 16 % 2 ^ k) 0) ≡ cut_off b
 unfolding cut_off
-cut_units b k {m} e h g =
+cut_units b k m e h g =
     rw (← g, ← e, remainder m k, zero_alike (m * 15625 / 16 % 2 ^ k) (m * 15625 % 16) (times_odd m h))
 
--- by a power of two that does not fit, all units are cut off
-pub cut_far : (b m : ℕ) → m ≡ significand b → m % 16 ≡ 0 → 74 ≤ under b → not (eqb (m * 15625 / 16) 0) ≡ cut_off b
-cut_far b m e h l =
-    let k = under b - 10 in
-    let g : k + 10 ≡ under b = omega arith in
-    let s : m * 15625 / 16 < 2 ^ k = rw e (units_small b (omega arith)) in
-    rw (← mod-eq_of_lt s) (cut_units b k e h g)
-
--- what `is_cut` cites
-pub ruleset cut_steps = (significand_small, pow_pos, cut_sixteenth, cut_units, cut_far)
+-- what `in_decimal` cites
+pub ruleset decimal_steps = (significand_small, millionths_units, cut_sixteenth, cut_units)

@@ -1,8 +1,8 @@
 // A float above zero in decimal: its whole millionths, and whether anything is cut off below them.
 #![tactic(auto)]
 
-ghost use Rattle.std.specs.Prelude.{◌≡◌, false, ◌+◌, ◌*◌, ◌/◌, ◌^◌, ◌<◌};
-ghost use Rattle.settings_decimal.specs.Decimal.{under, cut_off, significand as Decimal·significand, large as Decimal·large, millionths as Decimal·millionths};
+ghost use Rattle.std.specs.Prelude.{◌≡◌, true, false, ◌+◌, ◌*◌, ◌/◌, ◌%◌, ◌^◌, ◌<◌, MatchOption};
+ghost use Rattle.settings_decimal.specs.Decimal.{under, large, significand as Decimal·significand};
 ghost use Rattle.settings_decimal.specs.Answer.{decimal_of};
 
 // A float in decimal: its whole millionths and whether there is more.
@@ -26,32 +26,15 @@ fn significand(bits: u64) -> u64
     }
 }
 
-// Whether a float is too large to be shown in decimal.
-fn large(bits: u64) -> bool
-    ensures { result ≡ Decimal·large bits }
-{
-    1065 < bits / FIELD
-}
-
-// By how many binary digits the units of a float that is not large lie below millionths.
-#[tactic(auto, using(crate::proofs::Divisions::field_small))]
-fn below(bits: u64) -> u64
-    requires { Decimal·large bits ≡ false }
-    ensures { result + 10 ≡ under bits }
+// By how many binary digits the units of a float lie below millionths, unless it is too large to be shown.
+#[tactic(auto, using(crate::proofs::Divisions::field_steps))]
+fn below(bits: u64) -> Option<u64>
+    ensures { MatchOption result (large bits ≡ true) (λ k. (large bits ≡ false) × (k + 10 ≡ under bits)) }
 {
     match bits / FIELD {
-        0 => 1064,
-        field => 1065 - field,
+        0 => Some(1064),
+        field => 1065u64.checked_sub(field),
     }
-}
-
-// A power of two.
-#[tactic(auto, using(std::proofs::lemmas::Nat::one_shl))]
-fn power(k: u64) -> u64
-    requires { k < 64 }
-    ensures { result ≡ 2 ^ k }
-{
-    1u64 << k
 }
 
 // A significand times 15625 / 16, cut to a whole number: a million is 15625 times 2 to the 6, so these are the units of which
@@ -63,42 +46,26 @@ fn units(m: u64) -> u64
     m / 16 * 15625 + m % 16 * 15625 / 16
 }
 
-// The whole millionths of a float that is not large.
-#[tactic(auto, using(crate::proofs::Divisions::millionths_steps))]
-fn millionths(bits: u64) -> u64
-    requires { Decimal·large bits ≡ false }
-    ensures { result ≡ Decimal·millionths bits }
+// A number divided by 2 to the k, and the remainder.
+#[tactic(auto, using(crate::proofs::Divisions::power_steps))]
+fn divided(n: u64, k: u64) -> (u64, u64)
+    ensures { (result.0 ≡ n / 2 ^ k) × (result.1 ≡ n % 2 ^ k) }
 {
-    let n = units(significand(bits));
-    let k = below(bits);
-    if k < 64 { n / power(k) } else { 0 }
-}
-
-// Whether a float that is not large has more than its whole millionths.
-#[tactic(auto, using(crate::proofs::Divisions::cut_steps))]
-fn is_cut(bits: u64) -> bool
-    requires { Decimal·large bits ≡ false }
-    ensures { result ≡ cut_off bits }
-{
-    let m = significand(bits);
-    if m % 16 != 0 {
-        return true;
+    if k < 64 {
+        (n >> k, n % (1 << k))
+    } else {
+        (0, n)
     }
-    let n = units(m);
-    let k = below(bits);
-    if k < 64 { n % power(k) != 0 } else { n != 0 }
 }
 
 // The float of 64 bits in decimal, unless it is too large to be shown.
-#[tactic(auto, unfolding(crate::specs::Answer::decimal_of))]
+#[tactic(auto, using(crate::proofs::Divisions::decimal_steps), unfolding(crate::specs::Answer::decimal_of))]
 pub fn in_decimal(bits: u64) -> Option<Decimal>
     ensures { result ≡ decimal_of bits }
 {
-    if large(bits) {
-        return None;
-    }
-    Some(Decimal {
-        millionths: millionths(bits),
-        cut: is_cut(bits),
-    })
+    let k = below(bits)?;
+    let m = significand(bits);
+    let (millionths, rest) = divided(units(m), k);
+    let cut = m % 16 != 0 || rest != 0;
+    Some(Decimal { millionths, cut })
 }
