@@ -1,18 +1,17 @@
--- Byte by byte: a number is read from its highest byte on, and put from its lowest byte on.
+-- Byte by byte: a number is read from its highest byte on, and the bytes that are put are the library's.
 -- Assumes nothing.
 use mathlib.Core.Path.{◌≡◌, refl, sym, ap, ◌∙◌}
 use mathlib.Core.Bool.{Bool, true, false}
 use mathlib.Core.List.{List, ◌∷◌}
-use Prim.Native.Nat.{ℕ, suc, ◌+◌, ◌-◌, ◌*◌, ◌/◌, ◌%◌, ◌^◌, ◌≤◌, ◌<◌, min}
-use native.Mathlib.Nat.{pow-le-pow_right}
-use native.Mathlib.Numerals.{add-one}
+use Prim.Native.Nat.{ℕ, zero, suc, ◌+◌, ◌-◌, ◌*◌, ◌/◌, ◌%◌, ◌^◌, ◌≤◌, ◌<◌, min}
+use native.Mathlib.Nat.{pow-le-pow_right, pow-suc, div-div-eq-div-mul, div-one}
 use native.Mathlib.Omega.{arith}
 use borrow.Author.Tests.{leb-true, leb-false}
 use lib.Dec.{leb, lit<}
-use lib.ListN.{length, get_or, drop}
-use lib.Seq.{drop-cons}
+use lib.ListN.{length, get_or, take}
+use Rattle.std.specs.Int.{w64, byte_at, bytes_low_first, to_le_bytes}
 use Rattle.byte_format.specs.Number.{bytes_of, number_at, Bytes}
-use Rattle.byte_format.proofs.Numbers.{number_none, number_past, number_more, number_wide, length_bytes}
+use Rattle.byte_format.proofs.Numbers.{number_none, number_past, number_more, number_wide}
 
 -- before the first turn nothing is read: all bytes that there are lie before
 pub nothing_yet : (s : List ℕ) (at w : ℕ) → number_at (w - min w (length s - at)) s (at + min w (length s - at)) ≡ 0
@@ -46,19 +45,28 @@ module _ (s : List ℕ) (at w i : ℕ) (p : 0 < i) (h : i ≤ w) where
       let d : 256 ^ 7 ≤ 72057594037927936 = omega arith in
       rw e (omega arith)
 
--- the bytes of a number from the i-th on are those of what is left of it
-module _ (w n₀ i n : ℕ) (h : i < w) (e : bytes_of (w - i) n ≡ drop i (bytes_of w n₀)) where
-  split : bytes_of (w - i) n ≡ n % 256 ∷ bytes_of (w - (i + 1)) (n / 256)
-  unfolding bytes_of
-  split = let k : w - i ≡ suc (w - (i + 1)) = omega arith in rw k
+-- the bytes of a number, each by a division of its own
+low_first : (i k n : ℕ) → bytes_low_first i k n ≡ bytes_of k (n / 256 ^ i)
+unfolding bytes_of
+low_first i zero n = refl
+low_first i (suc k) n =
+    let b : byte_at i n ≡ n / 256 ^ i % 256 = its_byte i n in
+    let e : n / 256 ^ suc i ≡ n / 256 ^ i / 256 = rw (pow-suc 256 i) (sym (div-div-eq-div-mul n (256 ^ i) 256)) in
+    rw (b, low_first (suc i) k n, e)
+  where
+    its_byte : (i n : ℕ) → byte_at i n ≡ n / 256 ^ i % 256
+    its_byte zero n = ap (λ (m : ℕ). m % 256) (sym (div-one n))
+    its_byte (suc i) n = refl
 
-  inside : i < length (bytes_of w n₀)
-  inside = rw (length_bytes w n₀) h
+-- the first k of them
+first_bytes : (k w n : ℕ) → k ≤ w → take k (bytes_of w n) ≡ bytes_of k n
+unfolding bytes_of
+first_bytes zero w n h = refl
+first_bytes (suc k) zero n h = absurd (omega arith)
+first_bytes (suc k) (suc w) n h = ap (λ (l : List ℕ). n % 256 ∷ l) (first_bytes k w (n / 256) (omega arith))
 
-  -- the next of them
-  pub next_byte : n % 256 ≡ get_or (bytes_of w n₀) i 0
-  next_byte = ap (λ (l : List ℕ). get_or l 0 0) (sym split ∙ e ∙ drop-cons (bytes_of w n₀) i 0 inside)
-
-  -- and those after it
-  pub later_bytes : bytes_of (w - (i + 1)) (n / 256) ≡ drop (i + 1) (bytes_of w n₀)
-  later_bytes = ap (drop 1) (sym split ∙ e ∙ drop-cons (bytes_of w n₀) i 0 inside) ∙ rw (add-one i)
+-- of a number of 64 bits, as the library has them
+pub le_bytes : (k w n : ℕ) → k ≤ w → w ≤ 8 → take k (to_le_bytes w64 n) ≡ take k (bytes_of w n)
+le_bytes k w n h g =
+    let e : to_le_bytes w64 n ≡ bytes_of 8 n = low_first 0 8 n ∙ ap (bytes_of 8) (div-one n) in
+    rw (e, first_bytes k 8 n (omega arith), first_bytes k w n h)

@@ -2,16 +2,19 @@
 -- Assumes nothing.
 use mathlib.Core.Path.{◌≡◌, refl, sym, ap, ◌∙◌}
 use mathlib.Core.Bool.{Bool, true, false}
-use mathlib.Core.List.{List, [], ◌∷◌, ◌++◌, append_assoc}
+use mathlib.Core.List.{List, [], ◌∷◌, ◌++◌, append_assoc, append-nil}
 use Prim.Native.Nat.{ℕ, ◌+◌, ◌-◌, ◌≤◌, ◌<◌, min}
 use native.Mathlib.Nat.{mod-eq_of_lt}
 use native.Mathlib.Omega.{arith}
-use borrow.Author.Tests.{ltb-true, ltb-false}
-use lib.Dec.{ltb}
+use borrow.Author.Tests.{ltb-true, ltb-false, leb-true, leb-false}
+use lib.Dec.{ltb, leb}
 use lib.ListN.{length, take, drop, length-append, length-drop}
-use lib.Seq.{paste-zero, length-paste, take-append_seam, take-append-le, take-append-add, take_all, take-take, take-length, take_at, drop-append-add, drop-drop, length-take-le}
+use lib.Seq.{paste-zero, length-paste, take-append_seam, take-append-le, take-append-add, take_all, take-take, take-length, take_at, drop-append-add, drop-drop, drop-length, length-take-le}
 use Rattle.byte_format.specs.Number.{bytes_of}
+use Rattle.std.specs.Int.{w64, to_le_bytes}
+use Rattle.byte_format.proofs.Numbers.{length_bytes}
 use Rattle.lent_bytes.specs.Put.{put_at}
+use Rattle.lent_bytes.proofs.Digits.{le_bytes}
 
 -- bytes that have room are put whole
 pub put_whole : (d : List ℕ) (at : ℕ) (x : List ℕ) → at + length x ≤ length d → put_at d at x ≡ take at d ++ x ++ drop (at + length x) d
@@ -91,6 +94,31 @@ put_put d at x y = go (ltb (length d) (at + length x + length y)) refl (ltb (at 
         ap (λ (n : ℕ). put_at (put_at d at x) (at + length x) (take n y)) (sym e) ∙ put_cut (put_at d at x) (at + length x) y in
         let b : put_at d at (x ++ take k y) ≡ put_at d at (x ++ y) = ap (put_at d at) (sym (ap (λ (n : ℕ). take n (x ++ y)) f ∙ take-append-add x y k)) ∙ put_cut d at (x ++ y) in
         sym a ∙ room_put d at x (take k y) (omega arith) ∙ b
+
+-- the bytes of a number put into the part that has room for them
+pub put_part :
+    (d : List ℕ) (at w n s k : ℕ) {part : List ℕ} → w ≤ 8 → s ≡ min at (length d) → k ≡ min w (length d - at) → part ≡ take k (to_le_bytes w64 n) →
+    take s d ++ (part ++ drop (s + k - s) (drop s d)) ≡ put_at d at (bytes_of w n)
+put_part d at w n s k {part} h e f p = go (leb at (length d)) refl
+  where
+    m : min (length (bytes_of w n)) (length d - at) ≡ k
+    m = omega (arith, length_bytes w n)
+
+    q : part ≡ take k (bytes_of w n)
+    q = p ∙ le_bytes k w n (omega arith) h
+
+    go : (t : Bool) → leb at (length d) ≡ t → take s d ++ (part ++ drop (s + k - s) (drop s d)) ≡ put_at d at (bytes_of w n)
+    go true t =
+        let l = leb-true at (length d) t in
+        let i : s ≡ at = omega arith in
+        let j : at + k - at ≡ k = omega arith in
+        rw (i, j, q, m, drop-drop k at d) (sym (append_assoc (take at d) (take k (bytes_of w n)) (drop (at + k) d)))
+    go false t =
+        let l = leb-false at (length d) t in
+        let i : s ≡ length d = omega arith in
+        let z : k ≡ 0 = omega arith in
+        let j : length d + 0 - length d ≡ 0 = omega arith in
+        rw (q, z, i, j, take-length d, drop-length d, put_past d at (bytes_of w n) (omega arith)) (append-nil d)
 
 -- bytes put behind those that stand at the start
 pub put_behind : (old x y : List ℕ) → length x + length y ≤ length old → put_at (x ++ drop (length x) old) (length x) y ≡ (x ++ y) ++ drop (length (x ++ y)) old

@@ -22,13 +22,11 @@ pub fn number_at(s: &[u8], at: usize, w: usize) -> u64
 }
 
 // Puts the w lowest bytes of a number, eight at most, from a place on: as many as there is room for, and no other byte changes.
+#[tactic(auto, using(crate::proofs::Puts::put_part))]
 pub fn put_number(number: u64, w: usize, out: &mut [u8], at: usize)
     ensures { out.new ≡ put_at out.old at (bytes_of (min w 8) number) }
 {
+    let start = few(at, out.len());
     let k = few(few(w, WIDTH), left(out.len(), at));
-    let mut n = number;
-    for i in 0..k {
-        out[at + i] = (n % 256) as u8;
-        n /= 256;
-    }
+    out[start..start + k].copy_from_slice(&number.to_le_bytes()[..k]);
 }
