@@ -20,7 +20,7 @@ const LITTLE: usize = 9;
 // What a list with little room holds before it is lent.
 const UNTOUCHED: u32 = 777777;
 
-// A word, a space, a number and a line feed.
+// A word, a space, a number and a line feed. By `io`, as the printouts are written, so that all comes out in its order.
 fn print_named(word: &[u8], n: u64) {
     io::write_all(STDOUT_FILENO, word);
     io::write_all(STDOUT_FILENO, b" ");

@@ -13,7 +13,8 @@ const STDOUT_FILENO: i32 = 1;
 
 const STDERR_FILENO: i32 = 2;
 
-// A line: its first `size` bytes are there. An array with its size beside: a line takes no memory but its own, and `shown` speaks of both.
+// A line: its first `size` bytes are there. An array with its size beside, since `shown` speaks of both and no heap is used. Not by `Display`:
+// which bytes `write!` puts is promised of a String alone, which is on the heap.
 #[derive(Clone, Copy)]
 pub struct Line {
     pub bytes: [u8; ROOM],
@@ -68,7 +69,8 @@ impl Line {
     }
 }
 
-// Writes the first n bytes of a made line to an open file: how many are handed over, none where the line has fewer than n.
+// Writes the first n bytes of a made line to an open file: how many are handed over, none where the line has fewer than n. The length stands beside
+// the line, as `put` answers it, and a file is a number, as `io` takes it.
 fn write_line(file: i32, n: usize, line: &[u8]) -> usize
     ensures { result ≡ fit n (length line.now) }
 {
