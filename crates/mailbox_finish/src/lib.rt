@@ -10,7 +10,7 @@ ghost use Rattle.mailbox_finish.specs.Frees.{freed_one, freed_first, advanced};
 
 use lists::few;
 use mailbox_base::decision::{FINISH, decide};
-use mailbox_base::numbers::{LINKS, pick};
+use mailbox_base::numbers::LINKS;
 use mailbox_layout::{
     CONTROL, InControl, InValues, VALUES, cell_at, control_at, entry_at, put_cell, put_control,
 };
@@ -44,7 +44,7 @@ pub fn number_of(l: u8, control: &[u8; CONTROL], values: &[u32; VALUES]) -> u32
 fn freed_at(t: u8, r: u8, behind: bool, x: u8) -> u8
     ensures { result ≡ cond (eqb r t && behind) 0 x }
 {
-    pick((r == t) & behind, 0, x)
+    if (r == t) & behind { 0 } else { x }
 }
 
 // The pointer of link `l` becomes absent and its mark goes, if `t` reads by it from a writer ahead of it.
@@ -63,10 +63,8 @@ fn free_link(plan: &[u8; LINKS], t: u8, l: usize, control: &mut [u8; CONTROL])
 fn free_links(plan: &[u8; LINKS], t: u8, links: usize, control: &mut [u8; CONTROL])
     ensures { (ahead : ℕ → ℕ → Bool) → Planned ahead (at (writer_in control.old)) (at (reader_in control.old)) links plan.now → (T L : ℕ) → Becomes (freed_first ahead t links) T L control.old control.new }
 {
-    let mut l = 0;
-    while l < links {
+    for l in 0..links {
         free_link(plan, t, l, control);
-        l += 1;
     }
 }
 

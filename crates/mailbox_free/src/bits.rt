@@ -6,7 +6,7 @@ ghost use Rattle.mailbox_free.specs.Bits.{last_bit, bit_word};
 ghost use Rattle.mailbox_free.specs.Pattern.{AllLowest};
 
 use crate::table::PATTERNS;
-use mailbox_base::numbers::{POSITIONS, pick};
+use mailbox_base::numbers::POSITIONS;
 
 // The last bit. Whatever is larger shares it, and it is no position's.
 const LAST: u8 = 15;
@@ -18,7 +18,7 @@ const TENTH: u8 = POSITIONS as u8;
 fn bit_of(p: u8) -> u8
     ensures { result ≡ min p last_bit }
 {
-    if p < LAST { p } else { LAST }
+    p.min(LAST)
 }
 
 // The word with the bit of `p`, or with none.
@@ -34,5 +34,5 @@ pub fn lowest_outside(lowest: &[u8; PATTERNS], taken: u16) -> u8
     ensures { AllLowest lowest.now → result ≡ first (has taken) 9 1 }
 {
     let p = lowest[taken as usize / 2 % PATTERNS];
-    pick(p == 0, TENTH, p)
+    if p == 0 { TENTH } else { p }
 }

@@ -8,15 +8,14 @@ use Rattle.mailbox_plan.proofs.Plans.{plan_none, plan_first, plan_more}
 use Rattle.mailbox_plan.proofs.plan_of.Goals as goal
 
 pub loop-l-init : goal.loop-l-init
-loop-l-init c = (omega arith, search rules, plan_none)
+loop-l-init c = (search rules, plan_none)
 
 pub loop-l-preserved : goal.loop-l-preserved
 loop-l-preserved c = let w = c in
     let i = w.loop-l in (
-      omega arith,
-      ap length c.put_flag.ensures ∙ simp length-set i.invariant.1,
-      plan_more _ _ i.invariant.2 i.invariant.1 (omega arith) (rw (w.control_at-w.ensures, c.control_at-r.ensures) at c.is_ahead.ensures) c.put_flag.ensures,
+      ap length c.put_flag.ensures ∙ simp length-set i.invariant.0,
+      plan_more _ _ i.invariant.1 i.invariant.0 (omega arith) (rw (w.control_at-w.ensures, c.control_at-r.ensures) at c.is_ahead.ensures) c.put_flag.ensures,
     )
 
 pub returns : goal.returns
-returns c = rw (← c.few-n.ensures) (plan_first c.loop-l-test.false c.loop-l.invariant.2)
+returns c = rw (← c.few-l-end.ensures) (plan_first c.loop-l-test.false c.loop-l.invariant.1)

@@ -1,7 +1,6 @@
 -- `mailbox_plan::plan_of` meets its contract: after l turns the plan is that of the first l links.
 -- Assumes nothing.
 use mathlib.Core.Path.{◌≡◌}
-use Prim.Native.Nat.{◌≤◌, ◌-◌}
 use lib.ListN.{length}
 use Rattle.protocol_state.specs.Saved.{at, state_room}
 use Rattle.mailbox_layout.specs.Layout.{writer_in, reader_in, ahead_among}
@@ -9,7 +8,4 @@ use Rattle.mailbox_plan.specs.Plan.{Planned}
 use Rattle.mailbox_plan.proofs.plan_of.Given as goal
 
 abbrev pub invariant-loop-l : goal.invariant-loop-l
-invariant-loop-l l = (l.l ≤ l.n) × (length l.plan ≡ state_room.links) × Planned (ahead_among l.times) (at (writer_in l.control)) (at (reader_in l.control)) l.l l.plan
-
-abbrev pub decreases-loop-l : goal.decreases-loop-l
-decreases-loop-l l = l.n - l.l
+invariant-loop-l l = (length l.plan ≡ state_room.links) × Planned (ahead_among l.times) (at (writer_in l.control)) (at (reader_in l.control)) l.l l.plan

@@ -5,8 +5,5 @@ use native.Mathlib.Omega.{arith}
 use lib.Seq.{set_out}
 use Rattle.mailbox_plan.proofs.put_flag.Goals as goal
 
-pub returns-then-l-lt-LINKS : goal.returns-then-l-lt-LINKS
-returns-then-l-lt-LINKS c = rw c.pick.ensures
-
 pub returns-else-l-lt-LINKS : goal.returns-else-l-lt-LINKS
 returns-else-l-lt-LINKS c = sym (set_out _ _ _ (omega arith))
