@@ -1,10 +1,15 @@
 -- What a table is judged, way by way.
 -- Assumes nothing.
-use mathlib.Core.Path.{◌≡◌, refl}
+use mathlib.Core.Path.{◌≡◌, refl, sym}
 use mathlib.Core.Bool.{Bool, true, false, ◌||◌}
 use Prim.Native.Nat.{ℕ, ◌≤◌, ◌<◌}
-use borrow.Author.Tests.{ltb-false, lt-ltb, le-ltb, leb-false}
+use borrow.Author.Tests.{ne_eqb, ltb-false, lt-ltb, le-ltb, leb-false}
 use lib.Dec.{eqb, ltb, leb}
+use Rattle.std.specs.Prelude.{Result, Ok, Err, ⊤, cond, is_ok}
+use Rattle.std.specs.Result.{result_and}
+use Rattle.refusals.specs.Numbers.{told}
+use Rattle.refusals.specs.declared.Refusal.{Refusal}
+use Rattle.refusals.proofs.Numbers.{number_not_0}
 use Rattle.lists.specs.Lists.{leading}
 use Rattle.lists.proofs.Bools.{or_right}
 use Rattle.protocol_state.specs.Records.{Link}
@@ -17,6 +22,16 @@ fault_by_count ahead T x twice {n} {m} h = go (leb T x.writer) refl where
   go : (b : Bool) → leb T x.writer ≡ b → fault_of ahead T x twice n ≡ fault_of ahead T x twice m
   go true e = rw e
   go false e = rw (h (leb-false T x.writer e))
+
+-- what is judged first is told where it is refused, else what is judged after it
+pub told_and : (a b : Result ⊤ Refusal) → told (result_and a b) ≡ cond (eqb (told a) 0) (told b) (told a)
+told_and (Ok x) b = refl
+told_and (Err r) b = rw (ne_eqb _ 0 (number_not_0 r))
+
+-- what is judged is refused where its number is not 0
+pub told_ok : (a : Result ⊤ Refusal) → is_ok a ≡ eqb (told a) 0
+told_ok (Ok x) = refl
+told_ok (Err r) = sym (ne_eqb _ 0 (number_not_0 r))
 
 -- a count of tasks that passes has room
 pub room_for : (T : ℕ) → (eqb T 0 || ltb state_room.tasks T) ≡ false → T ≤ state_room.tasks
