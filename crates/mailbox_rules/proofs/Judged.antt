@@ -1,11 +1,12 @@
 -- What a table is judged, way by way.
 -- Assumes nothing.
 use mathlib.Core.Path.{◌≡◌, refl, sym}
-use mathlib.Core.Bool.{Bool, true, false, ◌||◌}
+use mathlib.Core.Logic.{◌≢◌}
+use mathlib.Core.Bool.{Bool, true, false, true≢false, ◌||◌}
 use Prim.Native.Nat.{ℕ, ◌≤◌, ◌<◌}
 use borrow.Author.Tests.{ne_eqb, ltb-false, lt-ltb, le-ltb, leb-false}
 use lib.Dec.{eqb, ltb, leb}
-use Rattle.std.specs.Prelude.{Result, Ok, Err, ⊤, cond, is_ok}
+use Rattle.std.specs.Prelude.{Result, Ok, Err, ⊤, cond, is_err}
 use Rattle.std.specs.Result.{result_and}
 use Rattle.refusals.specs.Numbers.{told}
 use Rattle.refusals.specs.declared.Refusal.{Refusal}
@@ -28,10 +29,14 @@ pub told_and : (a b : Result ⊤ Refusal) → told (result_and a b) ≡ cond (eq
 told_and (Ok x) b = refl
 told_and (Err r) b = rw (ne_eqb _ 0 (number_not_0 r))
 
--- what is judged is refused where its number is not 0
-pub told_ok : (a : Result ⊤ Refusal) → is_ok a ≡ eqb (told a) 0
-told_ok (Ok x) = refl
-told_ok (Err r) = sym (ne_eqb _ 0 (number_not_0 r))
+-- what is refused has a number that is not 0, and what is not has 0
+pub told_refused : (a : Result ⊤ Refusal) → is_err a ≡ true → told a ≢ 0
+told_refused (Ok x) e = absurd (true≢false (sym e))
+told_refused (Err r) e = number_not_0 r
+
+pub told_passed : (a : Result ⊤ Refusal) → is_err a ≡ false → told a ≡ 0
+told_passed (Ok x) e = refl
+told_passed (Err r) e = absurd (true≢false e)
 
 -- a count of tasks that passes has room
 pub room_for : (T : ℕ) → (eqb T 0 || ltb state_room.tasks T) ≡ false → T ≤ state_room.tasks

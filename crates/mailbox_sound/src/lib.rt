@@ -1,14 +1,16 @@
 // Soundness of a state, on its lent arrays: what refusal 19 tests.
 #![tactic(auto)]
 
-ghost use Rattle.std.specs.Prelude.{◌≡◌, Bool, cond, List, ℕ, ◌≤◌, ◌<◌, min};
+ghost use Rattle.std.specs.Prelude.{◌≡◌, Bool, List, [], ℕ, ◌≤◌, ◌<◌, min};
 ghost use Rattle.lists.specs.Lists.{every};
 ghost use Rattle.protocol_state.specs.Saved.{at, state_room};
-ghost use Rattle.protocol_state.specs.Sound.{within, task_is, seen_is, since_is, deadline_is, clock_is, mark_is, task_ok, time_ok, pointer_is, pointer_ok, mark_ok, task_stands, link_stands, is_sound};
-ghost use Rattle.mailbox_layout.specs.Layout.{writer_in, reader_in, ahead_among, state_of};
-ghost use Rattle.mailbox_plan.specs.Plan.{Planned};
+ghost use Rattle.protocol_state.specs.Sound.{within, task_is, seen_is, since_is, deadline_is, clock_is, mark_is, time_ok, mark_ok, task_stands, link_stands, is_sound};
+ghost use Rattle.mailbox_layout.specs.Layout.{phase_in, newest_in, previous_in, pointer_in, writer_in, reader_in, ahead_among, state_of};
+ghost use Rattle.mailbox_plan.specs.Plan.{is_flagged, Planned};
 ghost use Rattle.mailbox_rules.specs.CountsBehind.{CountsBehind};
+ghost use Rattle.mailbox_sound.specs.AtHand.{in_arrays, pointer_by, task_by, link_by};
 
+use lists::every;
 use mailbox_base::numbers::{LINKS, MOST_TICK, TASKS};
 use mailbox_layout::{CONTROL, InControl, InTimes, TIMES, VALUES, control_at, entry_at};
 use mailbox_plan::goes_behind;
@@ -38,7 +40,7 @@ fn seen_is(phase: u8, seen: u8) -> bool
 
 // Whether task `t` has a phase and positions that it may have, by the counts of links to readers behind.
 fn task_ok(counts: &[u8; TASKS], control: &[u8; CONTROL], t: usize) -> bool
-    ensures { t < state_room.tasks → (ahead : ℕ → ℕ → Bool) (L : ℕ) → CountsBehind ahead (at (writer_in control.now)) (at (reader_in control.now)) L counts.now → (T : ℕ) (v x : List ℕ) → result ≡ task_ok ahead (state_of T L control.now v x) t }
+    ensures { result ≡ task_is (at (phase_in control.now) t) (at (newest_in control.now) t) (at (previous_in control.now) t) (at counts.now t) }
 {
     task_is(
         control_at(control, InControl::Phase, t),
@@ -52,7 +54,8 @@ fn task_ok(counts: &[u8; TASKS], control: &[u8; CONTROL], t: usize) -> bool
 fn since_is(phase: u8, y: u32, z: u32) -> bool
     ensures { result ≡ since_is phase y z }
 {
-    if phase == 0 { y <= 0 } else { y <= z }
+    let latest = if phase == 0 { 0 } else { z };
+    y <= latest
 }
 
 // Whether a task may have this relative deadline: none under fixed priorities, else not 0.
@@ -64,7 +67,7 @@ fn deadline_is(policy: u32, d: u32) -> bool
 
 // Whether task `t` has an arrival tick and a relative deadline that it may have.
 fn time_ok(control: &[u8; CONTROL], times: &[u32; TIMES], t: usize) -> bool
-    ensures { (T L : ℕ) (v : List ℕ) → result ≡ time_ok (state_of T L control.now v times.now) t }
+    ensures { result ≡ time_ok (in_arrays control.now times.now) t }
 {
     let phase = control_at(control, InControl::Phase, t);
     let since_stands = since_is(
@@ -84,7 +87,7 @@ fn clock_is(policy: u32, last: u32) -> bool
     ensures { result ≡ clock_is policy last }
 {
     if policy == 0 {
-        last <= 0
+        last == 0
     } else {
         (policy <= 1) & (last <= MOST_TICK)
     }
@@ -97,7 +100,7 @@ fn task_stands(
     times: &[u32; TIMES],
     t: usize,
 ) -> bool
-    ensures { t < state_room.tasks → (ahead : ℕ → ℕ → Bool) (L : ℕ) → CountsBehind ahead (at (writer_in control.now)) (at (reader_in control.now)) L counts.now → (T : ℕ) (v : List ℕ) → result ≡ task_stands ahead (state_of T L control.now v times.now) t }
+    ensures { result ≡ task_by counts.now (in_arrays control.now times.now) t }
 {
     let seen_stands = seen_is(
         control_at(control, InControl::Phase, t),
@@ -116,33 +119,25 @@ fn tasks_stand(
 ) -> bool
     ensures { tasks ≤ state_room.tasks → (ahead : ℕ → ℕ → Bool) (L : ℕ) → CountsBehind ahead (at (writer_in control.now)) (at (reader_in control.now)) L counts.now → (T : ℕ) (v : List ℕ) → result ≡ every (task_stands ahead (state_of T L control.now v times.now)) tasks }
 {
-    let mut ok = true;
-    let mut t = 0;
-    while t < tasks {
-        ok = task_stands(counts, control, times, t) & ok;
-        t += 1;
-    }
-    ok
-}
-
-// One of two tests.
-fn pick_test(b: bool, x: bool, y: bool) -> bool
-    ensures { result ≡ cond b x y }
-{
-    if b { x } else { y }
+    every(tasks, |t| task_stands(counts, control, times, t))
 }
 
 // Whether a link, to a reader behind or not, may have the pointer `y`, where the reader has this phase and the writer `n` links to readers
 // behind: present where the reader is active, absent where it is idle and the writer ahead of it.
 fn pointer_is(behind: bool, y: u8, phase: u8, n: u8) -> bool
-    ensures { (ahead : ℕ → ℕ → Bool) (w r : ℕ) → behind ≡ ahead w r → result ≡ pointer_is ahead w r y phase n }
+    ensures { result ≡ pointer_by behind y phase n }
 {
-    (y as usize <= n as usize + 2) & pick_test(phase == 0, !behind | (y == 0), 1 <= y)
+    let presence_stands = if phase == 0 {
+        !behind | (y == 0)
+    } else {
+        1 <= y
+    };
+    (y as usize <= n as usize + 2) & presence_stands
 }
 
-// Whether link `l`, of a writer that there is room for, has a pointer that it may have: its reader's phase is looked up, and its writer's count.
+// Whether link `l` has a pointer that it may have: its reader's phase is looked up, and its writer's count.
 fn pointer_ok(counts: &[u8; TASKS], plan: &[u8; LINKS], control: &[u8; CONTROL], l: usize) -> bool
-    ensures { at (writer_in control.now) l < state_room.tasks → (ahead : ℕ → ℕ → Bool) (L : ℕ) → Planned ahead (at (writer_in control.now)) (at (reader_in control.now)) L plan.now → CountsBehind ahead (at (writer_in control.now)) (at (reader_in control.now)) L counts.now → l < L → (T : ℕ) (v x : List ℕ) → result ≡ pointer_ok ahead (state_of T L control.now v x) l }
+    ensures { result ≡ pointer_by (is_flagged plan.now l) (at (pointer_in control.now) l) (at (phase_in control.now) (at (reader_in control.now) l)) (at counts.now (at (writer_in control.now) l)) }
 {
     let w = control_at(control, InControl::Writer, l);
     let r = control_at(control, InControl::Reader, l);
@@ -157,16 +152,16 @@ fn pointer_ok(counts: &[u8; TASKS], plan: &[u8; LINKS], control: &[u8; CONTROL],
 fn mark_is(k: u8, y: u8, seen: u8, m: u8) -> bool
     ensures { result ≡ mark_is k y seen m }
 {
-    pick_test(
-        (k == 1) & (1 <= y),
-        pick_test(seen < 2, m == 1, m <= 1),
-        m == 0,
-    )
+    if (k == 1) & (1 <= y) {
+        if seen < 2 { m == 1 } else { m <= 1 }
+    } else {
+        m == 0
+    }
 }
 
 // Whether link `l` has a mark that it may have: its writer's arrivals are looked up.
 fn mark_ok(control: &[u8; CONTROL], l: usize) -> bool
-    ensures { (T L : ℕ) (v x : List ℕ) → result ≡ mark_ok (state_of T L control.now v x) l }
+    ensures { result ≡ mark_ok (in_arrays control.now []) l }
 {
     let w = control_at(control, InControl::Writer, l);
     let seen = control_at(control, InControl::Seen, w as usize);
@@ -178,9 +173,9 @@ fn mark_ok(control: &[u8; CONTROL], l: usize) -> bool
     )
 }
 
-// Whether link `l`, of a writer that there is room for, is as it may be.
+// Whether link `l` is as it may be.
 fn link_stands(counts: &[u8; TASKS], plan: &[u8; LINKS], control: &[u8; CONTROL], l: usize) -> bool
-    ensures { at (writer_in control.now) l < state_room.tasks → (ahead : ℕ → ℕ → Bool) (L : ℕ) → Planned ahead (at (writer_in control.now)) (at (reader_in control.now)) L plan.now → CountsBehind ahead (at (writer_in control.now)) (at (reader_in control.now)) L counts.now → l < L → (T : ℕ) (v x : List ℕ) → result ≡ link_stands ahead (state_of T L control.now v x) l }
+    ensures { result ≡ link_by counts.now plan.now (in_arrays control.now []) l }
 {
     let mark_stands = mark_ok(control, l);
     pointer_ok(counts, plan, control, l) & mark_stands
@@ -195,13 +190,7 @@ fn links_stand(
 ) -> bool
     ensures { ((l : ℕ) → l < links → at (writer_in control.now) l < state_room.tasks) → (ahead : ℕ → ℕ → Bool) → Planned ahead (at (writer_in control.now)) (at (reader_in control.now)) links plan.now → CountsBehind ahead (at (writer_in control.now)) (at (reader_in control.now)) links counts.now → (T : ℕ) (v x : List ℕ) → result ≡ every (link_stands ahead (state_of T links control.now v x)) links }
 {
-    let mut ok = true;
-    let mut l = 0;
-    while l < links {
-        ok = link_stands(counts, plan, control, l) & ok;
-        l += 1;
-    }
-    ok
+    every(links, |l| link_stands(counts, plan, control, l))
 }
 
 // Whether a state is sound: its table keeps the rules, and its clock, each task and each link is as it may be. The plan of its links is lent;
@@ -217,15 +206,14 @@ pub fn is_sound(
     ensures { Planned (ahead_among times.now) (at (writer_in control.now)) (at (reader_in control.now)) (min links state_room.links) plan.now → result ≡ is_sound (ahead_among times.now) state_room (state_of tasks links control.now values.now times.now) }
 {
     let mut counts = [0u8; TASKS];
-    let refusal = judge_table(&mut counts, plan, tasks, links, control, values);
-    if refusal != 0 {
+    if judge_table(&mut counts, plan, tasks, links, control, values).is_err() {
         return false;
     }
     let clock_stands = clock_is(
         entry_at(times, InTimes::Policy, 0),
         entry_at(times, InTimes::Last, 0),
     );
-    let a = tasks_stand(&counts, tasks, control, times);
-    let b = links_stand(&counts, plan, links, control);
-    clock_stands & (a & b)
+    let each_task_stands = tasks_stand(&counts, tasks, control, times);
+    let each_link_stands = links_stand(&counts, plan, links, control);
+    clock_stands & (each_task_stands & each_link_stands)
 }

@@ -7,13 +7,14 @@ use Rattle.protocol_state.specs.Saved.{state_room}
 use Rattle.protocol_state.proofs.Rules.{judged_keeps}
 use Rattle.mailbox_layout.specs.Layout.{ahead_among, link_held, state_of}
 use Rattle.mailbox_rules.proofs.Front.{ranks_among}
+use Rattle.mailbox_rules.proofs.Judged.{told_refused, told_passed}
 use Rattle.mailbox_sound.proofs.Judged.{unsound, sound}
 use Rattle.mailbox_sound.proofs.is_sound.Goals as goal
 
-pub returns-then-refusal-ne0 : goal.returns-then-refusal-ne0
-returns-then-refusal-ne0 c plan = let a = c.args in
+pub returns-then-is_err : goal.returns-then-is_err
+returns-then-is_err c plan = let a = c.args in
     unsound (ahead_among a.times.now) (state_of a.tasks a.links a.control.now a.values.now a.times.now)
-    (c.judge_table-refusal.ensures.refusal (ahead_among a.times.now) (ranks_among a.times.now) plan) c.if-refusal-ne0.true
+    (c.judge_table.ensures.refusal (ahead_among a.times.now) (ranks_among a.times.now) plan) (told_refused _ (sym c.is_err.ensures.value ∙ c.if-is_err.true))
 
 pub returns : goal.returns
 returns c plan = let t = c in
@@ -23,12 +24,12 @@ returns c plan = let t = c in
     let a = j.args in
     let ahead = ahead_among a.times.now in
     let ranks = ranks_among a.times.now in
-    let zero = i.if-refusal-ne0.false in
-    let judged = j.judge_table-refusal.ensures.refusal ahead ranks plan in
+    let zero = told_passed _ (sym i.is_err.ensures.value ∙ i.if-is_err.false) in
+    let judged = j.judge_table.ensures.refusal ahead ranks plan in
     let keeps = judged_keeps ahead a.tasks (link_held a.control.now a.values.now) state_room a.links (sym judged ∙ zero) in
     let all = rw (min-eq_left keeps.links) at plan in
-    let counted = j.judge_table-refusal.ensures.counts (λ two. omega (arith, zero, two)) (λ three. omega (arith, zero, three)) ahead ranks plan in
+    let counted = j.judge_table.ensures.counts (λ two. omega (arith, zero, two)) (λ three. omega (arith, zero, three)) ahead ranks plan in
     sound ahead (state_of a.tasks a.links a.control.now a.values.now a.times.now) judged zero
     (rw (k.entry_at-2.ensures, k.entry_at.ensures) at k.clock_is-clock_stands.ensures)
-    (t.tasks_stand-a.ensures keeps.tasks.1 ahead a.links counted a.tasks a.values.now)
-    (c.links_stand-b.ensures (λ l h. omega (arith, (keeps.each l h).writer, keeps.tasks.1)) ahead all counted a.tasks a.values.now a.times.now)
+    (t.tasks_stand-each_task_stands.ensures keeps.tasks.1 ahead a.links counted a.tasks a.values.now)
+    (c.links_stand-each_link_stands.ensures (λ l h. omega (arith, (keeps.each l h).writer, keeps.tasks.1)) ahead all counted a.tasks a.values.now a.times.now)

@@ -1,19 +1,15 @@
--- `mailbox_sound::tasks_stand` meets its contract: after t turns `ok` says whether each of the first t tasks is as it may be.
+-- `mailbox_sound::tasks_stand` meets its contract: each task is asked, by the counts that are right.
 -- Assumes nothing.
+use mathlib.Core.Path.{◌∙◌}
 use native.Mathlib.Omega.{arith}
-use Rattle.lists.proofs.Lists.{every_none, every_more, every_end}
+use borrow.Author.Rules.{rules}
+use Rattle.mailbox_sound.proofs.Judged.{every_same}
 use Rattle.protocol_state.specs.Sound.{task_stands}
 use Rattle.mailbox_layout.specs.Layout.{state_of}
+use Rattle.mailbox_sound.specs.AtHand.{in_arrays, task_by}
 use Rattle.mailbox_sound.proofs.tasks_stand.Goals as goal
 
-pub loop-t-init : goal.loop-t-init
-loop-t-init c = (omega arith, λ room ahead L n T v. every_none _)
-
-pub loop-t-preserved : goal.loop-t-preserved
-loop-t-preserved c = let a = c.args in (
-  omega arith,
-  λ room ahead L n T v. every_more (task_stands ahead (state_of T L a.control.now v a.times.now)) _ (c.task_stands-ok.ensures (omega arith) ahead L n T v) (c.loop-t.invariant.1 room ahead L n T v),
-)
-
 pub returns : goal.returns
-returns c room ahead L n T v = every_end _ _ _ (c.loop-t.invariant.1 room ahead L n T v) c.loop-t.invariant.0 c.loop-t-test.false
+returns c room ahead L n T v = let a = c.args in
+    c.every.ensures (task_by a.counts.now (in_arrays a.control.now a.times.now)) (λ t b l asked. search rules)
+    ∙ every_same _ (task_stands ahead (state_of T L a.control.now v a.times.now)) a.tasks (λ t h. rw (n.count t (omega (arith, room, h))))

@@ -1,0 +1,2 @@
+-- What the tests of soundness look at.
+pub mod AtHand
