@@ -16,6 +16,7 @@ use mailbox_plan::{is_ahead, put_flag};
 use mailbox_rules::table::fault_after;
 use recording_format::{LINK_SIZE, WhichKind};
 use recording_head::{Count, Section, link_count};
+use refusals::told;
 
 // The next `n` link records from a place on, up to the first at fault, in a table of so many tasks with these times, which say who is ahead
 // of whom: the links into the control, and their start values into the values.
@@ -48,7 +49,7 @@ fn link_records(
             kind: u8_at(s, p, 2),
             start_value: u32_at(s, p, 3),
         };
-        fault = fault_after(&plan, tasks, control, times, l, link);
+        fault = told(fault_after(&plan, tasks, control, times, l, link));
         if fault != 0 {
             break;
         }

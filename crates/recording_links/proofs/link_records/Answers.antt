@@ -1,5 +1,6 @@
 -- `recording_links::link_records` meets its contract: so many records are read and the others are left, turn by turn.
 -- Assumes nothing.
+use mathlib.Core.Path.{◌∙◌}
 use native.Mathlib.Nat.{add-zero}
 use borrow.Author.Rules.{rules}
 use Rattle.mailbox_layout.specs.Layout.{ahead_among}
@@ -20,7 +21,7 @@ loop-l-preserved c ts none = let flag = c in
     links_on (test.loop-l.invariant ts none) test.requires test.loop-l-test.true
     three.room.ensures three.if-room-lt-LINK_SIZE.false
     (rw add-zero at three.u8_at-writer.ensures) three.u8_at-reader.ensures three.u8_at.ensures four.u32_at.ensures
-    judged.fault_after-fault.ensures judged.if-fault-ne0.false put.put_link.ensures.control put.put_link.ensures.values flag.is_ahead-behind.ensures c.put_flag.ensures
+    (λ plan b. judged.told-fault.ensures ∙ judged.fault_after.ensures plan b) judged.if-fault-ne0.false put.put_link.ensures.control put.put_link.ensures.values flag.is_ahead-behind.ensures c.put_flag.ensures
 
 pub returns-after-loop-l : goal.returns-after-loop-l
 returns-after-loop-l c ts none = links_end (c.loop-l.invariant ts none) c.requires c.loop-l-test.false
@@ -36,4 +37,4 @@ returns-then-fault-ne0 c ts none = let four = c in
     links_refused (test.loop-l.invariant ts none) test.requires test.loop-l-test.true
     three.room.ensures three.if-room-lt-LINK_SIZE.false
     (rw add-zero at three.u8_at-writer.ensures) three.u8_at-reader.ensures three.u8_at.ensures four.u32_at.ensures
-    c.fault_after-fault.ensures c.if-fault-ne0.true
+    (λ plan b. c.told-fault.ensures ∙ c.fault_after.ensures plan b) c.if-fault-ne0.true
