@@ -2,4 +2,3 @@
 pub mod Makes
 pub mod Filling
 pub mod Packed
-pub mod Dates

@@ -5,12 +5,15 @@
 // the state holds, an answer comes back, and a refusal hands the state back as it was lent.
 #![tactic(auto)]
 
-ghost use Rattle.std.specs.Prelude.{◌≡◌, true, []};
+ghost use Rattle.std.specs.Prelude.{◌≡◌, true, List, [], ℕ, min};
 ghost use Rattle.protocol.specs.Event.{arrival, start, read, finish};
+ghost use Rattle.protocol_state.specs.Records.{first_tasks};
 ghost use Rattle.protocol_state.specs.Saved.{at, state_room};
 ghost use Rattle.protocol_state.specs.Fresh.{single};
 ghost use Rattle.protocol_state.specs.Give.{plainly, ticked};
 ghost use Rattle.mailbox_event.specs.Plain.{plain, call_of};
+ghost use Rattle.mailbox_layout.specs.Layout.{cut_times};
+ghost use Rattle.mailbox_layout.specs.Fresh.{fresh_times};
 ghost use Rattle.mailbox.specs.States.{saved, IsWhole, made_of, made_from, Makes, Gives, passing, StaysSound};
 
 use crate::tables::{put_links, then_dates, times_of, values_of};
@@ -28,7 +31,7 @@ mod tables;
 
 // All that a station has to keep between events: the counts, and the three arrays whose regions `mailbox_layout` names. Each field has an
 // accessor below. Slots past `tasks` and past `links` are never touched; when fresh they hold 0, newest and previous 1.
-#[derive(Clone, Copy)]
+#[derive(Clone, Copy, Debug, PartialEq, Eq)]
 pub struct State {
     pub tasks: usize,
     pub links: usize,
@@ -38,21 +41,22 @@ pub struct State {
 }
 
 // The refusal, 0 for none, and the value: the number of an accepted read, else 0.
-#[derive(Clone, Copy)]
+// Numbers, since the demands and hosts in C speak of them.
+#[derive(Clone, Copy, Debug, PartialEq, Eq)]
 pub struct Answer {
     pub refusal: u8,
     pub value: u32,
 }
 
 // What an event hands back.
-#[derive(Clone, Copy)]
+#[derive(Clone, Copy, Debug, PartialEq, Eq)]
 pub struct Step {
     pub state: State,
     pub answer: Answer,
 }
 
-// What a table makes: the refusal that it earns, 0 for none, and a fresh state.
-#[derive(Clone, Copy)]
+// What a table makes: the refusal that it earns, 0 for none, and a fresh state. Numbers, as in an answer.
+#[derive(Clone, Copy, Debug, PartialEq, Eq)]
 pub struct Made {
     pub refusal: u8,
     pub state: State,
@@ -81,26 +85,16 @@ impl State {
         ensures answer { Makes 0 tasks links defaults [] writer reader kind start_value result }
         ensures sound { passing result.state ≡ true }
     {
-        let mut control = fresh_control();
-        let mut values = values_of(tasks, &defaults);
-        put_links(
+        State::of_table(
+            tasks,
             links,
+            &defaults,
             &writer,
             &reader,
             &kind,
             &start_value,
-            &mut control,
-            &mut values,
-        );
-        let times = fresh_times(0);
-        let state = State {
-            tasks,
-            links,
-            control,
-            values,
-            times,
-        };
-        state.judged()
+            fresh_times(0),
+        )
     }
 
     // The fresh state of a table under earliest deadline first: its tasks have these relative deadlines besides. A further refusal, after 2 and
@@ -118,26 +112,50 @@ impl State {
         ensures answer { Makes 1 tasks links defaults deadlines writer reader kind start_value result }
         ensures sound { passing result.state ≡ true }
     {
-        let mut control = fresh_control();
-        let mut values = values_of(tasks, &defaults);
-        put_links(
+        State::of_table(
+            tasks,
             links,
+            &defaults,
             &writer,
             &reader,
             &kind,
             &start_value,
+            times_of(tasks, &deadlines),
+        )
+    }
+
+    // The fresh state of a table, under the policy and with the relative deadlines that these times have.
+    fn of_table(
+        tasks: usize,
+        links: usize,
+        defaults: &[u32; TASKS],
+        writer: &[u8; LINKS],
+        reader: &[u8; LINKS],
+        kind: &[u8; LINKS],
+        start_value: &[u32; LINKS],
+        times: [u32; TIMES],
+    ) -> Made
+        ensures { (p : ℕ) (X : List ℕ) → cut_times times ≡ fresh_times p (first_tasks (min tasks state_room.tasks) defaults.now X) → Makes p tasks links defaults.now X writer.now reader.now kind.now start_value.now result }
+    {
+        let mut control = fresh_control();
+        let mut values = values_of(tasks, defaults);
+        put_links(
+            links,
+            writer,
+            reader,
+            kind,
+            start_value,
             &mut control,
             &mut values,
         );
-        let times = times_of(tasks, &deadlines);
-        let state = State {
+        State {
             tasks,
             links,
             control,
             values,
             times,
-        };
-        state.judged()
+        }
+        .judged()
     }
 
     // What the table of a state that nothing has happened in makes: the state, or the refusal that it earns.
@@ -145,10 +163,7 @@ impl State {
         ensures answer { made_of result ≡ made_from (saved self) }
         ensures whole { IsWhole result.state }
     {
-        let control = self.control;
-        let values = self.values;
-        let times = self.times;
-        let plan = plan_of(self.links, &control, &times);
+        let plan = plan_of(self.links, &self.control, &self.times);
         // what is counted is not asked for here
         let mut counts = [0u8; TASKS];
         let table = judge_table(
@@ -156,19 +171,18 @@ impl State {
             &plan,
             self.tasks,
             self.links,
-            &control,
-            &values,
+            &self.control,
+            &self.values,
         );
-        let refusal = then_dates(table, self.tasks, &times);
-        if refusal != 0 {
-            return Made {
-                refusal,
+        match then_dates(table, self.tasks, &self.times) {
+            Ok(()) => Made {
+                refusal: 0,
+                state: self.itself(),
+            },
+            Err(refusal) => Made {
+                refusal: u8::from(refusal),
                 state: State::single(),
-            };
-        }
-        Made {
-            refusal: 0,
-            state: self.itself(),
+            },
         }
     }
 
@@ -313,22 +327,25 @@ impl State {
     pub fn sound(self) -> bool
         ensures { result ≡ passing self }
     {
-        let control = self.control;
-        let values = self.values;
-        let times = self.times;
-        let plan = plan_of(self.links, &control, &times);
-        is_sound(&plan, self.tasks, self.links, &control, &values, &times)
+        let plan = plan_of(self.links, &self.control, &self.times);
+        is_sound(
+            &plan,
+            self.tasks,
+            self.links,
+            &self.control,
+            &self.values,
+            &self.times,
+        )
     }
 
     // The fresh state of a single task with default 0 and no links, under fixed priorities.
     pub fn single() -> State
         ensures { (saved result ≡ single state_room) × IsWhole result }
     {
-        let control = fresh_control();
         State {
             tasks: 1,
             links: 0,
-            control,
+            control: fresh_control(),
             values: [0u32; VALUES],
             times: [0u32; TIMES],
         }
@@ -338,127 +355,111 @@ impl State {
     pub fn defaults(self, t: usize) -> u32
         ensures { result ≡ at (saved self).defaults t }
     {
-        let values = self.values;
-        entry_at(&values, InValues::Default, t)
+        entry_at(&self.values, InValues::Default, t)
     }
 
     // The phase of task `t`: 0 idle, 1 waiting, 2 running.
     pub fn phase(self, t: usize) -> u8
         ensures { result ≡ at (saved self).phase t }
     {
-        let control = self.control;
-        control_at(&control, InControl::Phase, t)
+        control_at(&self.control, InControl::Phase, t)
     }
 
     // The newest position of task `t`, 1 to N + 2, where N is how many links the task has to readers behind.
     pub fn newest(self, t: usize) -> u8
         ensures { result ≡ at (saved self).newest t }
     {
-        let control = self.control;
-        control_at(&control, InControl::Newest, t)
+        control_at(&self.control, InControl::Newest, t)
     }
 
     // Its previous position.
     pub fn previous(self, t: usize) -> u8
         ensures { result ≡ at (saved self).previous t }
     {
-        let control = self.control;
-        control_at(&control, InControl::Previous, t)
+        control_at(&self.control, InControl::Previous, t)
     }
 
     // Whether it has had no, one or more arrivals: 0, 1, 2.
     pub fn seen(self, t: usize) -> u8
         ensures { result ≡ at (saved self).seen t }
     {
-        let control = self.control;
-        control_at(&control, InControl::Seen, t)
+        control_at(&self.control, InControl::Seen, t)
     }
 
     // The number at place `i` of the positions: position p of task t at t * 10 + p - 1.
     pub fn cells(self, i: usize) -> u32
         ensures { result ≡ at (saved self).cells i }
     {
-        let values = self.values;
-        entry_at(&values, InValues::Cell, i)
+        entry_at(&self.values, InValues::Cell, i)
     }
 
     // The writer of link `l`.
     pub fn writer(self, l: usize) -> u8
         ensures { result ≡ at (saved self).writer l }
     {
-        let control = self.control;
-        control_at(&control, InControl::Writer, l)
+        control_at(&self.control, InControl::Writer, l)
     }
 
     // Its reader.
     pub fn reader(self, l: usize) -> u8
         ensures { result ≡ at (saved self).reader l }
     {
-        let control = self.control;
-        control_at(&control, InControl::Reader, l)
+        control_at(&self.control, InControl::Reader, l)
     }
 
     // Its kind: 0 direct, 1 delayed.
     pub fn kind(self, l: usize) -> u8
         ensures { result ≡ at (saved self).kind l }
     {
-        let control = self.control;
-        control_at(&control, InControl::Kind, l)
+        control_at(&self.control, InControl::Kind, l)
     }
 
     // Its start value, which it reads while it is marked; 0 of a direct link in a sound state.
     pub fn start_value(self, l: usize) -> u32
         ensures { result ≡ at (saved self).start_value l }
     {
-        let values = self.values;
-        entry_at(&values, InValues::StartValue, l)
+        entry_at(&self.values, InValues::StartValue, l)
     }
 
     // Its pointer, a position of its writer; 0: absent.
     pub fn pointer(self, l: usize) -> u8
         ensures { result ≡ at (saved self).pointer l }
     {
-        let control = self.control;
-        control_at(&control, InControl::Pointer, l)
+        control_at(&self.control, InControl::Pointer, l)
     }
 
     // Its mark: 1 where its pointer is there and the last arrival of its reader settled on its start value, else 0.
     pub fn mark(self, l: usize) -> u8
         ensures { result ≡ at (saved self).mark l }
     {
-        let control = self.control;
-        control_at(&control, InControl::Mark, l)
+        control_at(&self.control, InControl::Mark, l)
     }
 
     // The relative deadline of task `t`; 0 under fixed priorities.
     pub fn deadline(self, t: usize) -> u32
         ensures { result ≡ at (saved self).deadline t }
     {
-        let times = self.times;
-        entry_at(&times, InTimes::Deadline, t)
+        entry_at(&self.times, InTimes::Deadline, t)
     }
 
     // The tick at which its active job arrived; 0 where it is idle.
     pub fn since(self, t: usize) -> u32
         ensures { result ≡ at (saved self).since t }
     {
-        let times = self.times;
-        entry_at(&times, InTimes::Since, t)
+        entry_at(&self.times, InTimes::Since, t)
     }
 
     // The tick of the last accepted event, 0 before the first.
     pub fn last(self) -> u32
         ensures { result ≡ (saved self).last }
     {
-        let times = self.times;
-        entry_at(&times, InTimes::Last, 0)
+        entry_at(&self.times, InTimes::Last, 0)
     }
 
     // The policy: 0 fixed priorities, 1 earliest deadline first.
     pub fn policy(self) -> u32
         ensures { result ≡ (saved self).policy }
     {
-        let times = self.times;
-        entry_at(&times, InTimes::Policy, 0)
+        entry_at(&self.times, InTimes::Policy, 0)
     }
 }

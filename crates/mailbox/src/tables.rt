@@ -6,11 +6,13 @@ ghost use Rattle.protocol_state.specs.Saved.{at, state_room};
 ghost use Rattle.protocol_state.specs.Fresh.{then_dates};
 ghost use Rattle.mailbox_layout.specs.Layout.{cut, cut_values, cut_times, deadline_in, policy_in};
 ghost use Rattle.mailbox_layout.specs.Fresh.{fresh_control, fresh_values, fresh_times};
+ghost use Rattle.refusals.specs.Numbers.{told};
 
-use lists::few;
-use mailbox_base::numbers::{LINKS, TASKS, pick};
+use lists::{few, some};
+use mailbox_base::numbers::{LINKS, TASKS};
 use mailbox_layout::fresh::{fill_cells, fresh_times, put_link};
 use mailbox_layout::{CONTROL, InTimes, InValues, Link, TIMES, VALUES, entry_at, put_entry};
+use refusals::Refusal;
 
 // Puts the first `n` links, no more than there is room for, into arrays without links; the slots past them hold 0.
 pub(crate) fn put_links(
@@ -25,9 +27,7 @@ pub(crate) fn put_links(
     ensures control { cut control.old ≡ fresh_control [] → cut control.new ≡ fresh_control (first_links (min n state_room.links) writer.now reader.now kind.now start_value.now) }
     ensures values { (ts : List Task) → cut_values values.old ≡ fresh_values ts [] → cut_values values.new ≡ fresh_values ts (first_links (min n state_room.links) writer.now reader.now kind.now start_value.now) }
 {
-    let end = few(n, LINKS);
-    let mut l = 0;
-    while l < end {
+    for l in 0..few(n, LINKS) {
         let link = Link {
             writer: writer[l],
             reader: reader[l],
@@ -35,7 +35,6 @@ pub(crate) fn put_links(
             start_value: start_value[l],
         };
         put_link(control, values, l, link);
-        l += 1;
     }
 }
 
@@ -44,34 +43,21 @@ pub(crate) fn put_links(
 pub(crate) fn values_of(n: usize, defaults: &[u32; TASKS]) -> [u32; VALUES]
     ensures { (X : List ℕ) → cut_values result ≡ fresh_values (first_tasks (min n state_room.tasks) defaults.now X) [] }
 {
-    let end = few(n, TASKS);
     let mut values = [0u32; VALUES];
-    let mut t = 0;
-    while t < end {
+    for t in 0..few(n, TASKS) {
         put_entry(&mut values, InValues::Default, t, defaults[t]);
-        t += 1;
     }
     fill_cells(&mut values);
     values
-}
-
-// A relative deadline, as wide as the ticks that it is added to.
-fn wide(deadline: u16) -> u32
-    ensures { result ≡ deadline }
-{
-    deadline as u32
 }
 
 // The times of the first `n` relative deadlines, no more than there is room for, under earliest deadline first: the slots past them hold 0.
 pub(crate) fn times_of(n: usize, deadlines: &[u16; TASKS]) -> [u32; TIMES]
     ensures { (D : List ℕ) → cut_times result ≡ fresh_times 1 (first_tasks (min n state_room.tasks) D deadlines.now) }
 {
-    let end = few(n, TASKS);
     let mut times = fresh_times(1);
-    let mut t = 0;
-    while t < end {
-        put_entry(&mut times, InTimes::Deadline, t, wide(deadlines[t]));
-        t += 1;
+    for t in 0..few(n, TASKS) {
+        put_entry(&mut times, InTimes::Deadline, t, u32::from(deadlines[t]));
     }
     times
 }
@@ -80,25 +66,22 @@ pub(crate) fn times_of(n: usize, deadlines: &[u16; TASKS]) -> [u32; TIMES]
 fn some_undated(tasks: usize, times: &[u32; TIMES]) -> bool
     ensures { result ≡ some (λ t. eqb (at (deadline_in times.now) t) 0) tasks }
 {
-    let mut found = false;
-    let mut t = 0;
-    while t < tasks {
-        found = (entry_at(times, InTimes::Deadline, t) == 0) | found;
-        t += 1;
-    }
-    found
+    some(tasks, |t| entry_at(times, InTimes::Deadline, t) == 0)
 }
 
-// The refusal of a table of so many tasks: 24 after 2, where one of them has no relative deadline under earliest deadline first. `refusal` is that
-// of the table without it.
-pub(crate) fn then_dates(refusal: u8, tasks: usize, times: &[u32; TIMES]) -> u8
-    ensures { (refusal ≢ 2 → tasks ≤ state_room.tasks) → result ≡ then_dates refusal (not (eqb (policy_in times.now) 0) && some (λ t. eqb (at (deadline_in times.now) t) 0) tasks) }
+// The refusal of a table of so many tasks: 24 after 2, where one of them has no relative deadline under earliest deadline first. `table` is
+// judged without it.
+pub(crate) fn then_dates(
+    table: Result<(), Refusal>,
+    tasks: usize,
+    times: &[u32; TIMES],
+) -> Result<(), Refusal>
+    ensures { (told table ≢ 2 → tasks ≤ state_room.tasks) → told result ≡ then_dates (told table) (not (eqb (policy_in times.now) 0) && some (λ t. eqb (at (deadline_in times.now) t) 0) tasks) }
 {
-    if refusal == 2 {
-        return 2;
+    match table {
+        Err(Refusal::WrongCount) => table,
+        _ if entry_at(times, InTimes::Policy, 0) == 0 => table,
+        _ if some_undated(few(tasks, TASKS), times) => Err(Refusal::NoDeadline),
+        _ => table,
     }
-    if entry_at(times, InTimes::Policy, 0) == 0 {
-        return refusal;
-    }
-    pick(some_undated(few(tasks, TASKS), times), 24, refusal)
 }

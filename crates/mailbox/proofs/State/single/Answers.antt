@@ -13,4 +13,4 @@ use Rattle.mailbox.proofs.State.single.Goals as goal
 
 pub returns : goal.returns
 unfolding fresh_of upto regions
-returns c = (ap (λ (b : List (List ℕ)). fields_of 1 0 b (cut_values (replicate value_size 0)) (cut_times (replicate time_size 0))) c.fresh_control-control.ensures ∙ refl, search rules)
+returns c = (ap (λ (b : List (List ℕ)). fields_of 1 0 b (cut_values (replicate value_size 0)) (cut_times (replicate time_size 0))) c.fresh_control.ensures ∙ refl, search rules)

@@ -2,14 +2,11 @@
 -- Assumes nothing.
 use mathlib.Core.Path.{◌≡◌}
 use mathlib.Core.List.{List}
-use Prim.Native.Nat.{ℕ, ◌≤◌, ◌-◌}
+use Prim.Native.Nat.{ℕ}
 use Rattle.protocol_state.specs.Records.{first_tasks}
 use Rattle.mailbox_layout.specs.Layout.{cut_values}
 use Rattle.mailbox_layout.specs.Fresh.{empty_values}
 use Rattle.mailbox.proofs.tables.values_of.Given as goal
 
 abbrev pub invariant-loop-t : goal.invariant-loop-t
-invariant-loop-t l = (l.t ≤ l.end) × ((X : List ℕ) → cut_values l.values ≡ empty_values (first_tasks l.t l.defaults X))
-
-abbrev pub decreases-loop-t : goal.decreases-loop-t
-decreases-loop-t l = l.end - l.t
+invariant-loop-t l = (X : List ℕ) → cut_values l.values ≡ empty_values (first_tasks l.t l.defaults X)
