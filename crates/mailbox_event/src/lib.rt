@@ -2,7 +2,9 @@
 #![tactic(auto)]
 
 ghost use Rattle.std.specs.Prelude.{◌≡◌, ◌%◌};
-ghost use Rattle.mailbox_event.specs.Plain.{row, policy_for};
+ghost use Rattle.mailbox_event.specs.Plain.{row, kind_said, policy_for};
+
+use refusals::Refusal;
 
 // The kinds of event, in the order of their numbers.
 #[derive(Clone, Copy, Debug, PartialEq, Eq)]
@@ -27,8 +29,25 @@ impl From<usize> for Kind {
     }
 }
 
+// The kind that a number says, from 1 on.
+impl TryFrom<u8> for Kind {
+    type Error = Refusal;
+
+    ghost try_from_gives = { λ number kind. kind ≡ kind_said number };
+
+    fn try_from(number: u8) -> Result<Kind, Refusal> {
+        match number {
+            1 => Ok(Kind::Arrival),
+            2 => Ok(Kind::Start),
+            3 => Ok(Kind::Read),
+            4 => Ok(Kind::Finish),
+            _ => Err(Refusal::UnknownKind),
+        }
+    }
+}
+
 // The arrival of a set of tasks, the start of a task, a read by a link, the finish of a task with a value.
-#[derive(Clone, Copy)]
+#[derive(Clone, Copy, Debug, PartialEq, Eq)]
 pub enum Event {
     Arrival(u32),
     Start(u8),

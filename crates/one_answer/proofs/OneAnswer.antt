@@ -12,13 +12,12 @@ use Rattle.recording_format.specs.Event as format
 use Rattle.mailbox_event.specs.declared.Event.{Event}
 use Rattle.mailbox_event.specs.declared.Event.TheVariants.{Arrival, Start, Read, Finish}
 use Rattle.mailbox_event.specs.Plain.{plain}
-use Rattle.recording_event.specs.Next.{plain_kind, found_of, got_of}
-use Rattle.mailbox_event.specs.declared.Kind.{Kind}
-use Rattle.mailbox_event.specs.declared.Kind.TheVariants as kind
-use Rattle.recording_event.specs.declared.Found.{Found}
-use Rattle.recording_event.specs.declared.Found.TheVariants as found
-use Rattle.recording_event.specs.declared.Next.{Next}
-use Rattle.recording_event.specs.declared.Next.TheVariants as next
+use Rattle.std.specs.Prelude.{Result, Ok, Err}
+use Rattle.refusals.specs.Numbers.{number}
+use Rattle.refusals.specs.declared.Refusal.{Refusal}
+use Rattle.refusals.proofs.Numbers.{number_once}
+use Rattle.recording_event.specs.Next.{got_of}
+use Rattle.recording_event.specs.declared.Record.{Record}
 use Rattle.protocol_state.specs.Saved.{Saved}
 use Rattle.protocol_deadlines.specs.Timed.{Timed, timed}
 use Rattle.protocol_state.specs.Give.{Reply, Call}
@@ -54,41 +53,18 @@ event_back (Start t) = refl
 event_back (Read l) = refl
 event_back (Finish t v) = refl
 
-abbrev next_from : Got (Timed ℕ) → Next
-next_from (got (timed x e) q) = next.Got x (event_from e) q
-next_from (stop n) = cond (eqb n 11) next.Unknown next.Ends
-
-next_back : (n : Next) → next_from (got_of n) ≡ n
-next_back (next.Got n e q) = ap (λ (x : Event). next.Got n x q) (event_back e)
-next_back next.Unknown = refl
-next_back next.Ends = refl
-
-one_next : (n m : Next) → got_of n ≡ got_of m → n ≡ m
-one_next n m e = sym (next_back n) ∙ ap next_from e ∙ next_back m
-
-abbrev kind_from : format.Kind → Kind
-kind_from format.an_arrival = kind.Arrival
-kind_from format.a_start = kind.Start
-kind_from format.a_read = kind.Read
-kind_from format.a_finish = kind.Finish
-
-kind_back : (k : Kind) → kind_from (plain_kind k) ≡ k
-kind_back kind.Arrival = refl
-kind_back kind.Start = refl
-kind_back kind.Read = refl
-kind_back kind.Finish = refl
-
-abbrev found_from : Got format.Kind → Found
-found_from (got k q) = found.Known (kind_from k)
-found_from (stop n) = cond (eqb n 11) found.Unknown found.Missing
-
-found_back : (f : Found) → found_from (found_of f 0) ≡ f
-found_back (found.Known k) = ap (λ (x : Kind). found.Known x) (kind_back k)
-found_back found.Unknown = refl
-found_back found.Missing = refl
-
-one_found : (f g : Found) → found_of f 0 ≡ found_of g 0 → f ≡ g
-one_found f g e = sym (found_back f) ∙ ap found_from e ∙ found_back g
+one_next : (n m : Result Record Refusal) → got_of n ≡ got_of m → n ≡ m
+one_next (Ok x) (Ok y) e =
+    let u : timed x.tick (plain x.event) ≡ timed y.tick (plain y.event) = cc in
+    let q : x.after ≡ y.after = cc in
+    let t : x.tick ≡ y.tick = cc in
+    let p : plain x.event ≡ plain y.event = cc in
+    ap Ok (λ i. record { tick = t i; event = (sym (event_back x.event) ∙ ap event_from p ∙ event_back y.event) i; after = q i })
+one_next (Ok x) (Err why) e = absurd cc
+one_next (Err why) (Ok y) e = absurd cc
+one_next (Err v) (Err w) e =
+    let n : number v ≡ number w = cc in
+    ap Err (number_once v w n)
 
 -- ---- what a state holds fixes it, where its arrays have their lengths
 
@@ -157,8 +133,8 @@ one_answer = record {
   read_tickless = λ κs lent a b left left' x y. one_next a b (same x y);
   event_in = λ κs lent a b left left' x y. one_next a b (same x y);
   head_size = λ κs lent a b left left' x y. same x y;
-  kind_of = λ κs lent a b left left' x y. one_found a b (same (x 0) (y 0));
-  refused = λ κs lent a b left left' x y. one_next a b (same x y);
+  kind_of = λ κs lent a b left left' x y. same x y;
+  refused = λ why a b x y. one_next a b (same x y);
   number_of = λ κs lent a b left left' x y. same x y;
   read_table = λ κs lent a b left left' x y. one_table a b x y;
   new = λ bytes at w w' x y. λ i. record { bytes = same x.0 y.0 i; at = same x.1 y.1 i };

@@ -1,6 +1,6 @@
 -- Two answers that a contract allows for one input are equal: a sentence for each public call, over what its contract in the source tells.
 -- Assumes nothing.
-use Rattle.std.specs.Prelude.{◌≡◌, Bool, List, ℕ}
+use Rattle.std.specs.Prelude.{◌≡◌, Bool, List, ℕ, Result, Err}
 use contract.Lifetimes.{Lfts}
 use Rattle.std.specs.Borrow.{Bor}
 use denote.Triple.Clauses.{AtExit}
@@ -10,8 +10,9 @@ use Rattle.mailbox.specs.declared.State.{State}
 use Rattle.mailbox.specs.declared.Step.{Step}
 use Rattle.mailbox.specs.declared.Made.{Made}
 use Rattle.recording.specs.declared.Answer.{Answer}
-use Rattle.recording_event.specs.declared.Next.{Next}
-use Rattle.recording_event.specs.declared.Found.{Found}
+use Rattle.refusals.specs.declared.Refusal.{Refusal}
+use Rattle.mailbox_event.specs.declared.Kind.{Kind}
+use Rattle.recording_event.specs.declared.Record.{Record}
 use Rattle.recording_table.specs.declared.Table.{Table}
 use Rattle.recording_write.specs.declared.Written as writer
 use Rattle.settings_list.specs.declared.Migration.{Migration}
@@ -94,12 +95,10 @@ use Rattle.recording_event.proofs.event_in.Kinds as of_event_in
 use Rattle.recording_event.proofs.event_in.Reads as on_event_in
 use Rattle.recording_event.proofs.head_size.Kinds as of_head_size
 use Rattle.recording_event.proofs.head_size.Reads as on_head_size
-use Rattle.recording_event.proofs.kind_of.Kinds as of_kind_of
-use Rattle.recording_event.proofs.kind_of.Reads as on_kind_of
-use Rattle.recording_event.proofs.refused.Kinds as of_refused
-use Rattle.recording_event.proofs.refused.Reads as on_refused
-use Rattle.recording_event.proofs.number_of.Kinds as of_number_of
-use Rattle.recording_event.proofs.number_of.Reads as on_number_of
+use Rattle.mailbox_event.proofs.KindTryFromU8.try_from.Kinds as of_kind_of
+use Rattle.mailbox_event.proofs.KindTryFromU8.try_from.Reads as on_kind_of
+use Rattle.refusals.proofs.U8FromRefusal.from.Kinds as of_number_of
+use Rattle.refusals.proofs.U8FromRefusal.from.Reads as on_number_of
 use Rattle.recording_table.proofs.read_table.Kinds as of_read_table
 use Rattle.recording_table.proofs.read_table.Reads as on_read_table
 use Rattle.recording_walk.proofs.event_at.Kinds as of_event_at
@@ -132,6 +131,7 @@ use Rattle.exports.proofs.rest.parnusild_rest_32_96_66.Kinds as of_host_rest
 use Rattle.exports.proofs.rest.parnusild_rest_32_96_66.Reads as on_host_rest
 use Rattle.exports.proofs.sizes.parnusild_sizes.Kinds as of_host_sizes
 use Rattle.exports.proofs.sizes.parnusild_sizes.Reads as on_host_sizes
+use Rattle.recording_event.specs.Next.{got_of}
 use Rattle.one_answer.specs.Walker.{WalksFrom, WalksTo, WalksLeft}
 
 -- whatever the contract `Learnt` allows for the same arguments, the caller sees the same: of the result, and of what the references then hold that were lent
@@ -177,20 +177,21 @@ pub record OneAnswer : Type 0 where
   pub replay : One 2 of_replay.ps of_replay.r on_replay.Learnt (Answer × List ℕ) (λ κs a left. (a, left.1.0.now))
   pub rest : One 1 of_rest.ps of_rest.r on_rest.Learnt (List ℕ) (λ κs part left. part.now)
   -- `recording_event`
-  pub read_event : One 1 of_read_event.ps of_read_event.r on_read_event.Learnt Next (λ κs n left. n)
-  pub read_tickless : One 1 of_read_tickless.ps of_read_tickless.r on_read_tickless.Learnt Next (λ κs n left. n)
-  pub event_in : One 1 of_event_in.ps of_event_in.r on_event_in.Learnt Next (λ κs n left. n)
+  pub read_event : One 1 of_read_event.ps of_read_event.r on_read_event.Learnt (Result Record Refusal) (λ κs n left. n)
+  pub read_tickless : One 1 of_read_tickless.ps of_read_tickless.r on_read_tickless.Learnt (Result Record Refusal) (λ κs n left. n)
+  pub event_in : One 1 of_event_in.ps of_event_in.r on_event_in.Learnt (Result Record Refusal) (λ κs n left. n)
   pub head_size : One 0 of_head_size.ps of_head_size.r on_head_size.Learnt ℕ (λ κs n left. n)
-  pub kind_of : One 0 of_kind_of.ps of_kind_of.r on_kind_of.Learnt Found (λ κs f left. f)
-  pub refused : One 0 of_refused.ps of_refused.r on_refused.Learnt Next (λ κs n left. n)
+  -- the kind that a byte says, in `mailbox_event`; why no event is taken; and the number of that, in `refusals`
+  pub kind_of : One 0 of_kind_of.ps of_kind_of.r on_kind_of.Learnt (Result Kind Refusal) (λ κs k left. k)
+  pub refused : (why : Refusal) (n n' : Result Record Refusal) → got_of n ≡ got_of (Err why) → got_of n' ≡ got_of (Err why) → n ≡ n'
   pub number_of : One 0 of_number_of.ps of_number_of.r on_number_of.Learnt ℕ (λ κs n left. n)
   -- `recording_table`
   pub read_table : One 1 of_read_table.ps of_read_table.r on_read_table.Learnt Table (λ κs t left. t)
   -- `recording_walk`; `moved` has the clause of `new`, and a walker is equal with its reference
   pub new : (bytes : Bor (List ℕ)) (at : ℕ) (w w' : Walker) → WalksFrom bytes at w → WalksFrom bytes at w' → w ≡ w'
-  pub next : (w : Walker) (n n' : Next) → WalksTo w n → WalksTo w n' → n ≡ n'
+  pub next : (w : Walker) (n n' : Result Record Refusal) → WalksTo w n → WalksTo w n' → n ≡ n'
   pub walk_rest : (w : Walker) (part part' : Bor (List ℕ)) → WalksLeft w part → WalksLeft w part' → part.now ≡ part'.now
-  pub event_at : One 1 of_event_at.ps of_event_at.r on_event_at.Learnt Next (λ κs n left. n)
+  pub event_at : One 1 of_event_at.ps of_event_at.r on_event_at.Learnt (Result Record Refusal) (λ κs n left. n)
   -- `recording_write`: the answer, and the lent buffer
   pub write : One 4 of_write.ps of_write.r on_write.Learnt (writer.Written × List ℕ) (λ κs a left. (a, left.1.1.1.1.0.now))
   -- `settings`: the answer, and the lent buffer

@@ -1,6 +1,6 @@
 -- What the functions over a walker tell: each clause is said here again, and that it is the one in the source is shown (`WalkerTells`).
 -- Assumes nothing.
-use Rattle.std.specs.Prelude.{◌≡◌, List, ℕ, drop}
+use Rattle.std.specs.Prelude.{◌≡◌, List, ℕ, Result, drop}
 use seplogic.Ra.Ura.{Ura}
 use base.Logic.{SProp}
 use prog.Memory.{Memory}
@@ -14,7 +14,8 @@ use denote.Triple.Clauses.{AtExit}
 use Rattle.recording_format.specs.RecordingKind.{kind_in}
 use Rattle.recording_format.specs.Event.{event_at}
 use Rattle.recording_event.specs.Next.{got_of}
-use Rattle.recording_event.specs.declared.Next.{Next}
+use Rattle.refusals.specs.declared.Refusal.{Refusal}
+use Rattle.recording_event.specs.declared.Record.{Record}
 use Rattle.recording_walk.specs.declared.Walker.{Walker}
 use Rattle.recording_walk.specs.contracts.new as of_new
 use Rattle.recording_walk.specs.contracts.moved as of_moved
@@ -26,7 +27,7 @@ abbrev pub WalksFrom : Bor (List ℕ) → ℕ → Walker → Type 0
 WalksFrom bytes at w = (w.bytes ≡ bytes) × (w.at ≡ at)
 
 -- `next`: the event record at the walker's place
-abbrev pub WalksTo : Walker → Next → Type 0
+abbrev pub WalksTo : Walker → Result Record Refusal → Type 0
 WalksTo w n = got_of n ≡ event_at (kind_in w.bytes.now) w.bytes.now w.at
 
 -- `rest`: the part from the walker's place on

@@ -15,7 +15,6 @@ use mailbox_layout::cells_in;
 use mailbox_plan::plan_of;
 use mailbox_rules::links::readers_behind;
 use recording::{Answer, replay, rest};
-use recording_event::Next;
 use recording_lines::{
     LINE, Task, put_accepted, put_counts, put_last, put_link, put_place, put_read, put_refusal,
     put_refused, put_rest, put_task,
@@ -50,15 +49,15 @@ fn print_reads(s: &[u8], from: usize, events: usize, list: &[u32]) {
     let mut numbers = list.iter();
     let mut at = from;
     for _ in 0..events {
-        let Next::Got(_, e, after) = event_at(s, at) else {
+        let Ok(record) = event_at(s, at) else {
             break;
         };
-        if let Event::Read(link) = e {
+        if let Event::Read(link) = record.event {
             if let Some(value) = numbers.next() {
                 print_line(|line| put_read(link, *value, line));
             }
         }
-        at = after;
+        at = record.after;
     }
 }
 
