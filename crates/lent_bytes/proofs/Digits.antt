@@ -1,49 +1,72 @@
--- Byte by byte: a number is read from its highest byte on, and the bytes that are put are the library's.
+-- Numbers of up to eight bytes as the library has them: the number of eight bytes, and the bytes of a number.
 -- Assumes nothing.
 use mathlib.Core.Path.{◌≡◌, refl, sym, ap, ◌∙◌}
 use mathlib.Core.Bool.{Bool, true, false}
-use mathlib.Core.List.{List, ◌∷◌}
-use Prim.Native.Nat.{ℕ, zero, suc, ◌+◌, ◌-◌, ◌*◌, ◌/◌, ◌%◌, ◌^◌, ◌≤◌, ◌<◌, min}
-use native.Mathlib.Nat.{pow-le-pow_right, pow-suc, div-div-eq-div-mul, div-one}
+use mathlib.Core.List.{List, [], ◌∷◌, ◌++◌}
+use Prim.Native.Nat.{ℕ, zero, suc, ◌+◌, ◌-◌, ◌*◌, ◌/◌, ◌%◌, ◌^◌, ◌≤◌, min}
+use native.Mathlib.Nat.{pow-suc, div-div-eq-div-mul, div-one}
 use native.Mathlib.Omega.{arith}
 use borrow.Author.Tests.{leb-true, leb-false}
-use lib.Dec.{leb, lit<}
-use lib.ListN.{length, get_or, take}
-use Rattle.std.specs.Int.{w64, byte_at, bytes_low_first, to_le_bytes}
-use Rattle.byte_format.specs.Number.{bytes_of, number_at, Bytes}
-use Rattle.byte_format.proofs.Numbers.{number_none, number_past, number_more, number_wide}
+use lib.Dec.{leb}
+use lib.ListN.{length, take, drop, replicate, length-append, length-replicate}
+use lib.Seq.{take_all, length-take-le}
+use Rattle.std.specs.Int.{w64, byte_at, bytes_low_first, to_le_bytes, from_le_bytes}
+use Rattle.byte_format.specs.Number.{bytes_of, number_of, number_at}
+use Rattle.byte_format.proofs.Numbers.{number_none, number_more}
 
--- before the first turn nothing is read: all bytes that there are lie before
-pub nothing_yet : (s : List ℕ) (at w : ℕ) → number_at (w - min w (length s - at)) s (at + min w (length s - at)) ≡ 0
-nothing_yet s at w = go (leb w (length s - at)) refl
+-- so many zeros
+abbrev pub zeros : ℕ → List ℕ
+zeros n = replicate n 0
+
+-- behind a number's bytes they add nothing
+zeros_behind : (x : List ℕ) (j : ℕ) → number_of (x ++ zeros j) ≡ number_of x
+unfolding number_of
+zeros_behind [] zero = refl
+zeros_behind [] (suc j) = let z : number_of (zeros j) ≡ 0 = zeros_behind [] j in rw z
+zeros_behind (b ∷ x) j = ap (λ (n : ℕ). b + 256 * n) (zeros_behind x j)
+
+zeros_left : (k n : ℕ) → drop k (zeros n) ≡ zeros (n - k)
+zeros_left zero n = let z : n - 0 ≡ n = omega arith in rw z
+zeros_left (suc k) zero = let z : 0 - suc k ≡ 0 = omega arith in rw z
+zeros_left (suc k) (suc n) = let z : suc n - suc k ≡ n - k = omega arith in rw z (zeros_left k n)
+
+-- the library's number of eight bytes
+le_number : (bs : List ℕ) → from_le_bytes w64 bs ≡ number_at 8 bs 0
+le_number bs =
+    omega (
+      arith,
+      number_more 7 bs 0,
+      number_more 6 bs 1,
+      number_more 5 bs 2,
+      number_more 4 bs 3,
+      number_more 3 bs 4,
+      number_more 2 bs 5,
+      number_more 1 bs 6,
+      number_more 0 bs 7,
+      number_none bs 8,
+    )
+
+-- of fewer bytes, with zeros behind them
+eight_bytes : (x : List ℕ) (k : ℕ) → length x ≡ k → k ≤ 8 → from_le_bytes w64 (x ++ drop k (zeros 8)) ≡ number_of x
+eight_bytes x k e h =
+    let r : drop k (zeros 8) ≡ zeros (8 - k) = zeros_left k 8 in
+    let l : length (x ++ zeros (8 - k)) ≤ 8 = omega (arith, length-append x (zeros (8 - k)), length-replicate {A = ℕ} (8 - k) 0) in
+    rw (r, le_number (x ++ zeros (8 - k)), take_all 8 (x ++ zeros (8 - k)) l) (zeros_behind x (8 - k))
+
+-- the bytes of a number that stand in what is left, copied to the start of eight
+pub number_copied :
+    (s : List ℕ) (at w k : ℕ) {x y : List ℕ} → x ≡ drop at s → w ≤ 8 → k ≡ min w (length x) → y ≡ take k x →
+    from_le_bytes w64 (y ++ drop k (zeros 8)) ≡ number_at w s at
+number_copied s at w k {x} {y} e h f g =
+    let t : take k x ≡ take w x = go (leb w (length x)) refl in
+    let l : length (take k x) ≡ k = length-take-le k x (omega arith) in
+    rw (g, eight_bytes (take k x) k l (omega arith), t, e)
   where
-    go : (t : Bool) → leb w (length s - at) ≡ t → number_at (w - min w (length s - at)) s (at + min w (length s - at)) ≡ 0
-    go true t =
-        let l = leb-true w (length s - at) t in
-        let e : w - min w (length s - at) ≡ 0 = omega arith in
-        rw (e, number_none)
+    go : (b : Bool) → leb w (length x) ≡ b → take k x ≡ take w x
+    go true t = let l = leb-true w (length x) t in let i : k ≡ w = omega arith in rw i
     go false t =
-        let l = leb-false w (length s - at) t in
-        let p : length s ≤ at + min w (length s - at) = omega arith in
-        number_past (w - min w (length s - at)) s (at + min w (length s - at)) p
-
-module _ (s : List ℕ) (at w i : ℕ) (p : 0 < i) (h : i ≤ w) where
-  -- a turn reads the byte below
-  pub byte_below : at + i ≤ length s → {n : ℕ} → n ≡ number_at (w - i) s (at + i) → n * 256 + get_or s (at + (i - 1)) 0 ≡ number_at (w - (i - 1)) s (at + (i - 1))
-  byte_below l {n} e =
-      let a : at + (i - 1) + 1 ≡ at + i = omega arith in
-      let b : w - (i - 1) ≡ suc (w - i) = omega arith in
-      let c : number_at (suc (w - i)) s (at + (i - 1)) ≡ get_or s (at + (i - 1)) 0 + 256 * number_at (w - i) s (at + (i - 1) + 1) = number_more (w - i) s (at + (i - 1)) in
-      rw (b, c, a, ← e) (omega arith)
-
-  -- and what is read so far leaves room for it in eight bytes
-  pub room_for_byte : Bytes s → w ≤ 8 → {n : ℕ} → n ≡ number_at (w - i) s (at + i) → n < 72057594037927936
-  room_for_byte b g e =
-      let k : w - i ≤ 7 = omega arith in
-      let a : 256 ^ (w - i) ≤ 256 ^ 7 = pow-le-pow_right (lit< tt) k in
-      let c = number_wide (w - i) s (at + i) b in
-      let d : 256 ^ 7 ≤ 72057594037927936 = omega arith in
-      rw e (omega arith)
+        let l = leb-false w (length x) t in
+        rw (take_all k x (omega arith), take_all w x (omega arith))
 
 -- the bytes of a number, each by a division of its own
 low_first : (i k n : ℕ) → bytes_low_first i k n ≡ bytes_of k (n / 256 ^ i)
