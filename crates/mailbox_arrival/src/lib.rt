@@ -12,48 +12,31 @@ ghost use Rattle.protocol_state.specs.Next.{arrived};
 ghost use Rattle.mailbox_free.specs.Bits.{last_bit};
 ghost use Rattle.mailbox_free.specs.Pattern.{AllLowest};
 ghost use Rattle.mailbox_layout.specs.Layout.{Becomes, newest_in, previous_in, pointer_in, writer_in, reader_in};
-ghost use Rattle.mailbox_plan.specs.Plan.{Planned};
+ghost use Rattle.mailbox_plan.specs.Plan.{is_flagged, Planned};
 ghost use Rattle.mailbox_arrival.specs.Arrives.{moved_at, moved, pointed_at, pointed};
 
-use lists::few;
+use lists::{few, some};
 use mailbox_base::decision::{ARRIVAL, decide};
-use mailbox_base::numbers::{LINKS, TASKS, has, pick};
+use mailbox_base::numbers::{LINKS, TASKS, has};
 use mailbox_free::bits::{lowest_outside, taken_bit};
 use mailbox_free::table::PATTERNS;
 use mailbox_layout::{CONTROL, InControl, control_at, put_control};
 use mailbox_plan::goes_behind;
 
-// Whether a link with this writer and this flag is one of task `t`'s to readers behind.
-fn is_behind(w: u8, behind: bool, t: u8) -> bool
-    ensures { result ≡ (eqb w t && behind) }
+// Whether link `l` is one of task `t`'s to readers behind, by its flag.
+fn is_behind(plan: &[u8; LINKS], control: &[u8; CONTROL], t: u8, l: usize) -> bool
+    ensures { result ≡ (eqb (at (writer_in control.now) l) t && is_flagged plan.now l) }
 {
-    (w == t) & behind
-}
-
-// Whether such a link, with pointer `x`, holds position `p`.
-fn holds_at(w: u8, behind: bool, x: u8, t: u8, p: u8) -> bool
-    ensures { result ≡ ((eqb w t && behind) && eqb x p) }
-{
-    is_behind(w, behind, t) & (x == p)
+    (control_at(control, InControl::Writer, l) == t) & goes_behind(plan, l)
 }
 
 // Whether one of the links holds position `p` of task `t`.
 fn held(plan: &[u8; LINKS], control: &[u8; CONTROL], links: usize, t: u8, p: u8) -> bool
     ensures { (ahead : ℕ → ℕ → Bool) → Planned ahead (at (writer_in control.now)) (at (reader_in control.now)) links plan.now → result ≡ some (holds ahead (at (writer_in control.now)) (at (reader_in control.now)) (at (pointer_in control.now)) t p) links }
 {
-    let mut found = false;
-    let mut l = 0;
-    while l < links {
-        found = holds_at(
-            control_at(control, InControl::Writer, l),
-            goes_behind(plan, l),
-            control_at(control, InControl::Pointer, l),
-            t,
-            p,
-        ) | found;
-        l += 1;
-    }
-    found
+    some(links, |l| {
+        is_behind(plan, control, t, l) & (control_at(control, InControl::Pointer, l) == p)
+    })
 }
 
 // The bits of the positions of task `t` that the links hold.
@@ -61,15 +44,11 @@ fn held_bits(plan: &[u8; LINKS], control: &[u8; CONTROL], links: usize, t: u8) -
     ensures { (ahead : ℕ → ℕ → Bool) → Planned ahead (at (writer_in control.now)) (at (reader_in control.now)) links plan.now → (p : ℕ) → p < last_bit → has result p ≡ some (holds ahead (at (writer_in control.now)) (at (reader_in control.now)) (at (pointer_in control.now)) t p) links }
 {
     let mut bits = 0;
-    let mut l = 0;
-    while l < links {
-        let w = control_at(control, InControl::Writer, l);
-        let behind = goes_behind(plan, l);
-        bits = taken_bit(
-            is_behind(w, behind, t),
+    for l in 0..links {
+        bits |= taken_bit(
+            is_behind(plan, control, t, l),
             control_at(control, InControl::Pointer, l),
-        ) | bits;
-        l += 1;
+        );
     }
     bits
 }
@@ -86,7 +65,7 @@ fn lowest_free(
 ) -> u8
     ensures { AllLowest lowest.now → (ahead : ℕ → ℕ → Bool) → Planned ahead (at (writer_in control.now)) (at (reader_in control.now)) links plan.now → result ≡ lowest_free ahead (at (writer_in control.now)) (at (reader_in control.now)) (at (pointer_in control.now)) links t x }
 {
-    let next = pick(x == 1, 2, 1);
+    let next = if x == 1 { 2 } else { 1 };
     if !held(plan, control, links, t, next) {
         return next;
     }
@@ -100,7 +79,7 @@ fn lowest_free(
 fn seen_once(a: u8) -> u8
     ensures { result ≡ seen_once a }
 {
-    pick(a == 0, 1, 2)
+    if a == 0 { 1 } else { 2 }
 }
 
 // The writers' part for task `t`, where it is in the set: its newest position becomes its previous, its lowest free one its newest,
@@ -141,10 +120,8 @@ fn move_tasks(
     requires { tasks ≤ state_room.tasks }
     ensures { AllLowest lowest.now → (ahead : ℕ → ℕ → Bool) → Planned ahead (at (writer_in control.old)) (at (reader_in control.old)) links plan.now → (T : ℕ) → Becomes (moved ahead set tasks) T links control.old control.new }
 {
-    let mut t = 0;
-    while t < tasks {
+    for t in 0..tasks {
         move_task(lowest, plan, set, t, links, control);
-        t += 1;
     }
 }
 
@@ -152,18 +129,19 @@ fn move_tasks(
 fn aim(w: u8, k: u8, control: &[u8; CONTROL]) -> u8
     ensures { result ≡ cond (delayed_kind k) (at (previous_in control.now) w) (at (newest_in control.now) w) }
 {
-    pick(
-        k == 1,
-        control_at(control, InControl::Previous, w as usize),
-        control_at(control, InControl::Newest, w as usize),
-    )
+    let field = if k == 1 {
+        InControl::Previous
+    } else {
+        InControl::Newest
+    };
+    control_at(control, field, w as usize)
 }
 
 // The mark of a link of kind `k` whose writer has had no, one or more arrivals: a delayed link is marked before the second.
 fn mark_of(k: u8, seen: u8) -> u8
     ensures { result ≡ cond (marked (delayed_kind k) seen) 1 0 }
 {
-    pick((k == 1) & (seen < 2), 1, 0)
+    u8::from((k == 1) & (seen < 2))
 }
 
 // The readers' part for link `l`, where its reader is in the set: its pointer, and its mark by the arrivals of its writer.
@@ -186,10 +164,8 @@ fn point_link(set: u32, l: usize, control: &mut [u8; CONTROL])
 fn point_links(set: u32, links: usize, control: &mut [u8; CONTROL])
     ensures { (T L : ℕ) → Becomes (pointed set links) T L control.old control.new }
 {
-    let mut l = 0;
-    while l < links {
+    for l in 0..links {
         point_link(set, l, control);
-        l += 1;
     }
 }
 

@@ -2,7 +2,7 @@
 -- Assumes nothing.
 use mathlib.Core.Path.{◌≡◌}
 use mathlib.Core.Bool.{Bool}
-use Prim.Native.Nat.{ℕ, ◌≤◌, ◌<◌, ◌-◌}
+use Prim.Native.Nat.{ℕ, ◌<◌}
 use Rattle.lists.specs.Lists.{some}
 use Rattle.protocol.specs.Event.{has}
 use Rattle.protocol.specs.Free.{holds}
@@ -13,8 +13,4 @@ use Rattle.mailbox_plan.specs.Plan.{Planned}
 use Rattle.mailbox_arrival.proofs.held_bits.Given as goal
 
 abbrev pub invariant-loop-l : goal.invariant-loop-l
-invariant-loop-l l = (l.l ≤ l.links)
-    × ((ahead : ℕ → ℕ → Bool) → Planned ahead (at (writer_in l.control)) (at (reader_in l.control)) l.links l.plan → (p : ℕ) → p < last_bit → has l.bits p ≡ some (holds ahead (at (writer_in l.control)) (at (reader_in l.control)) (at (pointer_in l.control)) l.t p) l.l)
-
-abbrev pub decreases-loop-l : goal.decreases-loop-l
-decreases-loop-l l = l.links - l.l
+invariant-loop-l l = (ahead : ℕ → ℕ → Bool) → Planned ahead (at (writer_in l.control)) (at (reader_in l.control)) l.links l.plan → (p : ℕ) → p < last_bit → has l.bits p ≡ some (holds ahead (at (writer_in l.control)) (at (reader_in l.control)) (at (pointer_in l.control)) l.t p) l.l

@@ -1,10 +1,12 @@
 -- `mailbox_arrival::lowest_free` meets its contract: no link holds the lowest position other than the newest, or a position is taken where
 -- its bit is set.
 -- Assumes nothing.
-use mathlib.Core.Path.{sym, ap, ap₂, ◌∙◌}
-use mathlib.Core.Bool.{Bool, true, ◌||◌}
+use mathlib.Core.Path.{◌≡◌, refl, sym, ap, ap₂, ◌∙◌}
+use mathlib.Core.Bool.{Bool, true, cond, ◌||◌}
 use Prim.Native.Nat.{ℕ}
 use native.Mathlib.Omega.{arith}
+use borrow.Author.Tests.{eq-eqb, ne_eqb}
+use lib.Dec.{eqb}
 use Rattle.lists.specs.Lists.{some}
 use Rattle.lists.proofs.Search.{first_same}
 use Rattle.protocol.specs.Event.{has}
@@ -14,12 +16,17 @@ use Rattle.protocol_state.specs.Saved.{at}
 use Rattle.mailbox_free.proofs.TakenBits.{has_or, has_taken}
 use Rattle.mailbox_arrival.proofs.Other.{other_than}
 use Rattle.mailbox_arrival.proofs.lowest_free.Goals as goal
+use Rattle.mailbox_arrival.proofs.lowest_free.Goals.{then-x-eq1, else-x-eq1}
 
 pub returns-then-not-held : goal.returns-then-not-held
 returns-then-not-held c table ahead right = let a = c.args in
     let taken : ℕ → Bool = λ (p : ℕ). some (holds ahead (at (writer_in a.control.now)) (at (reader_in a.control.now)) (at (pointer_in a.control.now)) a.t p) a.links in
-    c.pick-next.ensures
-    ∙ other_than taken a.x (ap taken (sym c.pick-next.ensures) ∙ sym (c.held.ensures ahead right) ∙ c.if-not-held.true)
+    let next : c.if-x-eq1.next ≡ cond (eqb a.x 1) 2 1 =
+    elim c.if-x-eq1.branch [
+      | then-x-eq1 w ↦ rw (w.next-is, eq-eqb _ 1 w.if-x-eq1.true) refl
+      | else-x-eq1 w ↦ rw (w.next-is, ne_eqb _ 1 w.if-x-eq1.false) refl
+    ] in
+    next ∙ other_than taken a.x (ap taken (sym next) ∙ sym (c.held.ensures ahead right) ∙ c.if-not-held.true)
 
 pub returns : goal.returns
 returns c table ahead right = let x = c.args.x in
