@@ -49,7 +49,7 @@ const OF_BOXES: [InState; 9] = [
 
 impl InState {
     // Its entry `i` in a state, by its accessor.
-    pub(crate) fn entry(self, s: State, i: usize) -> u32 {
+    pub(crate) fn entry(self, s: &State, i: usize) -> u32 {
         match self {
             InState::Default => s.defaults(i),
             InState::Phase => u32::from(s.phase(i)),
@@ -92,23 +92,23 @@ impl InState {
     }
 
     // Whether two states have the same in it.
-    fn same(self, a: State, b: State) -> bool {
+    fn same(self, a: &State, b: &State) -> bool {
         (0..self.size()).all(|i| self.entry(a, i) == self.entry(b, i))
     }
 }
 
 // Whether two states have the same table: no event may change it.
-pub(crate) fn same_table(a: State, b: State) -> bool {
+pub(crate) fn same_table(a: &State, b: &State) -> bool {
     a.tasks == b.tasks && a.links == b.links && OF_TABLE.iter().all(|field| field.same(a, b))
 }
 
-pub(crate) fn same(a: State, b: State) -> bool {
+pub(crate) fn same(a: &State, b: &State) -> bool {
     same_table(a, b) && OF_BOXES.iter().all(|field| field.same(a, b))
 }
 
 // Whether two events were answered alike.
-pub(crate) fn same_step(a: Step, b: Step) -> bool {
+pub(crate) fn same_step(a: &Step, b: &Step) -> bool {
     a.answer.refusal == b.answer.refusal
         && a.answer.value == b.answer.value
-        && same(a.state, b.state)
+        && same(&a.state, &b.state)
 }

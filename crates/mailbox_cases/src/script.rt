@@ -164,7 +164,7 @@ impl Desk {
     fn made(&mut self) {
         let m = self.table.made();
         if self.shown() {
-            made(m);
+            made(&m);
         }
         self.now = m.state;
     }
@@ -173,7 +173,7 @@ impl Desk {
     fn given(&mut self, e: Event) {
         let step = called(self.now, self.when, e);
         if self.shown() {
-            answered(self.now, self.when, e, step);
+            answered(&self.now, self.when, e, &step);
         }
         self.now = step.state;
     }
@@ -181,7 +181,7 @@ impl Desk {
     // What stands past the counts.
     fn looked(&self) {
         if self.shown() {
-            past(self.now);
+            past(&self.now);
         }
     }
 }

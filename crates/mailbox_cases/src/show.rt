@@ -34,7 +34,7 @@ fn number(n: u64) {
 }
 
 // The first `n` of a field.
-fn list(label: &[u8], s: State, field: InState, n: usize) {
+fn list(label: &[u8], s: &State, field: InState, n: usize) {
     text(label);
     for i in 0..n {
         number(u64::from(field.entry(s, i)));
@@ -42,7 +42,7 @@ fn list(label: &[u8], s: State, field: InState, n: usize) {
 }
 
 // The largest number of a field from `n` on.
-fn largest(s: State, field: InState, n: usize) -> u32 {
+fn largest(s: &State, field: InState, n: usize) -> u32 {
     (n..field.size())
         .map(|i| field.entry(s, i))
         .max()
@@ -62,7 +62,7 @@ fn place(field: InState, i: usize) {
 }
 
 // The entries of a field that hold another number than before.
-fn entries(before: State, after: State, field: InState) {
+fn entries(before: &State, after: &State, field: InState) {
     for i in 0..field.size() {
         let now = field.entry(after, i);
         if now != field.entry(before, i) {
@@ -74,7 +74,7 @@ fn entries(before: State, after: State, field: InState) {
 
 // Phases, newest, previous and seen of its tasks, pointers and marks of its links; with deadlines, the arrival ticks of its tasks and the last
 // tick too.
-fn boxes(s: State) {
+fn boxes(s: &State) {
     list(b" phase", s, InState::Phase, s.tasks);
     list(b" newest", s, InState::Newest, s.tasks);
     list(b" previous", s, InState::Previous, s.tasks);
@@ -88,7 +88,7 @@ fn boxes(s: State) {
 }
 
 // Writers, readers, kinds and start values of its links, and the relative deadlines of its tasks where it has them.
-fn ends(s: State) {
+fn ends(s: &State) {
     list(b" writer", s, InState::Writer, s.links);
     list(b" reader", s, InState::Reader, s.links);
     list(b" kind", s, InState::Kind, s.links);
@@ -100,7 +100,7 @@ fn ends(s: State) {
 
 // The largest number past the counts in phase, newest, previous, seen, writer, reader, kind, start value, pointer and mark; with deadlines, in
 // deadline and arrival tick too.
-pub(crate) fn past(s: State) {
+pub(crate) fn past(s: &State) {
     text(b" past");
     for field in BY_TASK {
         number(u64::from(largest(s, field, s.tasks)));
@@ -115,24 +115,25 @@ pub(crate) fn past(s: State) {
 }
 
 // What a table made.
-pub(crate) fn made(m: Made) {
-    let s = m.state;
+pub(crate) fn made(m: &Made) {
+    let s = &m.state;
+    let single = State::single();
     number(u64::from(m.refusal));
     number(s.tasks as u64);
     number(s.links as u64);
-    if same(s, State::single()) {
+    if same(s, &single) {
         text(b" single");
     } else {
         ends(s);
         boxes(s);
-        entries(State::single(), s, InState::Default);
-        entries(State::single(), s, InState::Cell);
+        entries(&single, s, InState::Default);
+        entries(&single, s, InState::Cell);
     }
     past(s);
 }
 
 // What an event changed.
-fn changed(before: State, after: State) {
+fn changed(before: &State, after: &State) {
     if same(before, after) {
         text(b" same");
     } else {
@@ -155,13 +156,13 @@ fn given(s: State, when: When, e: Event) -> Step {
 
 // The answer to an event, and `apart` where the ways to ask differ: the event as a value, its own method, and `sound`, as 19 is answered where
 // the state is not sound or of the other policy.
-pub(crate) fn answered(s: State, when: When, e: Event, step: Step) {
+pub(crate) fn answered(s: &State, when: When, e: Event, step: &Step) {
     let answer = step.answer;
     number(u64::from(answer.refusal));
     number(u64::from(answer.value));
-    changed(s, step.state);
-    let takes = s.sound() & (s.policy() == policy_for(when));
-    if !same_step(step, given(s, when, e)) | (takes == (answer.refusal == 19)) {
+    changed(s, &step.state);
+    let takes = s.sound() && s.policy() == policy_for(when);
+    if !same_step(step, &given(*s, when, e)) || takes == (answer.refusal == 19) {
         text(b" apart");
     }
 }
