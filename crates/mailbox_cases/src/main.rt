@@ -11,8 +11,8 @@
 // writer, reader, kind, start value, pointer and mark, with deadlines also in deadline and arrival tick.
 #![tactic(auto)]
 
+mod fields;
 mod make;
-mod same;
 mod script;
 mod show;
 

@@ -1,5 +1,5 @@
 // What is printed of tables, states and answers.
-use crate::same::{InState, same, same_step, same_table};
+use crate::fields::{InState, same_table};
 use mailbox::{Made, State, Step};
 use mailbox_base::numbers::POSITIONS;
 use mailbox_event::{Event, When, policy_for};
@@ -121,7 +121,7 @@ pub(crate) fn made(m: &Made) {
     number(u64::from(m.refusal));
     number(s.tasks as u64);
     number(s.links as u64);
-    if same(s, &single) {
+    if *s == single {
         text(b" single");
     } else {
         ends(s);
@@ -134,7 +134,7 @@ pub(crate) fn made(m: &Made) {
 
 // What an event changed.
 fn changed(before: &State, after: &State) {
-    if same(before, after) {
+    if before == after {
         text(b" same");
     } else {
         text(b" changed");
@@ -162,7 +162,7 @@ pub(crate) fn answered(s: &State, when: When, e: Event, step: &Step) {
     number(u64::from(answer.value));
     changed(s, &step.state);
     let takes = s.sound() && s.policy() == policy_for(when);
-    if !same_step(step, &given(*s, when, e)) || takes == (answer.refusal == 19) {
+    if *step != given(*s, when, e) || takes == (answer.refusal == 19) {
         text(b" apart");
     }
 }

@@ -1,5 +1,5 @@
-// The fields of a state, and whether two states are the same, field by field, slots past the counts too.
-use mailbox::{State, Step};
+// The fields of a state, and whether two states have the same table, slots past the counts too.
+use mailbox::State;
 use mailbox_base::numbers::{CELLS, LINKS, TASKS};
 
 // The fields of a state but for its counts.
@@ -23,7 +23,7 @@ pub(crate) enum InState {
     Policy,
 }
 
-// Those that no event may change, besides the counts,
+// Those that no event may change, besides the counts.
 const OF_TABLE: [InState; 7] = [
     InState::Default,
     InState::Writer,
@@ -32,19 +32,6 @@ const OF_TABLE: [InState; 7] = [
     InState::StartValue,
     InState::Deadline,
     InState::Policy,
-];
-
-// and those that events change.
-const OF_BOXES: [InState; 9] = [
-    InState::Cell,
-    InState::Phase,
-    InState::Newest,
-    InState::Previous,
-    InState::Seen,
-    InState::Pointer,
-    InState::Mark,
-    InState::Since,
-    InState::Last,
 ];
 
 impl InState {
@@ -100,15 +87,4 @@ impl InState {
 // Whether two states have the same table: no event may change it.
 pub(crate) fn same_table(a: &State, b: &State) -> bool {
     a.tasks == b.tasks && a.links == b.links && OF_TABLE.iter().all(|field| field.same(a, b))
-}
-
-pub(crate) fn same(a: &State, b: &State) -> bool {
-    same_table(a, b) && OF_BOXES.iter().all(|field| field.same(a, b))
-}
-
-// Whether two events were answered alike.
-pub(crate) fn same_step(a: &Step, b: &Step) -> bool {
-    a.answer.refusal == b.answer.refusal
-        && a.answer.value == b.answer.value
-        && same(&a.state, &b.state)
 }
