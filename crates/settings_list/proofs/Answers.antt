@@ -26,6 +26,11 @@ pub map_join : {A B : Type 0} (f : A → B) (xs ys : List A) → map f (xs ++ ys
 map_join f [] ys = refl
 map_join {B = B} f (x ∷ xs) ys = ap (λ (l : List B). f x ∷ l) (map_join f xs ys)
 
+-- no settings are 64 slots
+pub no_slots : length (slots []) ≡ 64
+unfolding slots
+no_slots = refl
+
 -- one setting more goes into the next slot
 pub slots_more : (xs : List Setting) (x : Setting) → length xs < 64 → set (slots xs) (length xs) (slot x) ≡ slots (xs ++ (x ∷ []))
 unfolding slots

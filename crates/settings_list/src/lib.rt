@@ -71,18 +71,17 @@ fn accepted(s: &[u8]) -> Result<Migration, Refused>
 {
     let number = count(s).map_err(|why| why.at(0))?;
     let mut settings = no_settings();
-    let mut at = 1;
-    for i in 0..number {
-        let setting = entry_at(s, at).map_err(|why| why.at(at))?;
-        settings[i] = Slot { setting };
-        at += ENTRY;
+    for (i, slot) in settings[..number].iter_mut().enumerate() {
+        let at = 1 + ENTRY * i;
+        slot.setting = entry_at(s, at).map_err(|why| why.at(at))?;
     }
-    if at < s.len() {
-        return Err(Refusal::BytesLeft.at(at));
+    let end = 1 + ENTRY * number;
+    if end < s.len() {
+        return Err(Refusal::BytesLeft.at(end));
     }
     Ok(Migration {
         refusal: 0,
-        place: at,
+        place: end,
         number,
         settings,
     })

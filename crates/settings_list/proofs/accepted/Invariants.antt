@@ -2,9 +2,9 @@
 -- rest is read from the place on.
 -- Assumes nothing.
 use mathlib.Core.Path.{◌≡◌}
-use mathlib.Core.List.{List, []}
+use mathlib.Core.List.{List, [], ◌++◌}
 use Prim.Native.Nat.{◌+◌, ◌-◌, ◌*◌, ◌≤◌}
-use lib.ListN.{length}
+use lib.ListN.{length, drop}
 use Rattle.byte_format.specs.Format.{got}
 use Rattle.byte_format.specs.Section.{count_at}
 use Rattle.byte_format.specs.Play.{play}
@@ -17,8 +17,9 @@ abbrev pub invariant-loop-i : goal.invariant-loop-i
 invariant-loop-i l = record {
   counted : got l.number 1 ≡ count_at 1 count_limit l.s 0;
   few : l.number ≤ 64;
-  place : l.at ≡ 1 + 9 * l.i;
   taken :
       (xs : List Setting)
-      × ((length xs ≡ l.i) × ((l.settings ≡ slots xs) × (play entries bad_float and_setting l.number [] l.s 1 ≡ play entries bad_float and_setting (l.number - l.i) xs l.s l.at)));
+      × ((length xs ≡ l.i)
+      × ((l.slot-items ++ drop l.number (slots []) ≡ slots xs)
+      × (play entries bad_float and_setting l.number [] l.s 1 ≡ play entries bad_float and_setting (l.number - l.i) xs l.s (1 + 9 * l.i))));
 }
