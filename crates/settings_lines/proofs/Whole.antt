@@ -5,11 +5,19 @@ use mathlib.Core.List.{List, [], ◌∷◌, ◌++◌, append_assoc}
 use Prim.Native.Nat.{ℕ, ◌≤◌}
 use lib.ListN.{length}
 use Rattle.text_line.specs.Numeral.{number}
+use Rattle.text_line.proofs.Pieces.{joined_joined, no_piece}
+use Rattle.settings_decimal.proofs.Answers.{small_told, large_told}
 use Rattle.text_line.specs.Shown.{joined, line_of, Put}
 use Rattle.text_line.proofs.Pieces.{onto, chain, begun}
 use Rattle.settings_lines.specs.Hex.{hex_of}
 use Rattle.settings_lines.specs.Words.{text_setting, text_bits}
 use Rattle.settings_lines.specs.Lines.{setting_line}
+
+-- what the functions cite that put one piece after the other
+pub ruleset pieces = (joined_joined, no_piece)
+
+-- and the one that puts a value
+pub ruleset value_pieces = (joined_joined, small_told, large_told)
 
 -- the start of a setting's line, its value and its end are the line, where it fits
 pub setting_whole :

@@ -24,6 +24,7 @@ fn digit(n: u64, w: u64) -> u8
 }
 
 // A line with the last six decimal digits of a number more.
+#[tactic(auto, unfolding(settings_decimal::specs::Decimal::six_digits))]
 fn with_six(line: Line, n: u64) -> Line
     ensures { shown result ≡ joined (shown line) (six_digits n) }
 {
@@ -48,6 +49,7 @@ fn with_hex(line: Line, n: u64) -> Line
 }
 
 // A line with what is said of digits that are cut off more.
+#[tactic(auto, using(crate::proofs::Whole::pieces), unfolding(crate::specs::Lines::cut_words))]
 fn with_cut(line: Line, unit: &[u8], cut: bool) -> Line
     ensures { shown result ≡ joined (shown line) (cut_words unit.now cut) }
 {
@@ -61,6 +63,7 @@ fn with_cut(line: Line, unit: &[u8], cut: bool) -> Line
 }
 
 // A line with so many millionths more, in decimal, with their unit.
+#[tactic(auto, using(crate::proofs::Whole::pieces))]
 fn with_millionths(line: Line, unit: &[u8], n: u64, cut: bool) -> Line
     ensures { shown result ≡ joined (shown line) (in_millionths unit.now n cut) }
 {
@@ -70,6 +73,7 @@ fn with_millionths(line: Line, unit: &[u8], n: u64, cut: bool) -> Line
 }
 
 // A line with a float more, in decimal, with its unit.
+#[tactic(auto, using(crate::proofs::Whole::value_pieces), unfolding(crate::specs::Lines::value))]
 fn with_value(line: Line, unit: &[u8], bits: u64) -> Line
     ensures { shown result ≡ joined (shown line) (value unit.now bits) }
 {
@@ -83,6 +87,7 @@ fn with_value(line: Line, unit: &[u8], bits: u64) -> Line
 }
 
 // The start of a setting's line: its number in the list, and its kind.
+#[tactic(auto, using(crate::proofs::Whole::pieces))]
 fn setting(kind: &[u8], place: u64) -> Line
     ensures { shown result ≡ joined [] (text_setting ++ (Numeral·number place ++ kind.now)) }
 {
@@ -90,6 +95,7 @@ fn setting(kind: &[u8], place: u64) -> Line
 }
 
 // The end of a setting's line: its exact bits.
+#[tactic(auto, using(crate::proofs::Whole::pieces))]
 fn put_bits(line: Line, bits: u64, out: &mut [u8]) -> usize
     ensures { Put (joined (shown line) (line_of (text_bits ∷ hex_of bits ∷ []))) out.old result out.new }
 {
