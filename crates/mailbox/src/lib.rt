@@ -72,7 +72,7 @@ impl State {
 
     // The fresh state of a table under fixed priorities: so many tasks with these defaults, so many links with these writers, readers, kinds
     // and start values. Refusals: 2 and 3 the counts, 4 to 9 and 20 the first link at fault; the state is then that of a single task with
-    // default 0.
+    // default 0. The columns of a table are arrays side by side, as hosts in C hand them over.
     pub fn fresh(
         tasks: usize,
         links: usize,
@@ -186,7 +186,8 @@ impl State {
         }
     }
 
-    // The arrival of a set of tasks, bit t for task t.
+    // The arrival of a set of tasks, bit t for task t. This call and the three below are the four kinds of `event` by name, as hosts have them;
+    // those at a tick are the four of `event_at`.
     // Refusals: 19; 12 an empty set or a task not in the table; 13 an active task.
     pub fn arrival(self, set: u32) -> Step
         ensures answer { Gives self (plainly (arrival set)) result }

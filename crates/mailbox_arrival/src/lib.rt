@@ -125,7 +125,8 @@ fn move_tasks(
     }
 }
 
-// Where the pointer of a link from `w` of kind `k` goes: a delayed link (1) shows the writer's previous position.
+// Where the pointer of a link from `w` of kind `k` goes: a delayed link (1) shows the writer's previous position. A kind is a number here, since a
+// lent control may hold any.
 fn aim(w: u8, k: u8, control: &[u8; CONTROL]) -> u8
     ensures { result ≡ cond (delayed_kind k) (at (previous_in control.now) w) (at (newest_in control.now) w) }
 {

@@ -17,7 +17,7 @@ use mailbox_plan::{goes_behind, is_ahead};
 use refusals::Refusal;
 
 // The refusal that a link earns, the lowest that applies: `behind` says that its reader is behind its writer; `twice` and `n` speak of its
-// writer's earlier links.
+// writer's earlier links. Its kind is a number, since any may be handed over.
 fn fault_of(tasks: usize, link: Link, behind: bool, twice: bool, n: usize) -> Result<(), Refusal>
     ensures { (ahead : ℕ → ℕ → Bool) → Ranks ahead → behind ≡ ahead link.writer link.reader → told result ≡ fault_of ahead tasks (as_record link) twice n }
 {

@@ -1,4 +1,5 @@
-// Soundness of a state, on its lent arrays: what refusal 19 tests.
+// Soundness of a state, on its lent arrays: what refusal 19 tests. Phases, kinds of link and policies are numbers here, since a state that is
+// handed over may hold any.
 #![tactic(auto)]
 
 ghost use Rattle.std.specs.Prelude.{◌≡◌, Bool, List, [], ℕ, ◌≤◌, ◌<◌, min};
