@@ -8,6 +8,7 @@ use lib.Dec.{eqb}
 use lib.ListN.{length, take, length-take}
 use Rattle.lists.proofs.Bools.{cond_of}
 use Rattle.text_line.specs.Numeral.{number}
+use Rattle.text_line.proofs.Pieces.{joined_joined, begun, no_piece}
 use Rattle.text_line.proofs.Lengths.{long, number_long, end, piece, word, numeral, fits}
 use Rattle.recording_lines.specs.Words.{text_at, text_cells, text_counts, text_link, text_newest, text_pointer, text_previous, text_read, text_refused, text_since, text_task}
 use Rattle.recording_lines.specs.declared.Task.{Task}
@@ -73,3 +74,6 @@ task_fits t cells =
     let last = word text_cells (piece (numbers (take 10 cells)) (cells_long cells) (piece (had_word t.seen) (had_long t.seen) since)) in
     let places = word text_newest (numeral t.newest (word text_previous (numeral t.previous last))) in
     fits 384 (word text_task (numeral t.number (piece (phase t.phase) (phase_long t.phase) places))) (omega arith)
+
+-- what the functions cite that put few pieces one after the other, all of which fit
+pub ruleset pieces = (joined_joined, begun, no_piece, named_fits, read_fits, refused_fits)

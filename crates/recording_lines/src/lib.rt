@@ -25,6 +25,7 @@ pub struct Task {
 }
 
 // A word and a number: their line.
+#[tactic(auto, using(crate::proofs::Lengths::pieces))]
 fn put_named(word: &[u8], n: u64, out: &mut [u8]) -> usize
     requires { length word.now ≤ 8 }
     ensures { Put (named word.now n) out.old result out.new }
@@ -33,6 +34,7 @@ fn put_named(word: &[u8], n: u64, out: &mut [u8]) -> usize
 }
 
 // A number read: `read`, the link, the number.
+#[tactic(auto, using(crate::proofs::Lengths::pieces))]
 pub fn put_read(link: u8, value: u32, out: &mut [u8]) -> usize
     ensures { Put (read_line link value) out.old result out.new }
 {
@@ -51,6 +53,7 @@ pub fn put_accepted(events: usize, out: &mut [u8]) -> usize
 }
 
 // A refused recording: the refusal and its place.
+#[tactic(auto, using(crate::proofs::Lengths::pieces))]
 pub fn put_refused(refusal: u8, place: usize, out: &mut [u8]) -> usize
     ensures { Put (refused_line refusal place) out.old result out.new }
 {
@@ -147,7 +150,7 @@ fn with_had(line: Line, seen: u8) -> Line
 }
 
 // A line with a task's arrival tick more, if it is active and its table has deadlines: nothing else keeps one.
-#[tactic(auto, unfolding(crate::specs::Lines::since_word), using(text_line::proofs::Pieces::no_piece))]
+#[tactic(auto, unfolding(crate::specs::Lines::since_word), using(crate::proofs::Lengths::pieces))]
 fn with_since(line: Line, policy: u32, code: u8, tick: u32) -> Line
     ensures { shown result ≡ joined (shown line) (since_word policy code tick) }
 {
@@ -185,7 +188,7 @@ fn with_pointer(line: Line, position: u8) -> Line
 }
 
 // A line with a mark more, if there is one. What is none of the two has a word of its own.
-#[tactic(auto, unfolding(crate::specs::Lines::mark), using(text_line::proofs::Pieces::no_piece))]
+#[tactic(auto, unfolding(crate::specs::Lines::mark), using(crate::proofs::Lengths::pieces))]
 fn with_mark(line: Line, m: u8) -> Line
     ensures { shown result ≡ joined (shown line) (mark m) }
 {
