@@ -6,6 +6,8 @@
 #![tactic(auto)]
 
 ghost use Rattle.std.specs.Prelude.{◌≡◌, true, List, [], ℕ, min};
+ghost use Rattle.std.specs.Result.{result_unwrap_or};
+ghost use Rattle.refusals.specs.Numbers.{told};
 ghost use Rattle.protocol.specs.Event.{arrival, start, read, finish};
 ghost use Rattle.protocol_state.specs.Records.{first_tasks};
 ghost use Rattle.protocol_state.specs.Saved.{at, state_room};
@@ -18,7 +20,6 @@ ghost use Rattle.mailbox.specs.States.{saved, IsWhole, made_of, made_from, Makes
 
 use crate::tables::{put_links, then_dates, times_of, values_of};
 use mailbox_base::numbers::{EVENTS, LINKS, TASKS};
-use mailbox_call::Asked;
 use mailbox_event::{Event, When};
 use mailbox_give::{give, give_at};
 use mailbox_layout::fresh::{fresh_control, fresh_times};
@@ -26,6 +27,7 @@ use mailbox_layout::{CONTROL, InControl, InTimes, InValues, TIMES, VALUES, contr
 use mailbox_plan::plan_of;
 use mailbox_rules::table::judge_table;
 use mailbox_sound::is_sound;
+use refusals::Refusal;
 
 mod tables;
 
@@ -46,6 +48,20 @@ pub struct State {
 pub struct Answer {
     pub refusal: u8,
     pub value: u32,
+}
+
+impl From<Result<u32, Refusal>> for Answer {
+    ghost from_gives = { λ given answer. (answer.refusal ≡ told given) × (answer.value ≡ result_unwrap_or given 0) };
+
+    fn from(given: Result<u32, Refusal>) -> Answer {
+        match given {
+            Ok(value) => Answer { refusal: 0, value },
+            Err(refusal) => Answer {
+                refusal: u8::from(refusal),
+                value: 0,
+            },
+        }
+    }
 }
 
 // What an event hands back.
@@ -284,21 +300,11 @@ impl State {
         let mut control = self.control;
         let mut values = self.values;
         let mut times = self.times;
-        let mut value: u32 = 0;
-        let refusal = match when {
-            When::Untimed => give(
-                Asked::Known(e),
-                &mut value,
-                tasks,
-                links,
-                &mut control,
-                &mut values,
-                &times,
-            ),
+        let given = match when {
+            When::Untimed => give(Ok(e), tasks, links, &mut control, &mut values, &times),
             When::At(tick) => give_at(
                 tick,
-                Asked::Known(e),
-                &mut value,
+                Ok(e),
                 tasks,
                 links,
                 &mut control,
@@ -311,7 +317,7 @@ impl State {
         self.times = times;
         Step {
             state: self.itself(),
-            answer: Answer { refusal, value },
+            answer: Answer::from(given),
         }
     }
 

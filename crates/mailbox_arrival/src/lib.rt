@@ -16,8 +16,9 @@ ghost use Rattle.mailbox_plan.specs.Plan.{is_flagged, Planned};
 ghost use Rattle.mailbox_arrival.specs.Arrives.{moved_at, moved, pointed_at, pointed};
 
 use lists::{few, some};
-use mailbox_base::decision::{ARRIVAL, decide};
+use mailbox_base::decision::entry;
 use mailbox_base::numbers::{LINKS, TASKS, has};
+use mailbox_event::Kind;
 use mailbox_free::bits::{lowest_outside, taken_bit};
 use mailbox_free::table::PATTERNS;
 use mailbox_layout::{CONTROL, InControl, control_at, put_control};
@@ -100,7 +101,7 @@ fn move_task(
     }
     let x = control_at(control, InControl::Newest, t);
     let free = lowest_free(lowest, plan, control, links, t as u8, x);
-    let phase = decide(ARRIVAL, control_at(control, InControl::Phase, t));
+    let phase = entry(Kind::Arrival, control_at(control, InControl::Phase, t));
     let seen = seen_once(control_at(control, InControl::Seen, t));
     put_control(control, InControl::Previous, t, x);
     put_control(control, InControl::Newest, t, free);

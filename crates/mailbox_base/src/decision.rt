@@ -1,30 +1,43 @@
 // The decision table.
 ghost use Rattle.std.specs.Prelude.{◌≡◌};
 ghost use Rattle.protocol_state.specs.Decision.{decided};
+ghost use Rattle.mailbox_event.specs.Plain.{row};
+ghost use Rattle.mailbox_base.specs.Decides.{Decides};
 
-use crate::numbers::pick;
+use mailbox_event::Kind;
+use refusals::Refusal;
 
-// The kinds of event, by the row that they have in the table.
-pub const ARRIVAL: usize = 0;
+// The phases of a task.
+pub const IDLE: u8 = 0;
 
-pub const START: usize = 1;
+pub const WAITING: u8 = 1;
 
-pub const READ: usize = 2;
+pub const RUNNING: u8 = 2;
 
-pub const FINISH: usize = 3;
-
-// Below this a decision is the next phase, from it on a refusal.
-pub const REFUSALS: u8 = 12;
-
-// What each kind of event (arrival, start, read, finish) does in each phase (idle, waiting, running): the next phase, or the refusal.
-const DECISIONS: [u8; 12] = [1, 13, 13, 14, 2, 14, 15, 15, 2, 15, 15, 0];
-
-// The entry for an event of this kind in this phase. The remainder only keeps the row inside the table, and what is no phase has the last
-// column. Each caller names a kind, so that with the call in line all three entries are constants, and no table is read while events run.
-pub fn decide(kind: usize, phase: u8) -> u8
-    ensures { result ≡ decided kind phase }
+// The table: what an event of a kind does in a phase, the next phase or the refusal. What is no phase counts as running. Each caller names a kind,
+// so that with the call in line only the phase is asked for while events run.
+pub fn decide(kind: Kind, phase: u8) -> Result<u8, Refusal>
+    ensures { Decides (decided (row kind) phase) result }
 {
-    let row = kind % 4 * 3;
-    let later = pick(phase == 1, DECISIONS[row + 1], DECISIONS[row + 2]);
-    pick(phase == 0, DECISIONS[row], later)
+    match (kind, phase) {
+        (Kind::Arrival, IDLE) => Ok(WAITING),
+        (Kind::Arrival, WAITING) => Err(Refusal::StillActive),
+        (Kind::Arrival, _) => Err(Refusal::StillActive),
+        (Kind::Start, IDLE) => Err(Refusal::NotWaiting),
+        (Kind::Start, WAITING) => Ok(RUNNING),
+        (Kind::Start, _) => Err(Refusal::NotWaiting),
+        (Kind::Read, IDLE) => Err(Refusal::NotRunning),
+        (Kind::Read, WAITING) => Err(Refusal::NotRunning),
+        (Kind::Read, _) => Ok(RUNNING),
+        (Kind::Finish, IDLE) => Err(Refusal::NotRunning),
+        (Kind::Finish, WAITING) => Err(Refusal::NotRunning),
+        (Kind::Finish, _) => Ok(IDLE),
+    }
+}
+
+// The entry of the table: the next phase, or the number of the refusal.
+pub fn entry(kind: Kind, phase: u8) -> u8
+    ensures { result ≡ decided (row kind) phase }
+{
+    decide(kind, phase).unwrap_or_else(u8::from)
 }

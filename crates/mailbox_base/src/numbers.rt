@@ -29,7 +29,7 @@ pub struct Size {
     pub links: usize,
 }
 
-// `x` or `y`.
+// `x` or `y`: both are at hand, so that the choice needs no branch.
 pub fn pick(b: bool, x: u8, y: u8) -> u8
     ensures { result ≡ cond b x y }
 {
@@ -49,16 +49,12 @@ pub fn put_number(a: &mut [u32], i: usize, x: u32)
 pub fn cell_of(t: u8, p: u8) -> usize
     ensures { result ≡ cell_of t p }
 {
-    if p == 0 {
-        t as usize * POSITIONS
-    } else {
-        t as usize * POSITIONS + (p as usize - 1)
-    }
+    usize::from(t) * POSITIONS + usize::from(p.saturating_sub(1))
 }
 
 // Whether task `t` is in the set: bit `t`, where there is such a bit.
 pub fn has(set: u32, t: usize) -> bool
     ensures { result ≡ has set t }
 {
-    if t < BITS { (set >> t) % 2 == 1 } else { false }
+    t < BITS && (set >> t) % 2 == 1
 }

@@ -4,6 +4,7 @@
 
 ghost use Rattle.std.specs.Prelude.{◌≡◌, ◌≢◌, cond, not, List, ℕ, ◌+◌, min, eqb, ltb};
 ghost use Rattle.std.proofs.Math.ListN as lists;
+ghost use Rattle.refusals.specs.Numbers.{told};
 ghost use Rattle.lists.specs.Lists.{upto};
 ghost use Rattle.protocol.specs.Event.{arrival, start, read, finish};
 ghost use Rattle.protocol_deadlines.specs.Timed.{tried};
@@ -14,27 +15,39 @@ ghost use Rattle.mailbox_layout.specs.Layout.{since_region, cut_times, phase_in,
 ghost use Rattle.mailbox_clock.specs.Clock.{last_put};
 
 use lists::few;
-use mailbox_base::decision::{FINISH, START};
-use mailbox_base::numbers::{MOST_TICK, TASKS, has, pick};
+use mailbox_base::numbers::{MOST_TICK, TASKS, has};
+use mailbox_event::Kind;
 use mailbox_judge::{due_at, judge_arrival, judge_job, judge_job_read};
 use mailbox_layout::{CONTROL, InTimes, TIMES, entry_at, put_entry};
+use refusals::Refusal;
 
-// 23 where a finish of task `t` comes after its deadline: at the deadline it passes.
-fn late(t: u8, tick: u32, times: &[u32; TIMES]) -> u8
-    ensures { result ≡ cond (ltb (at (since_in times.now) t + at (deadline_in times.now) t) tick) 23 0 }
+// Whether a finish of task `t` comes by its deadline: at the deadline it passes, and after it there is 23.
+fn in_time(t: u8, tick: u32, times: &[u32; TIMES]) -> Result<(), Refusal>
+    ensures { told result ≡ cond (ltb (at (since_in times.now) t + at (deadline_in times.now) t) tick) 23 0 }
 {
-    pick(due_at(times, t as usize) < tick as u64, 23, 0)
+    if due_at(times, usize::from(t)) < u64::from(tick) {
+        return Err(Refusal::Late);
+    }
+    Ok(())
 }
 
-// The refusal of an event at a tick, in the order in which they are tried: 12, 22, 21, then 13 to 16, then 23. `refusal` is the one without
-// ticks, `late` 23 or 0.
-fn try_tick(refusal: u8, tick: u32, late: u8, times: &[u32; TIMES]) -> u8
-    ensures { result ≡ tried refusal (last_in times.now) tick late }
+// Whether an event is allowed at a tick, in the order in which refusals are tried: 12, 22, 21, then 13 to 16, then 23. `judged` is what it earns
+// without ticks, `in_time` whether it comes by its deadline.
+fn try_tick(
+    judged: Result<(), Refusal>,
+    tick: u32,
+    in_time: Result<(), Refusal>,
+    times: &[u32; TIMES],
+) -> Result<(), Refusal>
+    ensures { told result ≡ tried (told judged) (last_in times.now) tick (told in_time) }
 {
-    let other = pick(refusal == 0, late, refusal);
-    let falls = pick(tick < entry_at(times, InTimes::Last, 0), 21, other);
-    let large = pick(MOST_TICK < tick, 22, falls);
-    pick(refusal == 12, 12, large)
+    match judged {
+        Err(Refusal::Outside) => judged,
+        _ if MOST_TICK < tick => Err(Refusal::TickTooLarge),
+        _ if tick < entry_at(times, InTimes::Last, 0) => Err(Refusal::TickFalls),
+        Ok(()) => in_time,
+        Err(_) => judged,
+    }
 }
 
 // Whether the policy is earliest deadline first: under fixed priorities there are no ticks to look at or to keep, and no other function of
@@ -45,35 +58,40 @@ pub fn is_dated(times: &[u32; TIMES]) -> bool
     entry_at(times, InTimes::Policy, 0) != 0
 }
 
-// The refusal of the arrival of a set at a tick, 0 for none.
+// Whether the arrival of a set is allowed at a tick.
 pub fn judge_arrival_at(
     tick: u32,
     set: u32,
     tasks: usize,
     control: &[u8; CONTROL],
     times: &[u32; TIMES],
-) -> u8
-    ensures answer { result ≡ tried (judged_arrival set (min tasks state_room.tasks) (at (phase_in control.now))) (last_in times.now) tick 0 }
-    ensures dated { policy_in times.now ≢ 0 → (L : ℕ) (v : List ℕ) → result ≡ judged_on_at (ahead_among times.now) (view_of tasks L control.now v times.now) tick (arrival set) }
+) -> Result<(), Refusal>
+    ensures answer { told result ≡ tried (judged_arrival set (min tasks state_room.tasks) (at (phase_in control.now))) (last_in times.now) tick 0 }
+    ensures dated { policy_in times.now ≢ 0 → (L : ℕ) (v : List ℕ) → told result ≡ judged_on_at (ahead_among times.now) (view_of tasks L control.now v times.now) tick (arrival set) }
 {
-    try_tick(judge_arrival(set, tasks, control), tick, 0, times)
+    try_tick(judge_arrival(set, tasks, control), tick, Ok(()), times)
 }
 
-// That of the start of task `t`.
+// The start of task `t`.
 pub fn judge_start_at(
     tick: u32,
     t: u8,
     tasks: usize,
     control: &[u8; CONTROL],
     times: &[u32; TIMES],
-) -> u8
-    ensures answer { result ≡ tried (judged_task (sooner_among times.now) 1 t (min tasks state_room.tasks) (at (phase_in control.now))) (last_in times.now) tick 0 }
-    ensures dated { policy_in times.now ≢ 0 → (L : ℕ) (v : List ℕ) → result ≡ judged_on_at (ahead_among times.now) (view_of tasks L control.now v times.now) tick (start t) }
+) -> Result<(), Refusal>
+    ensures answer { told result ≡ tried (judged_task (sooner_among times.now) 1 t (min tasks state_room.tasks) (at (phase_in control.now))) (last_in times.now) tick 0 }
+    ensures dated { policy_in times.now ≢ 0 → (L : ℕ) (v : List ℕ) → told result ≡ judged_on_at (ahead_among times.now) (view_of tasks L control.now v times.now) tick (start t) }
 {
-    try_tick(judge_job(START, t, tasks, control, times), tick, 0, times)
+    try_tick(
+        judge_job(Kind::Start, t, tasks, control, times),
+        tick,
+        Ok(()),
+        times,
+    )
 }
 
-// That of a read by link `l`.
+// A read by link `l`.
 pub fn judge_read_at(
     tick: u32,
     l: u8,
@@ -81,31 +99,31 @@ pub fn judge_read_at(
     links: usize,
     control: &[u8; CONTROL],
     times: &[u32; TIMES],
-) -> u8
-    ensures answer { result ≡ tried (judged_read (sooner_among times.now) l (min tasks state_room.tasks) (min links state_room.links) (at (reader_in control.now)) (at (phase_in control.now))) (last_in times.now) tick 0 }
-    ensures dated { policy_in times.now ≢ 0 → (v : List ℕ) → result ≡ judged_on_at (ahead_among times.now) (view_of tasks links control.now v times.now) tick (read l) }
+) -> Result<(), Refusal>
+    ensures answer { told result ≡ tried (judged_read (sooner_among times.now) l (min tasks state_room.tasks) (min links state_room.links) (at (reader_in control.now)) (at (phase_in control.now))) (last_in times.now) tick 0 }
+    ensures dated { policy_in times.now ≢ 0 → (v : List ℕ) → told result ≡ judged_on_at (ahead_among times.now) (view_of tasks links control.now v times.now) tick (read l) }
 {
     try_tick(
         judge_job_read(l, tasks, links, control, times),
         tick,
-        0,
+        Ok(()),
         times,
     )
 }
 
-// That of the finish of task `t` with any value.
+// The finish of task `t` with any value.
 pub fn judge_finish_at(
     tick: u32,
     t: u8,
     tasks: usize,
     control: &[u8; CONTROL],
     times: &[u32; TIMES],
-) -> u8
-    ensures answer { result ≡ tried (judged_task (sooner_among times.now) 3 t (min tasks state_room.tasks) (at (phase_in control.now))) (last_in times.now) tick (cond (ltb (at (since_in times.now) t + at (deadline_in times.now) t) tick) 23 0) }
-    ensures dated { policy_in times.now ≢ 0 → (L w : ℕ) (v : List ℕ) → result ≡ judged_on_at (ahead_among times.now) (view_of tasks L control.now v times.now) tick (finish t w) }
+) -> Result<(), Refusal>
+    ensures answer { told result ≡ tried (judged_task (sooner_among times.now) 3 t (min tasks state_room.tasks) (at (phase_in control.now))) (last_in times.now) tick (cond (ltb (at (since_in times.now) t + at (deadline_in times.now) t) tick) 23 0) }
+    ensures dated { policy_in times.now ≢ 0 → (L w : ℕ) (v : List ℕ) → told result ≡ judged_on_at (ahead_among times.now) (view_of tasks L control.now v times.now) tick (finish t w) }
 {
-    let refusal = judge_job(FINISH, t, tasks, control, times);
-    try_tick(refusal, tick, late(t, tick, times), times)
+    let judged = judge_job(Kind::Finish, t, tasks, control, times);
+    try_tick(judged, tick, in_time(t, tick, times), times)
 }
 
 // The last tick, after an event that changes no arrival tick: a start or a read.
@@ -121,12 +139,10 @@ pub fn keep_tick(tick: u32, times: &mut [u32; TIMES])
 fn keep_each(tick: u32, set: u32, tasks: usize, times: &mut [u32; TIMES])
     ensures { cut_times times.new ≡ lists.set (cut_times times.old) since_region (upto (since_at set tick) tasks (since_in times.old)) }
 {
-    let mut t = 0;
-    while t < tasks {
+    for t in 0..tasks {
         if has(set, t) {
             put_entry(times, InTimes::Since, t, tick);
         }
-        t += 1;
     }
 }
 
@@ -144,6 +160,6 @@ pub fn keep_finish(tick: u32, t: u8, times: &mut [u32; TIMES])
     ensures times { cut_times times.new ≡ last_put tick (lists.set (cut_times times.old) since_region (lists.set (since_in times.old) t 0)) }
     ensures dated { policy_in times.old ≢ 0 → (T L w : ℕ) (c v : List ℕ) → state_of T L c v times.new ≡ clocked tick (finish t w) (state_of T L c v times.old) }
 {
-    put_entry(times, InTimes::Since, t as usize, 0);
+    put_entry(times, InTimes::Since, usize::from(t), 0);
     put_entry(times, InTimes::Last, 0, tick);
 }

@@ -4,24 +4,26 @@
 ghost use Rattle.std.specs.Prelude.{◌≡◌, Bool, cond, ◌&&◌, List, ℕ, ◌<◌, min, eqb};
 ghost use Rattle.protocol_state.specs.Saved.{at, state_room};
 ghost use Rattle.protocol_state.specs.Next.{number_read, released, finished};
+ghost use Rattle.mailbox_event.specs.Plain.{row};
 ghost use Rattle.mailbox_layout.specs.Layout.{Becomes, state_of, writer_in, reader_in, pointer_in, mark_in, start_value_in, cells_in};
 ghost use Rattle.mailbox_plan.specs.Plan.{Planned};
 ghost use Rattle.mailbox_finish.specs.Frees.{freed_one, freed_first, advanced};
 
 use lists::few;
-use mailbox_base::decision::{FINISH, decide};
+use mailbox_base::decision::entry;
 use mailbox_base::numbers::LINKS;
+use mailbox_event::Kind;
 use mailbox_layout::{
     CONTROL, InControl, InValues, VALUES, cell_at, control_at, entry_at, put_cell, put_control,
 };
 use mailbox_plan::flag_is_one;
 
 // The next phase of task `t`, at an event of this kind.
-pub fn advance(kind: usize, t: u8, control: &mut [u8; CONTROL])
-    ensures { (T L : ℕ) → Becomes (advanced kind t) T L control.old control.new }
+pub fn advance(kind: Kind, t: u8, control: &mut [u8; CONTROL])
+    ensures { (T L : ℕ) → Becomes (advanced (row kind) t) T L control.old control.new }
 {
     let i = t as usize;
-    let next = decide(kind, control_at(control, InControl::Phase, i));
+    let next = entry(kind, control_at(control, InControl::Phase, i));
     put_control(control, InControl::Phase, i, next);
 }
 
@@ -74,7 +76,7 @@ pub fn release(plan: &[u8; LINKS], t: u8, links: usize, control: &mut [u8; CONTR
     ensures { (ahead : ℕ → ℕ → Bool) → Planned ahead (at (writer_in control.old)) (at (reader_in control.old)) (min links state_room.links) plan.now → (T : ℕ) → Becomes (released ahead t) T (min links state_room.links) control.old control.new }
 {
     free_links(plan, t, few(links, LINKS), control);
-    advance(FINISH, t, control);
+    advance(Kind::Finish, t, control);
 }
 
 // A finish that is allowed: the value goes to the newest position besides.

@@ -1,14 +1,17 @@
 -- What is asked of a lent state, way by way: unsound or of the other policy, no event, refused, done.
 -- Assumes nothing.
-use mathlib.Core.Path.{◌≡◌, refl, sym, ap, ◌∙◌}
+use mathlib.Core.Path.{◌≡◌, sym, ap, ◌∙◌}
 use mathlib.Core.Logic.{◌≢◌}
 use mathlib.Core.Bool.{Bool, true, false, not, ◌&&◌}
 use mathlib.Core.List.{List}
 use Prim.Native.Nat.{ℕ, ◌≤◌}
-use native.Mathlib.Omega.{arith}
 use borrow.Author.Tests.{not-true, eqb-true}
 use lib.Dec.{eqb}
 use Rattle.lists.proofs.Bools.{and_left, and_right, passed}
+use Rattle.std.specs.Prelude.{Result, Ok, Err}
+use Rattle.refusals.specs.declared.Refusal.{Refusal}
+use Rattle.refusals.specs.Numbers.{number}
+use Rattle.refusals.proofs.Numbers.{number_not_0}
 use Rattle.protocol_state.specs.Saved.{Saved, state_room, ahead_in}
 use Rattle.protocol_state.specs.Judge.{judged_on_at}
 use Rattle.protocol_state.specs.Next.{next_at, value_of}
@@ -23,9 +26,7 @@ use Rattle.mailbox_event.specs.declared.Event.{Event}
 use Rattle.mailbox_event.specs.declared.When.{When}
 use Rattle.mailbox_event.proofs.Handed.{policy_called, tick_for, tick_called, event_called}
 use Rattle.mailbox_call.specs.Calls.{sound_when}
-use Rattle.mailbox_call.specs.Replies.{heard, asked_number}
-use Rattle.mailbox_call.specs.declared.Asked.{Asked}
-use Rattle.mailbox_call.specs.declared.Asked.TheVariants.{Known, Outside, Unknown}
+use Rattle.mailbox_call.specs.Replies.{heard}
 
 module _ (w : When) (q : Saved) where
   -- the call that hands an event over is for the states of its policy
@@ -33,19 +34,16 @@ module _ (w : When) (q : Saved) where
   called_for e = rw (policy_called w e)
 
   -- a state that does not take what is asked answers 19, whatever is asked
-  by_19 : (a : Asked) → sound_when w q ≡ false → heard w q a ≡ reply q 19 0
-  by_19 (Known e) s = give_unsound _ state_room _ q (call_tick (call_of w e)) (call_event (call_of w e)) (called_for e ∙ s)
-  by_19 Outside s = unsound 12 q q 0 s
-  by_19 Unknown s = unsound 11 q q 0 s
+  by_19 : (a : Result Event Refusal) → sound_when w q ≡ false → heard w q a ≡ reply q 19 0
+  by_19 (Ok e) s = give_unsound _ state_room _ q (call_tick (call_of w e)) (call_event (call_of w e)) (called_for e ∙ s)
+  by_19 (Err r) s = unsound (number r) q q 0 s
 
   -- and another answers what is no event by its number
-  by_number : (a : Asked) → ((e : Event) → a ≢ Known e) → sound_when w q ≡ true → heard w q a ≡ reply q (asked_number a) 0
-  by_number (Known e) none s = absurd (none e refl)
-  by_number Outside none s = refused 12 q q 0 s (λ z. omega arith)
-  by_number Unknown none s = refused 11 q q 0 s (λ z. omega arith)
+  by_number : (r : Refusal) → sound_when w q ≡ true → heard w q (Err r) ≡ reply q (number r) 0
+  by_number r s = refused (number r) q q 0 s (number_not_0 r)
 
 -- a is asked of the state that T tasks, L links and these arrays are
-module _ (T L : ℕ) (c v x : List ℕ) (w : When) (a : Asked) where
+module _ (T L : ℕ) (c v x : List ℕ) (w : When) (a : Result Event Refusal) where
   abbrev state : Saved
   state = state_of T L c v x
 
@@ -64,11 +62,11 @@ module _ (T L : ℕ) (c v x : List ℕ) (w : When) (a : Asked) where
       own : policy_in x ≡ policy_for w
       own = eqb-true (policy_in x) (policy_for w) (and_right (is_sound (ahead_among x) state_room state) _ sound)
 
-      pub heard_none : {r : ℕ} → ((e : Event) → a ≢ Known e) → r ≡ asked_number a → reply state r 0 ≡ heard w state a
-      heard_none none i = rw i (sym (by_number w state a none sound))
+      pub heard_none : {r : Refusal} → a ≡ Err r → reply state (number r) 0 ≡ heard w state a
+      heard_none {r} is = sym (ap (heard w state) is ∙ by_number w state r sound)
 
       -- an event, which a state of its policy judges r at its tick
-      module _ {e : Event} {r : ℕ} (known : a ≡ Known e)
+      module _ {e : Event} {r : ℕ} (known : a ≡ Ok e)
           (judged : policy_in x ≡ policy_for w → r ≡ judged_on_at (ahead_among x) (view_of T L c v x) (tick_for w) (plain e)) where
         sound_called : sound_for (ahead_among x) state_room (call_policy (call_of w e)) state ≡ true
         sound_called = called_for w state e ∙ sound

@@ -2,16 +2,15 @@
 -- Assumes nothing.
 use mathlib.Core.Path.{◌≡◌, refl, sym, ap, ◌∙◌}
 use mathlib.Core.Logic.{◌≢◌}
-use mathlib.Core.Bool.{Bool, true, false, cond, not, ◌&&◌, ◌||◌, or-false, and-true, and-false}
+use mathlib.Core.Bool.{Bool, true, false, cond, not, ◌&&◌, ◌||◌, or-false, and-false}
 use mathlib.Core.List.{List}
-use Prim.Native.Nat.{ℕ, zero, suc, ◌+◌, ◌/◌, ◌^◌, ◌≤◌, ◌<◌, min}
+use Prim.Native.Nat.{ℕ, zero, suc, ◌/◌, ◌^◌, ◌≤◌, ◌<◌, min}
 use native.Mathlib.Nat.{zero-min, min-eq_left}
 use native.Mathlib.Omega.{arith}
 use borrow.Author.Tests.{le-leb, lt-leb, lt-ltb, le-ltb, leb-true, leb-false, ne_eqb}
 use lib.Dec.{eqb, ltb, leb}
 use lib.ListN.{length, get_or-eq_default}
 use Rattle.lists.specs.Lists.{some, every}
-use Rattle.lists.proofs.Lists.{some_more}
 use Rattle.protocol_deadlines.specs.Deadline.{smaller}
 use Rattle.protocol_state.specs.Records.{earlier}
 use Rattle.protocol_state.specs.Saved.{at, active_phase}
@@ -55,25 +54,17 @@ idle_past f xs (suc t) = go (leb (suc t) (length xs)) refl (idle_past f xs t)
         let z : at xs t ≡ 0 = get_or-eq_default xs 0 h in
         rw (m, z, and-false (f t)) ih
 
--- one task more, of which f is asked where it is active, as b says: w is the answer
-module _ (f active : ℕ → Bool) (i : ℕ) {b h : Bool} (a : b ≡ active i) (s : h ≡ some (λ k. f k && active k) i) where
-  pub some_active : {w : Bool} → b ≡ true → w ≡ f i → (w || h) ≡ some (λ k. f k && active k) (i + 1)
-  some_active z e = some_more (λ k. f k && active k) i (e ∙ sym (and-true (f i)) ∙ ap (λ (x : Bool). f i && x) (sym z ∙ a)) s
-
-  pub some_idle : b ≡ false → h ≡ some (λ k. f k && active k) (i + 1)
-  some_idle z = some_more (λ k. f k && active k) i (sym (and-false (f i)) ∙ ap (λ (x : Bool). f i && x) (sym z ∙ a)) s
-
 -- of two that are not the same the smaller one is
 pub smaller_apart : (a b : ℕ) (tie : Bool) → a ≢ b → ltb a b ≡ smaller a b tie
 unfolding smaller
 smaller_apart a b tie n = rw (ne_eqb a b n) (sym (or-false (ltb a b)))
 
--- b says whether each may arrive, u what that means, and a shift by T whether there is a task past the table
+-- o says whether the set is empty or has a task past the table, b whether each of it may arrive
 pub arrival_judged :
-    (s T : ℕ) (ph : ℕ → ℕ) {b : Bool} {u r : ℕ} → b ≡ every (may_arrive s ph) T → u ≡ cond b 0 13 →
-    r ≡ cond (eqb s 0 || not (eqb (s / 2 ^ T) 0)) 12 u → r ≡ judged_arrival s T ph
+    (s T : ℕ) (ph : ℕ → ℕ) {o b : Bool} {r : ℕ} → (eqb s 0 || not (eqb (s / 2 ^ T) 0)) ≡ o → b ≡ every (may_arrive s ph) T →
+    r ≡ cond o 12 (cond b 0 13) → r ≡ judged_arrival s T ph
 unfolding judged_arrival
-arrival_judged s T ph eb eu er = rw (er, eu, eb, shifted s T)
+arrival_judged s T ph eo eb er = rw (er, eb, ← eo, shifted s T)
 
 -- who has to wait under fixed priorities: the search is among the tasks before t
 pub waits_before : (t n : ℕ) (ph : ℕ → ℕ) {b : Bool} → t < n → b ≡ some (λ u. active_phase (ph u)) t → b ≡ preempted earlier t n ph

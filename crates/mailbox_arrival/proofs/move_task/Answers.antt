@@ -18,6 +18,6 @@ returns c table ahead right T v x = let p = c in
     let h = f in
     let a = h.args in
     moves ahead _ _ (state_of T a.links a.control.now v x) _ h.has.ensures (ap not h.if-not-has.false) f.control_at-x.ensures (f.lowest_free-free.ensures table ahead right)
-    (rw d.control_at.ensures at d.decide-phase.ensures) (rw o.control_at-2.ensures at o.seen_once-seen.ensures)
+    (rw d.control_at.ensures at d.entry-phase.ensures) (rw o.control_at-2.ensures at o.seen_once-seen.ensures)
     (previous_put T _ _ _ v x p.put_control.ensures) (newest_put T _ _ _ v x c.put_control-2.ensures)
     (seen_put T _ _ _ v x c.put_control-3.ensures) (phase_put T _ _ _ v x c.put_control-4.ensures)

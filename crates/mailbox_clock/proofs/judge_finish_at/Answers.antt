@@ -8,7 +8,7 @@ use Rattle.mailbox_clock.proofs.judge_finish_at.Goals as goal
 pub returns : goal.returns
 returns c = let j = c in
     let a = j.args in
-    let ticked = rw c.late.ensures at c.try_tick.ensures in record {
-      answer = rw j.judge_job-refusal.ensures at ticked;
-      dated = λ dated L w v. dated_on (ahead_among a.times.now) (view_of a.tasks L a.control.now v a.times.now) a.tick (finish a.t w) dated j.judge_job-refusal.ensures ticked;
+    let ticked = rw c.in_time.ensures at c.try_tick.ensures in record {
+      answer = rw j.judge_job-judged.ensures at ticked;
+      dated = λ dated L w v. dated_on (ahead_among a.times.now) (view_of a.tasks L a.control.now v a.times.now) a.tick (finish a.t w) dated j.judge_job-judged.ensures ticked;
     }

@@ -1,27 +1,21 @@
 -- `mailbox_clock::keep_each` meets its contract: after t turns those of the first t tasks that are in the set have its tick.
 -- Assumes nothing.
 use mathlib.Core.Path.{sym, ap, ◌∙◌}
-use native.Mathlib.Omega.{arith}
 use Rattle.mailbox_layout.specs.Layout.{cut_times}
 use Rattle.mailbox_clock.proofs.Ticks.{kept_none, kept_in, kept_out, kept_end}
 use Rattle.mailbox_clock.proofs.keep_each.Goals as goal
 use Rattle.mailbox_clock.proofs.keep_each.Goals.{then-has, else-has}
 
 pub loop-t-init : goal.loop-t-init
-loop-t-init c = (omega arith, kept_none _ _ _)
+loop-t-init c = kept_none _ _ _
 
 pub loop-t-preserved : goal.loop-t-preserved
-loop-t-preserved c = let h = c in
-    let l = h in
-    let a = l.args in (
-      omega arith,
-      elim c.if-has.branch [
-        | then-has w ↦ kept_in a.set a.tick a.times.now _ l.loop-t.times l.loop-t.invariant.1 (sym h.has.ensures ∙ w.if-has.true) _ (ap cut_times w.times-is ∙ w.put_entry.ensures)
-        | else-has w ↦ ap cut_times w.times-is ∙ kept_out a.set a.tick a.times.now _ l.loop-t.times l.loop-t.invariant.1 (sym h.has.ensures ∙ w.if-has.false)
-      ],
-    )
+loop-t-preserved c = let a = c.args in
+    elim c.if-has.branch [
+      | then-has w ↦ kept_in a.set a.tick a.times.now _ c.loop-t.times c.loop-t.invariant (sym c.has.ensures ∙ w.if-has.true) _ (ap cut_times w.times-is ∙ w.put_entry.ensures)
+      | else-has w ↦ ap cut_times w.times-is ∙ kept_out a.set a.tick a.times.now _ c.loop-t.times c.loop-t.invariant (sym c.has.ensures ∙ w.if-has.false)
+    ]
 
 pub returns : goal.returns
-returns c = let l = c in
-    let a = l.args in
-    kept_end a.set a.tick a.times.now _ _ l.loop-t.times l.loop-t.invariant.1 l.loop-t.invariant.0 c.loop-t-test.false
+returns c = let a = c.args in
+    kept_end a.set a.tick a.times.now _ _ c.loop-t.times c.loop-t.invariant c.loop-t.auto.t-end c.loop-t-test.false

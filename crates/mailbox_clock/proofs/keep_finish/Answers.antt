@@ -10,7 +10,8 @@ use Rattle.mailbox_clock.proofs.keep_finish.Goals as goal
 pub returns : goal.returns
 unfolding since_after
 returns c = let s = c in
-    let a = s.args in record {
-      times = c.put_entry-2.ensures ∙ ap (last_put a.tick) s.put_entry.ensures;
-      dated = λ dated T L w k v. clock_goes T L k v a.times.now _ (finish _ w) dated _ _ s.put_entry.ensures c.put_entry-2.ensures;
+    let a = s.args in
+    let back = rw c.from.ensures at s.put_entry.ensures in record {
+      times = c.put_entry-2.ensures ∙ ap (last_put a.tick) back;
+      dated = λ dated T L w k v. clock_goes T L k v a.times.now _ (finish _ w) dated _ _ back c.put_entry-2.ensures;
     }

@@ -1,13 +1,8 @@
--- `mailbox_judge::judge_job` meets its contract: outside the table, and inside it, by its phase and by whether an active job goes before its own.
+-- `mailbox_judge::judge_job` meets its contract: the jobs that go before are those that are due earlier.
 -- Assumes nothing.
-use Rattle.mailbox_judge.proofs.Judged.{judged_outside, judged_inside}
+use Rattle.std.proofs.Common.{rules}
+use Rattle.mailbox_layout.specs.Layout.{sooner_among}
 use Rattle.mailbox_judge.proofs.judge_job.Goals as goal
 
-pub returns-then-n-i : goal.returns-then-n-i
-returns-then-n-i c = rw (← c.few-n.ensures) (judged_outside _ _ _ _ _ c.if-n-i.true)
-
 pub returns : goal.returns
-returns c = let phase = c in
-    let search = phase in
-    let i = search in
-    rw (← i.few-n.ensures) (judged_inside _ _ _ _ _ i.if-n-i.false phase.control_at.ensures search.some_sooner-wait.ensures c.judge_turn.ensures)
+returns c = c.judge_by.ensures (sooner_among c.args.times.now) (λ l b p. (search rules))

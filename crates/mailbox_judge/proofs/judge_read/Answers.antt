@@ -1,10 +1,16 @@
 -- `mailbox_judge::judge_read` meets its contract: outside the table, and inside it.
 -- Assumes nothing.
+use mathlib.Core.Path.{◌≡◌}
+use native.Mathlib.Omega.{arith}
+use Rattle.std.specs.Prelude.{Err}
+use Rattle.refusals.specs.declared.Refusal.TheVariants.{Outside}
 use Rattle.mailbox_judge.proofs.Judged.{read_outside, read_inside}
 use Rattle.mailbox_judge.proofs.judge_read.Goals as goal
 
-pub returns-then-few-i : goal.returns-then-few-i
-returns-then-few-i c = rw (← c.few.ensures) (read_outside _ _ _ _ _ _ c.if-few-i.true)
+pub returns-in_err-reader : goal.returns-in_err-reader
+returns-in_err-reader c =
+    let e : c.from_residual.result ≡ Err Outside = grind arith in
+    rw e (read_outside _ _ _ _ _ _ c.in_err-reader.ensures.0)
 
 pub returns : goal.returns
-returns c = rw (← c.few.ensures) (read_inside _ _ _ _ _ _ c.if-few-i.false (rw (← c.control_at.ensures) c.judge_task.ensures))
+returns c = read_inside _ _ _ _ _ _ c.in_ok-reader.ensures.0 (rw (← c.in_ok-reader.ensures.1) c.judge_task.ensures)

@@ -8,4 +8,4 @@ use Rattle.mailbox_parts.proofs.do_dated.Goals as goal
 pub returns : goal.returns
 returns c dated ahead right = let d = c in
     let a = d.args in
-    c.clock.ensures dated _ _ _ ∙ ap (clocked a.tick (plain a.e)) (d.do_plainly.ensures ahead right a.times.now)
+    c.clock.ensures dated _ _ _ ∙ ap (clocked a.tick (plain a.e)) (d.do_fixed.ensures.plainly ahead right a.times.now)

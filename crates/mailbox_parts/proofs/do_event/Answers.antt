@@ -5,9 +5,8 @@ use Rattle.mailbox_clock.proofs.Judged.{is_dated_lem, is_fixed}
 use Rattle.mailbox_parts.proofs.do_event.Goals as goal
 
 pub returns-then-is_dated : goal.returns-then-is_dated
-returns-then-is_dated c = let i = c in
-    c.do_dated.ensures (is_dated_lem _ (sym i.is_dated.ensures ∙ i.if-is_dated.true))
+returns-then-is_dated c = c.do_dated.ensures (is_dated_lem _ (sym c.is_dated.ensures ∙ c.if-is_dated.true))
 
-pub returns : goal.returns
-returns c ahead right = let i = c in
-    c.do_fixed.ensures ahead right _ _ (is_fixed _ (sym i.is_dated.ensures ∙ i.if-is_dated.false))
+pub returns-else-is_dated : goal.returns-else-is_dated
+returns-else-is_dated c ahead right =
+    c.do_fixed.ensures.fixed ahead right _ _ (is_fixed _ (sym c.is_dated.ensures ∙ c.if-is_dated.false))

@@ -2,6 +2,8 @@
 -- Assumes nothing.
 use mathlib.Core.Path.{◌≡◌}
 use borrow.Author.Rules.{rules}
+use Rattle.std.specs.Result.{result_unwrap_or}
+use Rattle.refusals.specs.Numbers.{told}
 use Rattle.protocol_state.specs.Saved.{state_room}
 use Rattle.protocol_state.specs.Give.{reply, given_to}
 use Rattle.mailbox_layout.specs.Layout.{state_of}
@@ -15,14 +17,14 @@ pub returns : goal.returns
 returns c = let m = c in
     let a = m in
     let q = a.args.self in
-    let given : reply (state_of q.tasks q.links m.match-when.control m.match-when.values m.match-when.times) m.match-when.refusal m.match-when.value
+    let given : reply (state_of q.tasks q.links m.match-when.control m.match-when.values m.match-when.times) (told m.match-when.given) (result_unwrap_or m.match-when.given 0)
     ≡ given_to state_room (saved q) (call_of a.args.when a.args.e) =
     elim m.match-when.branch [
-      | in-Untimed w ↦ rw (w.control-is, w.values-is, w.times-is, w.refusal-is, w.value-is, w.in-Untimed.is) w.give-refusal.ensures.answer
-      | in-At w ↦ rw (w.control-is, w.values-is, w.times-is, w.refusal-is, w.value-is, w.in-At.is) w.give_at-refusal.ensures.answer
+      | in-Untimed w ↦ rw (w.control-is, w.values-is, w.times-is, w.given-is, w.in-Untimed.is) w.give-given.ensures.answer
+      | in-At w ↦ rw (w.control-is, w.values-is, w.times-is, w.given-is, w.in-At.is) w.give_at-given.ensures.answer
     ] in
     let d : Gives q (call_of a.args.when a.args.e) _ = record {
-      answer = same_reply c.itself.result _ c.itself.ensures.same given;
+      answer = same_reply c.itself.result _ c.itself.ensures.same (rw (c.from.ensures.0, c.from.ensures.1) given);
       lent = search rules;
       whole = c.itself.ensures.whole;
     } in

@@ -1,36 +1,49 @@
 -- `mailbox_base::decision::decide` meets its contract: the code's table is the definition's, entry by entry.
 -- Assumes nothing.
-use mathlib.Core.Path.{◌≡◌, refl, ap}
-use mathlib.Core.Logic.{◌≢◌}
-use mathlib.Core.Bool.{Bool, true, false, cond}
+use mathlib.Core.Path.{◌≡◌, ap}
 use Prim.Native.Nat.{ℕ, ◌+◌, ◌*◌, ◌%◌, min}
 use native.Mathlib.Omega.{arith}
-use borrow.Author.Tests.{eqb-true, eqb-false}
-use lib.Dec.{eqb}
 use lib.ListN.{get_or}
 use Rattle.protocol_state.specs.Decision.{decisions, decided}
 use Rattle.mailbox_base.proofs.decision.decide.Goals as goal
 
--- the three entries of a row: one of them stands at the phase's column
-column : (r p : ℕ) → cond (eqb p 0) (get_or decisions r 0) (cond (eqb p 1) (get_or decisions (r + 1) 0) (get_or decisions (r + 2) 0)) ≡ get_or decisions (r + min p 2) 0
-column r p = go (eqb p 0) (eqb p 1) refl refl where
-  entry : (i : ℕ) → i ≡ r + min p 2 → get_or decisions i 0 ≡ get_or decisions (r + min p 2) 0
-  entry i e = ap (λ (j : ℕ). get_or decisions j 0) e
-
-  go : (a b : Bool) → eqb p 0 ≡ a → eqb p 1 ≡ b →
-      cond a (get_or decisions r 0) (cond b (get_or decisions (r + 1) 0) (get_or decisions (r + 2) 0)) ≡ get_or decisions (r + min p 2) 0
-  go true b e f =
-      let z : p ≡ 0 = eqb-true p 0 e in
-      entry r (omega arith)
-  go false true e f =
-      let z : p ≡ 1 = eqb-true p 1 f in
-      entry (r + 1) (omega arith)
-  go false false e f =
-      let y : p ≢ 0 = eqb-false p 0 e in
-      let z : p ≢ 1 = eqb-false p 1 f in
-      entry (r + 2) (omega arith)
-
-pub returns : goal.returns
+-- the entry of a row and a column: what is no phase has the last one
+entry : (row column p : ℕ) → min p 2 ≡ column → decided row p ≡ get_or decisions (row % 4 * 3 + column) 0
 unfolding decided
-returns c = let a = c.args in
-    rw (c.pick.ensures, c.pick-later.ensures) (column (a.kind % 4 * 3) a.phase)
+entry row column p e = ap (λ (i : ℕ). get_or decisions (row % 4 * 3 + i) 0) e
+
+pub returns-in-Arrival-eq0 : goal.returns-in-Arrival-eq0
+returns-in-Arrival-eq0 c = rw c.in-Arrival-eq0.is-0 (entry 0 0 c.args.phase (omega arith), omega arith)
+
+pub returns-in-Arrival-eq1 : goal.returns-in-Arrival-eq1
+returns-in-Arrival-eq1 c = rw c.in-Arrival-eq1.is-0 (entry 0 1 c.args.phase (omega arith), omega arith)
+
+pub returns-in-Arrival-default : goal.returns-in-Arrival-default
+returns-in-Arrival-default c = rw c.in-Arrival-default.is-0 (entry 0 2 c.args.phase (omega arith), omega arith)
+
+pub returns-in-Start-eq0 : goal.returns-in-Start-eq0
+returns-in-Start-eq0 c = rw c.in-Start-eq0.is-0 (entry 1 0 c.args.phase (omega arith), omega arith)
+
+pub returns-in-Start-eq1 : goal.returns-in-Start-eq1
+returns-in-Start-eq1 c = rw c.in-Start-eq1.is-0 (entry 1 1 c.args.phase (omega arith), omega arith)
+
+pub returns-in-Start-default : goal.returns-in-Start-default
+returns-in-Start-default c = rw c.in-Start-default.is-0 (entry 1 2 c.args.phase (omega arith), omega arith)
+
+pub returns-in-Read-eq0 : goal.returns-in-Read-eq0
+returns-in-Read-eq0 c = rw c.in-Read-eq0.is-0 (entry 2 0 c.args.phase (omega arith), omega arith)
+
+pub returns-in-Read-eq1 : goal.returns-in-Read-eq1
+returns-in-Read-eq1 c = rw c.in-Read-eq1.is-0 (entry 2 1 c.args.phase (omega arith), omega arith)
+
+pub returns-in-Read-default : goal.returns-in-Read-default
+returns-in-Read-default c = rw c.in-Read-default.is-0 (entry 2 2 c.args.phase (omega arith), omega arith)
+
+pub returns-in-Finish-eq0 : goal.returns-in-Finish-eq0
+returns-in-Finish-eq0 c = rw c.in-Finish-eq0.is-0 (entry 3 0 c.args.phase (omega arith), omega arith)
+
+pub returns-in-Finish-eq1 : goal.returns-in-Finish-eq1
+returns-in-Finish-eq1 c = rw c.in-Finish-eq1.is-0 (entry 3 1 c.args.phase (omega arith), omega arith)
+
+pub returns-in-Finish-default : goal.returns-in-Finish-default
+returns-in-Finish-default c = rw c.in-Finish-default.is-0 (entry 3 2 c.args.phase (omega arith), omega arith)
