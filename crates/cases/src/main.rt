@@ -28,7 +28,8 @@ fn print_named(word: &[u8], n: u64) {
     io::write_all(STDOUT_FILENO, b"\n");
 }
 
-// Reads a file until the room is full, the file ends or a read fails: how many bytes were put at the start of the buffer.
+// Reads a file until the room is full, the file ends or a read fails: how many bytes were put at the start of the buffer. By `while`: how many bytes
+// a read gives is not known before it.
 fn fill(file: &mut impl Read, bytes: &mut [u8]) -> usize
     ensures { IsPrefixLen result bytes.new }
 {

@@ -66,7 +66,7 @@ pub struct Desk {
     now: State,
     // when the events of the line are handed over
     when: When,
-    // the first byte of the line, 0 before it
+    // the first byte of the line, 0 before it: as in a word, a byte that is 0 is none
     line: u8,
     naming: bool,
     word: Word,

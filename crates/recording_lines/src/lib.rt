@@ -24,7 +24,7 @@ pub struct Task {
     pub since: u32,
 }
 
-// A word and a number: their line.
+// A word and a number: their line. Here and below a count is made a number by `as`, since there is no `From` for it.
 #[tactic(auto, using(crate::proofs::Lengths::pieces))]
 fn put_named(word: &[u8], n: u64, out: &mut [u8]) -> usize
     requires { length word.now ≤ 8 }
