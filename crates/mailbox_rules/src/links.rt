@@ -6,7 +6,7 @@ ghost use Rattle.protocol_state.specs.Saved.{at, state_room};
 ghost use Rattle.mailbox_layout.specs.Layout.{writer_in, reader_in};
 ghost use Rattle.mailbox_plan.specs.Plan.{Planned};
 
-use lists::{count, few, some};
+use lists::{few, some};
 use mailbox_base::numbers::{LINKS, TASKS};
 use mailbox_layout::{CONTROL, InControl, control_at};
 use mailbox_plan::goes_behind;
@@ -26,9 +26,14 @@ pub fn readers_behind(plan: &[u8; LINKS], control: &[u8; CONTROL], n: usize, t: 
     ensures count { (ahead : ℕ → ℕ → Bool) → Planned ahead (at (writer_in control.now)) (at (reader_in control.now)) (min n state_room.links) plan.now → result ≡ behinds ahead (at (writer_in control.now)) (at (reader_in control.now)) t (min n state_room.links) }
     ensures bound { result ≤ state_room.links }
 {
-    count(few(n, LINKS), |l| {
-        (control_at(control, InControl::Writer, l) as usize == t) & goes_behind(plan, l)
-    })
+    // In a byte, so that the compiler asks sixteen links at once: for a count as wide as a place, as `lists::count` has it, it asks four.
+    let mut c: u8 = 0;
+    for l in 0..few(n, LINKS) {
+        c += u8::from(
+            (control_at(control, InControl::Writer, l) as usize == t) & goes_behind(plan, l),
+        );
+    }
+    usize::from(c)
 }
 
 // N of task `t` by the counts; 0 for a task that there is no room for.
