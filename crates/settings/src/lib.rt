@@ -14,7 +14,7 @@ pub use settings_list::{Migration, SETTINGS, Slot};
 mod write;
 
 // What writing back came to: the refusal, 0 for none, and its place in the list as it would be written; for none, how many bytes were written.
-// Numbers, since the demands and the programs speak of them.
+// Numbers, since the demands speak of them.
 #[derive(Clone, Copy)]
 pub struct Written {
     pub refusal: u8,

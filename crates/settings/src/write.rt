@@ -1,4 +1,5 @@
-// Settings written back: judged whole before the first byte is written.
+// Settings written back: judged whole before the first byte is written. The slots and how many of them count are two parameters throughout, as
+// in `write_back`, whose clauses and the demands speak of both.
 ghost use Rattle.std.specs.Prelude.{◌≡◌, ◌++◌, ◌+◌, ◌*◌, ◌≤◌, ◌<◌, length, drop, MatchOption, OnOk};
 ghost use Rattle.settings.specs.Writing.{first_bad, AllGood, HeldSlots, list_of, written, written_of, back_buffer};
 

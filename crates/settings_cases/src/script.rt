@@ -36,7 +36,7 @@ fn hexadecimal(n: u64, c: u8) -> u64 {
     n % HEX_DIGITS * 16 + u64::from(digit(c))
 }
 
-// What the script is at.
+// What the script is at. Arrays with beside them how much of them is filled, since no heap is used.
 #[derive(Clone, Copy)]
 pub struct Desk {
     at: Place,

@@ -30,6 +30,19 @@ impl TryFrom<u8> for Code {
     }
 }
 
+// The code byte of an entry of this kind.
+impl From<Code> for u8 {
+    ghost from_gives = { λ code b. b ≡ entry.byte_of code };
+
+    fn from(code: Code) -> u8 {
+        match code {
+            Code::Margin => 1,
+            Code::Feed => 2,
+            Code::Count => 3,
+        }
+    }
+}
+
 // What stands at a place as a code byte.
 #[tactic(auto, unfolding(byte_format::specs::Kinded::first_byte))]
 pub fn code_at(s: &[u8], at: usize) -> Result<Code, Refusal>

@@ -7,7 +7,8 @@ ghost use Rattle.std.specs.Float.Ieee.{of_bits};
 ghost use Rattle.settings_float.specs.AboveZero.{above_zero};
 ghost use Rattle.settings_entry.specs.Found.{next_of, setting_judged, setting_taken};
 
-use crate::code::{Code, code_at};
+use crate::code::code_at;
+pub use code::Code;
 use lent_bytes::number::number_at;
 use lent_bytes::place::room;
 use refusals::Refusal;

@@ -20,7 +20,7 @@ pub struct Slot {
 }
 
 // What a list is read as: the refusal, 0 for none, its place, and the settings, of which so many are there. Past them stand counts of 0;
-// after a refusal none is there. Numbers, since the demands and the programs speak of them.
+// after a refusal none is there. Numbers, since the demands speak of them; an array with its number beside, since no heap is used.
 #[derive(Clone, Copy)]
 pub struct Migration {
     pub refusal: u8,

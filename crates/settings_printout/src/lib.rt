@@ -14,11 +14,12 @@ ghost use Rattle.settings_printout.specs.Lines.{setting_line};
 
 use recording_lines::put_refused;
 use settings::{Migration, SETTINGS, Setting, Slot, migrate};
+use settings_entry::ENTRY;
 use settings_lines::{LINE, put_count, put_feed, put_margin, put_migrated};
 use text_line::show;
 
 // The bytes of the longest list, its count and its entries, and one more so that an extra byte is seen.
-pub const BYTES: usize = 1 + 9 * SETTINGS + 1;
+pub const BYTES: usize = 1 + ENTRY * SETTINGS + 1;
 
 // The line of a setting, with its number in the list. A margin and a feed rate are shown by the bits of their float.
 #[tactic(auto, using(settings_float::proofs::Floats::no_nan, settings_entry::proofs::Faults::good_float))]

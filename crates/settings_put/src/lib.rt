@@ -10,7 +10,7 @@ ghost use Rattle.settings_put.specs.Put.{entry_put};
 
 use lent_bytes::number::put_number;
 use lent_bytes::place::left;
-use settings_entry::{ENTRY, Setting};
+use settings_entry::{Code, ENTRY, Setting};
 use settings_float::above_zero;
 
 // Whether a setting may stand in a list: a margin and a feed rate only where they are finite and above zero, a count always.
@@ -26,11 +26,11 @@ pub fn is_good(setting: Setting) -> bool
 
 // Puts a code byte and eight bytes.
 #[tactic(auto, using(lent_bytes::proofs::Puts::put_byte_number))]
-fn put_coded(code: u8, bits: u64, out: &mut [u8], at: usize)
+fn put_coded(code: Code, bits: u64, out: &mut [u8], at: usize)
     requires { at + 9 ≤ length out.old }
-    ensures { out.new ≡ put_at out.old at (code ∷ bytes_of 8 bits) }
+    ensures { out.new ≡ put_at out.old at (encode_entry (record { kind = code; bits = bits })) }
 {
-    put_number(u64::from(code), 1, out, at);
+    put_number(u64::from(u8::from(code)), 1, out, at);
     put_number(bits, 8, out, at + 1);
 }
 
@@ -41,9 +41,9 @@ fn put_good(setting: Setting, out: &mut [u8], at: usize)
     ensures { out.new ≡ put_at out.old at (encode_entry (entry_of setting)) }
 {
     match setting {
-        Setting::Margin(x) => put_coded(1, x.to_bits(), out, at),
-        Setting::Feed(x) => put_coded(2, x.to_bits(), out, at),
-        Setting::Count(n) => put_coded(3, n, out, at),
+        Setting::Margin(x) => put_coded(Code::Margin, x.to_bits(), out, at),
+        Setting::Feed(x) => put_coded(Code::Feed, x.to_bits(), out, at),
+        Setting::Count(n) => put_coded(Code::Count, n, out, at),
     }
 }
 
