@@ -1,43 +1,31 @@
-// What one event of a replay leaves, and what many do: the refusal and the counts. The laws of a turn are over both policies.
+// What the events of a replay leave: how far they went, why they ended there, and the counts. The laws of a turn are over both policies.
 #![tactic(auto)]
 
-ghost use Rattle.std.specs.Prelude.{◌≡◌};
+ghost use Rattle.std.specs.Prelude.{◌≡◌, Ok};
 ghost use Rattle.recording_core.specs.Playing.{no_counts};
 ghost use Rattle.recording_turn.specs.Parts.{counts_of};
 
-use crate::counts::{Counts, none};
+use refusals::Refusal;
+
+use crate::counts::Counts;
 
 pub mod counts;
 
-// What one event gives: the refusal, 0 for none, and the counts after it.
-#[derive(Clone, Copy)]
-pub struct Turn {
-    pub refusal: u8,
-    pub counts: Counts,
-}
-
-// A refusal: nothing is counted.
-pub fn refused(refusal: u8, counts: Counts) -> Turn
-    ensures { result ≡ record { refusal = refusal; counts = counts } }
-{
-    Turn { refusal, counts }
-}
-
-// What many give: the refusal, 0 for none, and its place, else the place after the last event; and the counts.
-#[derive(Clone, Copy)]
+// How events ended: none of them refused, and the place after the last, or why one was refused, and its place; and the counts of those before.
+#[derive(Clone, Copy, Debug, PartialEq, Eq)]
 pub struct Played {
-    pub refusal: u8,
+    pub ended: Result<(), Refusal>,
     pub place: usize,
     pub counts: Counts,
 }
 
 // No event was played, from a place on.
 pub fn unplayed(place: usize) -> Played
-    ensures { (result.refusal ≡ 0) × (result.place ≡ place) × (counts_of result.counts ≡ no_counts) }
+    ensures { (result.ended ≡ Ok tt) × (result.place ≡ place) × (counts_of result.counts ≡ no_counts) }
 {
     Played {
-        refusal: 0,
+        ended: Ok(()),
         place,
-        counts: none(),
+        counts: Counts::default(),
     }
 }
