@@ -5,9 +5,8 @@ ghost use Rattle.std.specs.Prelude.{◌≡◌, Ok};
 ghost use Rattle.recording_core.specs.Playing.{no_counts};
 ghost use Rattle.recording_turn.specs.Parts.{counts_of};
 
-use refusals::Refusal;
-
 use crate::counts::Counts;
+use refusals::Refusal;
 
 pub mod counts;
 
