@@ -1,14 +1,10 @@
 -- Two answers that a contract allows for one input are equal: each contract fixes all that its caller sees, by equations.
 -- Assumes nothing.
 use mathlib.Core.Path.{◌≡◌, refl, sym, ap, ◌∙◌}
-use mathlib.Core.Bool.{cond}
 use mathlib.Core.List.{List}
 use Prim.Native.Nat.{ℕ}
-use lib.Dec.{eqb}
 use Rattle.protocol.specs.Event as protocol
 use Rattle.protocol.specs.Event.{arrival, start, read, finish}
-use Rattle.byte_format.specs.Format.{Got, got, stop}
-use Rattle.recording_format.specs.Event as format
 use Rattle.mailbox_event.specs.declared.Event.{Event}
 use Rattle.mailbox_event.specs.declared.Event.TheVariants.{Arrival, Start, Read, Finish}
 use Rattle.mailbox_event.specs.Plain.{plain}
@@ -19,7 +15,7 @@ use Rattle.refusals.proofs.Numbers.{number_once}
 use Rattle.recording_event.specs.Next.{got_of}
 use Rattle.recording_event.specs.declared.Record.{Record}
 use Rattle.protocol_state.specs.Saved.{Saved}
-use Rattle.protocol_deadlines.specs.Timed.{Timed, timed}
+use Rattle.protocol_deadlines.specs.Timed.{timed}
 use Rattle.protocol_state.specs.Give.{Reply, Call}
 use Rattle.protocol_state.specs.Fresh as fresh
 use Rattle.byte_format.specs.Play.{Verdict}
@@ -32,6 +28,8 @@ use Rattle.mailbox.proofs.Packed.{saved_same}
 use Rattle.recording_table.specs.Heads.{Heads}
 use Rattle.recording_table.specs.Sections.{HoldsTable}
 use Rattle.recording_table.specs.declared.Table.{Table}
+use Rattle.recording_text.proofs.Texts.{one_read}
+use Rattle.recording_make.proofs.Makes.{one_recording}
 use Rattle.demands.proofs.Only.{reply_parts}
 use Rattle.one_answer.specs.OneAnswer.{OneAnswer}
 
@@ -144,9 +142,9 @@ one_answer = record {
   write = λ κs lent a b left left' x y. λ i. (same x.0 y.0 i, same x.1.0 y.1.0 i);
   migrate = λ κs lent a b left left' x y. same x.0 y.0;
   write_back = λ κs lent a b left left' x y. λ i. (same x.0 y.0 i, same x.1.0 y.1.0 i);
-  read_text = λ κs lent a b left left' x y. λ i. (same x.0 y.0 i, (same x.1.0 y.1.0 i, (same x.1.1.0 y.1.1.0 i, same x.1.1.1 y.1.1.1 i)));
+  read_text = λ κs lent a b left left' x y. λ i. (one_read a b (same x.0 y.0) i, (same x.1.0 y.1.0 i, (same x.1.1.0 y.1.1.0 i, same x.1.1.1 y.1.1.1 i)));
   line_of = λ κs lent a b left left' x y. same x y;
-  make_recording = λ κs lent a b left left' x y. λ i. (same x.0 y.0 i, same x.1 y.1 i);
+  make_recording = λ κs lent a b left left' x y. λ i. (one_recording a b (same x.0 y.0) x.1.0 y.1.0 i, same x.1.1 y.1.1 i);
   host_fresh = λ κs lent a b left left' x y. let e = same x y in λ i. ((e i).refusal, (e i).state);
   host_fresh_dated = λ κs lent a b left left' x y. let e = same x y in λ i. ((e i).refusal, (e i).state);
   host_event = λ κs lent a b left left' x y. let e = same x.0 y.0 in

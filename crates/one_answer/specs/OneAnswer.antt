@@ -18,7 +18,8 @@ use Rattle.recording_write.specs.declared.Written as writer
 use Rattle.settings_list.specs.declared.Migration.{Migration}
 use Rattle.settings.specs.declared.Written as settings
 use Rattle.recording_text.specs.declared.Read.{Read}
-use Rattle.recording_make.specs.declared.Made as make
+use Rattle.recording_text.specs.declared.Unread.{Unread}
+use Rattle.recording_make.specs.declared.Unmade.{Unmade}
 use Rattle.recording_walk.specs.declared.Walker.{Walker}
 use Rattle.host_demands.specs.Hosts.{state_with, state_in}
 use Rattle.mailbox.proofs.State.fresh.Kinds as of_fresh
@@ -198,10 +199,10 @@ pub record OneAnswer : Type 0 where
   pub migrate : One 1 of_migrate.ps of_migrate.r on_migrate.Learnt Migration (λ κs m left. m)
   pub write_back : One 1 of_write_back.ps of_write_back.r on_write_back.Learnt (settings.Written × List ℕ) (λ κs a left. (a, left.1.1.0.now))
   -- `recording_text`: the answer, and the three lent lists
-  pub read_text : One 4 of_read_text.ps of_read_text.r on_read_text.Learnt (Read × (List ℕ × (List ℕ × List ℕ))) (λ κs a left. (a, (left.1.0.now, (left.1.1.0.now, left.1.1.1.0.now))))
+  pub read_text : One 4 of_read_text.ps of_read_text.r on_read_text.Learnt (Result Read Unread × (List ℕ × (List ℕ × List ℕ))) (λ κs a left. (a, (left.1.0.now, (left.1.1.0.now, left.1.1.1.0.now))))
   pub line_of : One 1 of_line_of.ps of_line_of.r on_line_of.Learnt ℕ (λ κs n left. n)
   -- `recording_make`: the answer, and the lent buffer
-  pub make_recording : One 2 of_make_recording.ps of_make_recording.r on_make_recording.Learnt (make.Made × List ℕ) (λ κs a left. (a, left.1.0.now))
+  pub make_recording : One 2 of_make_recording.ps of_make_recording.r on_make_recording.Learnt (Result ℕ Unmade × List ℕ) (λ κs a left. (a, left.1.0.now))
   -- what hosts link: the refusal, and all that is lent to be changed; of a state, what its arrays hold
   pub host_fresh : One 10 of_host_fresh.ps of_host_fresh.r on_host_fresh.Learnt (ℕ × Saved) (λ κs r left. (r, state_in left.1.1.1.1.1.1.1))
   pub host_fresh_dated : One 11 of_host_fresh_dated.ps of_host_fresh_dated.r on_host_fresh_dated.Learnt (ℕ × Saved) (λ κs r left. (r, state_in left.1.1.1.1.1.1.1.1))

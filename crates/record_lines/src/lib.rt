@@ -7,7 +7,7 @@ ghost use Rattle.record_lines.specs.Lines.{reason, fault_line, refused_line, too
 
 use text_line::Line;
 
-// A line with the reason for a fault more. What is no fault has words of its own.
+// A line with the reason for a fault more. The fault is a number, since any number may be told: one that is no fault's has words of its own.
 fn with_reason(line: Line, fault: u8) -> Line
     ensures { shown result ≡ joined (shown line) (reason fault) }
 {
@@ -41,7 +41,7 @@ pub fn put_refused(line: usize, refusal: u8, place: usize, out: &mut [u8]) -> us
         .text(b"line")
         .number(line as u64)
         .text(b": refused")
-        .number(refusal as u64)
+        .number(u64::from(refusal))
         .text(b" at")
         .number(place as u64);
     whole.put(out)

@@ -1,8 +1,7 @@
 -- What is printed of a text.
 -- Assumes nothing.
 use Rattle.std.specs.Prelude.{cond, ◌&&◌, List, ℕ, eqb, ltb, length}
-use Rattle.recording_make.specs.Made.{made_of}
-use Rattle.recording_make.specs.declared.Made.{Made}
+use Rattle.recording_make.specs.Made.{Made, made_of}
 
 -- the room for a recording: the bytes of the longest, one of the dated kind
 abbrev pub longest : ℕ

@@ -8,23 +8,25 @@ ghost use Rattle.std.specs.Prelude.{◌≡◌};
 ghost use Rattle.record_printout.specs.Printed.{length_printed};
 
 use record_lines::{put_fault, put_refused, put_too_long};
-use recording_make::make_recording;
+use recording_make::{Unmade, make_recording};
 use recording_table::RECORDING;
 use text_line::{ROOM, show, show_error};
 
 // The bytes of the longest text.
 pub const TEXT: usize = 1048576;
 
-// Tells on standard error that a line cannot be read.
-fn tell_fault(line: usize, fault: u8) {
+// Tells on standard error why a text has no recording.
+fn tell(unmade: Unmade) {
     let mut room = [0u8; ROOM];
-    show_error(put_fault(line, fault, &mut room), &room);
-}
-
-// Tells on standard error which line is refused.
-fn tell_refused(line: usize, refusal: u8, place: usize) {
-    let mut room = [0u8; ROOM];
-    show_error(put_refused(line, refusal, place, &mut room), &room);
+    let n = match unmade {
+        Unmade::Unreadable { fault, line } => put_fault(line, u8::from(fault), &mut room),
+        Unmade::Refused {
+            refusal,
+            place,
+            line,
+        } => put_refused(line, refusal, place, &mut room),
+    };
+    show_error(n, &room);
 }
 
 // Tells on standard error that the text is too long.
@@ -42,15 +44,14 @@ pub fn print_recording(text: &[u8]) -> usize
         return 0;
     }
     let mut out = [0u8; RECORDING];
-    let made = make_recording(text, &mut out);
-    if made.fault != 0 {
-        tell_fault(made.line, made.fault);
-        return 0;
+    match make_recording(text, &mut out) {
+        Ok(n) => {
+            show(n, &out);
+            n
+        }
+        Err(unmade) => {
+            tell(unmade);
+            0
+        }
     }
-    if made.refusal != 0 {
-        tell_refused(made.line, made.refusal, made.place);
-        return 0;
-    }
-    show(made.place, &out);
-    made.place
 }

@@ -3,33 +3,42 @@
 
 ghost use Rattle.std.specs.Prelude.{◌≡◌, length};
 ghost use Rattle.recording_write.specs.Answers.{reply_to, buffer_to};
-ghost use Rattle.recording_make.specs.Made.{line_told, make_reply, made_of, buffer_of};
+ghost use Rattle.recording_make.specs.Made.{make_reply, made_of, buffer_of, told, Refuses};
 
 use recording_format::which_kind;
-use recording_text::{EVENTS, LINKS, TASKS, line_of, read_text};
+use recording_text::{EVENTS, LINKS, TASKS, Unread, line_of, read_text};
+use recording_text_fields::fault::Fault;
 use recording_write::write;
 
-// What making came to: why the text cannot be read, 0 where it can; the line at fault, from 1, 0 where there is none; the writer's refusal, 0
-// for none, and its place in the recording; for no fault and no refusal, how many bytes were written.
-#[derive(Clone, Copy)]
-pub struct Made {
-    pub fault: u8,
-    pub line: usize,
-    pub refusal: u8,
-    pub place: usize,
+// Why a text has no recording, and in which line, from 1: it cannot be read, or the writer refuses it, at a place in the recording. The refusal is a
+// number, as the writer's answer has it.
+#[derive(Clone, Copy, Debug, PartialEq, Eq)]
+pub enum Unmade {
+    Unreadable {
+        fault: Fault,
+        line: usize,
+    },
+    Refused {
+        refusal: u8,
+        place: usize,
+        line: usize,
+    },
 }
 
-// The line of a refusal of the writer that was told a kind, 0 for none.
-fn line_told(kind: u32, text: &[u8], refusal: u8, place: usize) -> usize
-    ensures { result ≡ line_told kind text.now refusal place }
-{
-    if refusal == 0 {
-        return 0;
+impl From<Unread> for Unmade {
+    ghost use Rattle.recording_make.specs.declared.Unmade.TheVariants.{Unreadable};
+
+    ghost from_gives = { λ u r. r ≡ Unreadable u.fault u.line };
+
+    fn from(unread: Unread) -> Unmade {
+        Unmade::Unreadable {
+            fault: unread.fault,
+            line: unread.line,
+        }
     }
-    line_of(text, which_kind(kind), refusal, place)
 }
 
-// The recording of the kind and the numbers of a text, written at the start of a lent buffer.
+// The recording of the kind and the numbers of a text, written at the start of a lent buffer: how many bytes it has.
 fn make_written(
     kind: u32,
     text: &[u8],
@@ -37,45 +46,39 @@ fn make_written(
     links: &[u32],
     events: &[u32],
     out: &mut [u8],
-) -> Made
-    ensures answer { result ≡ make_reply kind text.now (reply_to kind tasks.now links.now events.now (length out.old)) }
+) -> Result<usize, Unmade>
+    ensures answer { told result ≡ make_reply kind text.now (reply_to kind tasks.now links.now events.now (length out.old)) }
+    ensures refused { Refuses result }
     ensures buffer { out.new ≡ buffer_to kind tasks.now links.now events.now out.old }
 {
     let written = write(kind, tasks, links, events, out);
-    Made {
-        fault: 0,
-        line: line_told(kind, text, written.refusal, written.place),
-        refusal: written.refusal,
-        place: written.place,
+    let place = written.place;
+    match written.refusal {
+        0 => Ok(place),
+        refusal => Err(Unmade::Refused {
+            refusal,
+            place,
+            line: line_of(text, which_kind(kind), refusal, place),
+        }),
     }
 }
 
-// The recording of a text, made at the start of a lent buffer, which is untouched where there is none.
-pub fn make_recording(text: &[u8], out: &mut [u8]) -> Made
-    ensures answer { result ≡ made_of text.now (length out.old) }
+// The recording of a text, made at the start of a lent buffer, which is untouched where there is none: how many bytes it has.
+pub fn make_recording(text: &[u8], out: &mut [u8]) -> Result<usize, Unmade>
+    ensures answer { told result ≡ made_of text.now (length out.old) }
+    ensures refused { Refuses result }
     ensures buffer { out.new ≡ buffer_of text.now out.old }
 {
     let mut tasks = [0u32; TASKS];
     let mut links = [0u32; LINKS];
     let mut events = [0u32; EVENTS];
-    let read = read_text(text, &mut tasks, &mut links, &mut events);
-    if read.fault != 0 {
-        return Made {
-            fault: read.fault,
-            line: read.line,
-            refusal: 0,
-            place: 0,
-        };
-    }
-    let tasks_end = read.tasks;
-    let links_end = read.links;
-    let events_end = read.events;
+    let read = read_text(text, &mut tasks, &mut links, &mut events)?;
     make_written(
         read.kind,
         text,
-        &tasks[..tasks_end],
-        &links[..links_end],
-        &events[..events_end],
+        &tasks[..read.tasks],
+        &links[..read.links],
+        &events[..read.events],
         out,
     )
 }

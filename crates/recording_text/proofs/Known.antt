@@ -9,11 +9,12 @@ use borrow.Author.Tests.{ltb-true, eqb-true, eqb-false, ne_eqb}
 use lib.Dec.{eqb}
 use lib.ListN.{length, take, get_or}
 use Rattle.lists.proofs.Bools.{else_zero}
-use Rattle.recording_text_line.specs.declared.Said.{Said}
-use Rattle.recording_text.specs.declared.KnownKind.{KnownKind}
-use Rattle.recording_text_line.specs.Line.{Says, said_of, sort, is_dated, dated_after, Padded}
-use Rattle.recording_text.specs.Text.{in_place, fault_in, known_after, readable, text_fault, records_of, joined, stored, no_kind, kind_after}
-use Rattle.recording_text_line.proofs.Letters.{first_number}
+use Rattle.std.proofs.Common.{Option, None}
+use Rattle.std.specs.Option.{is_some}
+use Rattle.recording_text_line.specs.declared.record.Record.{Record}
+use Rattle.recording_text_line.specs.Line.{Says, sort}
+use Rattle.recording_text_line.specs.Told.{record_said}
+use Rattle.recording_text.specs.Text.{in_place, fault_in, known_after, readable, text_fault, records_of, joined, stored, kind_number, kind_after}
 use Rattle.recording_text.proofs.Stores.{records_more}
 
 -- a line without a fault stands where it may
@@ -31,43 +32,41 @@ first_only false s z k = refl
 first_only true s z k = let p : in_place true 4 ≡ true = rw k at (stands true s z) in absurd (true≢false (sym p))
 
 -- what is known of the kind after these lines is what they say of it
-pub record Told (done : List Says) (kind : KnownKind) : Type 0 where
-  pub none : kind.known ≡ false → records_of 4 done ≡ []
-  pub number : kind.number ≡ get_or (stored 4 1 done) 0 0
+pub record Told (done : List Says) (kind : Option ℕ) : Type 0 where
+  pub none : is_some kind ≡ false → records_of 4 done ≡ []
+  pub number : kind_number kind ≡ get_or (stored 4 1 done) 0 0
 
-pub told_none : {kind : KnownKind} → kind ≡ no_kind → Told [] kind
+pub told_none : Told [] None
 unfolding records_of joined stored
-told_none e = rw e (record { none = λ q. refl; number = refl })
+told_none = record { none = λ q. refl; number = refl }
 
--- a line more
-module _ {done : List Says} {kind : KnownKind} (told : Told done kind) (said : Said) (padded : Padded said.letter said.size said.numbers) (z : fault_in kind.known (said_of said) ≡ 0) {next : KnownKind} (e : next ≡ kind_after kind said) where
-  pub known_more : next.known ≡ known_after kind.known (said_of said)
-  known_more = go (eqb (sort said.letter) 4) refl
+-- a line more that does not say it
+pub told_same : {done : List Says} {kind : Option ℕ} → Told done kind → (s : Says) → eqb (sort s.letter) 4 ≡ false → Told (done ++ (s ∷ [])) kind
+unfolding joined stored
+told_same {done} told s t =
+    let r : records_of 4 (done ++ (s ∷ [])) ≡ records_of 4 done = records_more 4 done s ∙ rw (t, append-nil (records_of 4 done)) in
+    record { none = λ f. r ∙ told.none f; number = rw r told.number }
+
+-- a record more
+module _ {done : List Says} {kind : Option ℕ} (told : Told done kind) (r : Record) (z : fault_in (is_some kind) (record_said r) ≡ 0) {next : Option ℕ} (e : next ≡ kind_after kind r) where
+  pub known_more : is_some next ≡ known_after (is_some kind) (record_said r)
+  known_more = go (eqb (sort r.letter) 4) refl
     where
-      go : (b : Bool) → eqb (sort said.letter) 4 ≡ b → next.known ≡ known_after kind.known (said_of said)
-      go true t = rw (e, t, or-true kind.known)
-      go false t = rw (e, t, or-false kind.known)
+      go : (b : Bool) → eqb (sort r.letter) 4 ≡ b → is_some next ≡ known_after (is_some kind) (record_said r)
+      go true t = rw (e, t, or-true (is_some kind))
+      go false t = rw (e, t, or-false (is_some kind))
 
-  pub dated_more : is_dated next.number ≡ dated_after (is_dated kind.number) (said_of said)
-  dated_more = go (eqb (sort said.letter) 4) refl
-    where
-      go : (b : Bool) → eqb (sort said.letter) 4 ≡ b → is_dated next.number ≡ dated_after (is_dated kind.number) (said_of said)
-      go true t = rw (e, t, first_number said.size said.numbers padded)
-      go false t = rw (e, t)
-
-  pub told_more : Told (done ++ (said_of said ∷ [])) next
+  pub told_more : Told (done ++ (record_said r ∷ [])) next
   unfolding joined stored
-  told_more = go (eqb (sort said.letter) 4) refl
+  told_more = go (eqb (sort r.letter) 4) refl
     where
-      go : (b : Bool) → eqb (sort said.letter) 4 ≡ b → Told (done ++ (said_of said ∷ [])) next
+      go : (b : Bool) → eqb (sort r.letter) 4 ≡ b → Told (done ++ (record_said r ∷ [])) next
       go true t =
-          let k : sort said.letter ≡ 4 = eqb-true (sort said.letter) 4 t in
-          let ns = take said.size said.numbers in
-          let r : records_of 4 (done ++ (said_of said ∷ [])) ≡ ns ∷ [] = records_more 4 done (said_of said) ∙ rw (t, told.none (first_only kind.known (said_of said) z k)) in
-          rw (e, t) (record { none = λ f. absurd (true≢false f); number = rw (r, append-nil ns) (sym (first_number said.size said.numbers padded)) })
-      go false t =
-          let r : records_of 4 (done ++ (said_of said ∷ [])) ≡ records_of 4 done = records_more 4 done (said_of said) ∙ rw (t, append-nil (records_of 4 done)) in
-          rw (e, t) (record { none = λ f. r ∙ told.none f; number = rw r told.number })
+          let k : sort r.letter ≡ 4 = eqb-true (sort r.letter) 4 t in
+          let ns = take r.size r.numbers in
+          let q : records_of 4 (done ++ (record_said r ∷ [])) ≡ ns ∷ [] = records_more 4 done (record_said r) ∙ rw (t, told.none (first_only (is_some kind) (record_said r) z k)) in
+          rw (e, t) (record { none = λ f. absurd (true≢false f); number = rw (q, append-nil ns) })
+      go false t = rw (e, t) (told_same told (record_said r) t)
 
 -- after the kind is known no line that can be read says it
 none_after : (ss : List Says) → records_of 4 (readable true ss) ≡ []

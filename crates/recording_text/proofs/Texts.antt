@@ -1,21 +1,26 @@
 -- A text read line by line.
 -- Assumes nothing.
 use mathlib.Core.Path.{◌≡◌, refl, sym, ap, ◌∙◌}
-use mathlib.Core.Bool.{Bool, false, cond}
+use mathlib.Core.Bool.{Bool, false, cond, or-false}
 use mathlib.Core.List.{List, [], ◌∷◌, ◌++◌, append-nil, append_assoc}
-use Prim.Native.Nat.{ℕ, suc, ◌+◌, ◌≤◌, ◌<◌}
+use Prim.Native.Nat.{ℕ, ◌+◌, ◌≤◌}
+use native.Mathlib.Numerals.{add-one}
 use native.Mathlib.Omega.{arith}
 use borrow.Author.Tests.{eq-eqb, ne_eqb}
 use lib.Dec.{eqb}
-use lib.ListN.{length, drop, get_or, length-append}
+use lib.ListN.{length, take, drop, length-append}
 use Rattle.recording_text.specs.declared.Read.{Read}
 use Rattle.recording_text.specs.declared.Kept.{Kept}
-use Rattle.recording_text_fields.specs.Pieces.{separator, lines, between, Ends}
-use Rattle.recording_text_line.specs.declared.Said.{Said}
-use Rattle.recording_text_line.specs.Line.{Says, says, said_of, dated_after, all_say, text_says}
-use Rattle.recording_text.specs.Text.{fault_in, known_after, readable, text_fault, stored, over, readable_of, stored_of, tasks_kept, links_kept, events_kept, tasks_of, links_of, events_of, fault_of, answer_of, read_of}
-use Rattle.recording_text_line.proofs.Lines.{line_more, no_line}
-use Rattle.recording_text.proofs.Stores.{Held}
+use Rattle.recording_text.specs.declared.Unread.{Unread}
+use Rattle.recording_text_fields.proofs.Faults.{some_fault, one_fault}
+use Rattle.std.proofs.Common.{Option, None, Result, Ok, Err}
+use Rattle.std.specs.Option.{is_some}
+use Rattle.recording_text_line.specs.declared.record.Record.{Record}
+use Rattle.recording_text_line.specs.Line.{Says, nothing, sort, text_says}
+use Rattle.recording_text_line.specs.Told.{record_said}
+use Rattle.recording_text.specs.Text.{fault_in, known_after, readable, text_fault, over, readable_of, tasks_kept, links_kept, events_kept, tasks_of, links_of, events_of, fault_of, told, Answer, answer_of, answer_at, read_of, takes, and_record, put_at, none_kept, kind_number, kind_after}
+use Rattle.recording_text.proofs.Stores.{Held, held_none, held_other, held_more}
+use Rattle.recording_text.proofs.Known.{Told, told_none, told_same, known_more, told_more}
 
 -- lines that can be read, in front of others: after them the kind is known, or not
 pub record Good (done : List Says) (known : Bool) : Type 0 where
@@ -34,61 +39,112 @@ good_more {done} {known} g s e =
       fault = λ ss. ap (text_fault false) (append_assoc done (s ∷ []) ss) ∙ g.fault (s ∷ ss) ∙ rw z;
     }
 
--- the lines before a place are read, and can be; after them the kind is known, or not, and the text is dated, or not
-pub record Before (text : List ℕ) (line at : ℕ) (done : List Says) (known dated : Bool) : Type 0 where
-  pub split : text_says text ≡ done ++ all_say dated (lines (drop at text))
+-- the first lines are read, and can be, and the others are left; the kind is told, and the records are stored
+pub record Reading (text : List ℕ) (left : List Says) (line : ℕ) (kind : Option ℕ) (tasks tasks' links links' events events' : List ℕ) (task link event : Kept) : Type 0 where
+  pub done : List Says
+  pub split : text_says text ≡ done ++ left
   pub many : length done ≡ line
-  pub near : line ≤ at
-  pub few : line ≤ length text
-  pub good : Good done known
+  pub good : Good done (is_some kind)
+  pub told : Told done kind
+  pub its_tasks : Held 1 tasks_kept done tasks tasks' task
+  pub its_links : Held 2 links_kept done links links' link
+  pub its_events : Held 3 events_kept done events events' event
 
-pub before_none : (text : List ℕ) {known dated : Bool} → known ≡ false → dated ≡ false → Before text 0 0 [] known dated
-before_none text e f = record { split = rw f; many = refl; near = omega arith; few = omega arith; good = rw e good_none }
+pub reading_none : (text : List ℕ) {left : List Says} → left ≡ text_says text → (tasks links events : List ℕ) → Reading text left 0 None tasks tasks links links events events none_kept none_kept none_kept
+reading_none text e tasks links events =
+    record {
+      done = [];
+      split = sym e;
+      many = refl;
+      good = good_none;
+      told = told_none;
+      its_tasks = held_none 1 tasks_kept tasks refl;
+      its_links = held_none 2 links_kept links refl;
+      its_events = held_none 3 events_kept events refl;
+    }
 
-module _ (text : List ℕ) {line at : ℕ} {done : List Says} {known dated : Bool} (b : Before text line at done known dated) where
+module _
+    {text : List ℕ} {left : List Says} {line : ℕ} {kind : Option ℕ} {tasks tasks' links links' events events' : List ℕ} {task link event : Kept}
+    (b : Reading text left line kind tasks tasks' links links' events events' task link event) where
+  pub reading_few : line + length left ≡ length (text_says text)
+  reading_few = omega (arith, length-append b.done left, ap length b.split, b.many)
+
   -- a line more
-  module _ {e : ℕ} (w : Ends (separator false) text at e) (said : Said) (q : said_of said ≡ says dated (between at e text)) where
-    from_here : {next : Bool} → next ≡ dated_after dated (said_of said) → text_says text ≡ done ++ (said_of said ∷ all_say next (lines (drop (e + 1) text)))
-    from_here d = b.split ∙ ap (λ (ss : List Says). done ++ ss) (line_more text w dated said q d)
+  module _ {s : Says} {rest : List Says} (n : left ≡ s ∷ rest) where
+    from_here : text_says text ≡ b.done ++ (s ∷ rest)
+    from_here = b.split ∙ ap (λ (ss : List Says). b.done ++ ss) n
 
-    pub before_more :
-        at < length text → fault_in known (said_of said) ≡ 0 → {known' : Bool} → known' ≡ known_after known (said_of said) → {dated' : Bool} → dated' ≡ dated_after dated (said_of said) →
-        Before text (line + 1) (e + 1) (done ++ (said_of said ∷ [])) known' dated'
-    before_more h z n {dated'} d =
-        record {
-          split = from_here d ∙ sym (append_assoc done (said_of said ∷ []) (all_say dated' (lines (drop (e + 1) text))));
-          many = omega (arith, length-append done (said_of said ∷ []), b.many);
-          near = omega (arith, b.near, w.after);
-          few = omega (arith, b.near);
-          good = rw n (good_more b.good (said_of said) z);
-        }
+    -- that can be read, and says nothing, or a record
+    module _ (z : fault_in (is_some kind) s ≡ 0) where
+      split_on : text_says text ≡ (b.done ++ (s ∷ [])) ++ rest
+      split_on = from_here ∙ sym (append_assoc b.done (s ∷ []) rest)
 
-    -- a line that cannot be read
-    pub stops : {f : ℕ} → f ≡ fault_in known (said_of said) → (f ≡ 0 → ⊥) → (readable_of text ≡ done) × (fault_of text ≡ f)
+      many_on : length (b.done ++ (s ∷ [])) ≡ line + 1
+      many_on = omega (arith, length-append b.done (s ∷ []), b.many)
+
+      pub reading_skip : nothing ≡ s → Reading text rest (line + 1) kind tasks tasks' links links' events events' task link event
+      unfolding sort
+      reading_skip e =
+          let o : sort s.letter ≡ 0 = rw (← e) in
+          record {
+            done = b.done ++ (s ∷ []);
+            split = split_on;
+            many = many_on;
+            good = let k : known_after (is_some kind) s ≡ is_some kind = rw (o, or-false (is_some kind)) in rw k at (good_more b.good s z);
+            told = told_same b.told s (rw o);
+            its_tasks = held_other 1 tasks_kept b.done tasks b.its_tasks s (rw o);
+            its_links = held_other 2 links_kept b.done links b.its_links s (rw o);
+            its_events = held_other 3 events_kept b.done events b.its_events s (rw o);
+          }
+
+      module _ (r : Record) (e : record_said r ≡ s) (v : length (take r.size r.numbers) ≡ r.size) where
+        pub reading_on :
+            {next : Option ℕ} {tasks'' links'' events'' : List ℕ} {task' link' event' : Kept} → next ≡ kind_after kind r →
+            task' ≡ cond (takes r 1 tasks_kept task) (and_record r task) task → tasks'' ≡ cond (takes r 1 tasks_kept task) (put_at tasks' task.numbers r) tasks' →
+            link' ≡ cond (takes r 2 links_kept link) (and_record r link) link → links'' ≡ cond (takes r 2 links_kept link) (put_at links' link.numbers r) links' →
+            event' ≡ cond (takes r 3 events_kept event) (and_record r event) event → events'' ≡ cond (takes r 3 events_kept event) (put_at events' event.numbers r) events' →
+            Reading text rest (line + 1) next tasks tasks'' links links'' events events'' task' link' event'
+        reading_on k t t' l l' y y' =
+            let w : fault_in (is_some kind) (record_said r) ≡ 0 = rw (← e) at z in
+            record {
+              done = b.done ++ (record_said r ∷ []);
+              split = rw (← e) at split_on;
+              many = rw (← e) at many_on;
+              good = let g = known_more b.told r w k in rw g (good_more b.good (record_said r) w);
+              told = told_more b.told r w k;
+              its_tasks = held_more 1 tasks_kept b.done tasks b.its_tasks r v t t';
+              its_links = held_more 2 links_kept b.done links b.its_links r v l l';
+              its_events = held_more 3 events_kept b.done events b.its_events r v y y';
+            }
+
+    -- that cannot be read
+    pub reading_stops : {f : ℕ} → fault_in (is_some kind) s ≡ f → (f ≡ 0 → ⊥) → (readable_of text ≡ b.done) × (fault_of text ≡ f)
     unfolding readable text_fault
-    stops f z =
-        let s = said_of said in
-        let ss = all_say (dated_after dated s) (lines (drop (e + 1) text)) in
-        let n = ne_eqb (fault_in known s) 0 (λ q. z (f ∙ q)) in
-        (ap (readable false) (from_here refl) ∙ b.good.first (s ∷ ss) ∙ rw (n, append-nil done), ap (text_fault false) (from_here refl) ∙ b.good.fault (s ∷ ss) ∙ rw n (sym f))
+    reading_stops f z =
+        let k = ne_eqb (fault_in (is_some kind) s) 0 (λ q. z (sym f ∙ q)) in
+        (ap (readable false) from_here ∙ b.good.first (s ∷ rest) ∙ rw (k, append-nil b.done), ap (text_fault false) from_here ∙ b.good.fault (s ∷ rest) ∙ rw k f)
 
   -- no line more
-  pub ends : length text ≤ at → (readable_of text ≡ done) × (fault_of text ≡ cond known 0 6)
+  pub reading_ends : left ≡ [] → (readable_of text ≡ b.done) × (fault_of text ≡ cond (is_some kind) 0 6)
   unfolding readable text_fault
-  ends h =
-      let s : text_says text ≡ done ++ [] = b.split ∙ ap (λ (ss : List Says). done ++ ss) (no_line text dated at h) in
-      (ap (readable false) s ∙ b.good.first [] ∙ append-nil done, ap (text_fault false) s ∙ b.good.fault [])
+  reading_ends n =
+      let s : text_says text ≡ b.done ++ [] = b.split ∙ ap (λ (ss : List Says). b.done ++ ss) n in
+      (ap (readable false) s ∙ b.good.first [] ∙ append-nil b.done, ap (text_fault false) s ∙ b.good.fault [])
 
--- the answer
-module _ (text : List ℕ) {done : List Says} (r : readable_of text ≡ done) where
-  pub list_held : (k most : ℕ) {old out : List ℕ} {kept : Kept} → Held k most done old out kept → out ≡ over (stored_of k most text) old
-  list_held k most h = h.list ∙ rw r
+  -- the answer, and the lists
+  module _ {f : ℕ} (x : (readable_of text ≡ b.done) × (fault_of text ≡ f)) where
+    pub answered : {n : ℕ} → n ≡ cond (eqb f 0) 0 (line + 1) → answer_of f n (kind_number kind) task.numbers link.numbers event.numbers ≡ read_of text
+    unfolding read_of
+    answered e = rw (x.1, x.0, e, b.told.number, b.its_tasks.numbers, b.its_links.numbers, b.its_events.numbers, b.many, add-one line)
 
-  pub answered :
-      {f n k t l e : ℕ} {x : Read} → fault_of text ≡ f → n ≡ cond (eqb f 0) 0 (suc (length done)) → k ≡ get_or (stored 4 1 done) 0 0 →
-      t ≡ length (stored 1 tasks_kept done) → l ≡ length (stored 2 links_kept done) → e ≡ length (stored 3 events_kept done) → x ≡ answer_of f n k t l e → x ≡ read_of text
-  unfolding read_of
-  answered f n k t l e x = x ∙ rw (f, r, n, k, t, l, e)
+    pub tasks_held : tasks' ≡ over (tasks_of text) tasks
+    tasks_held = b.its_tasks.list ∙ rw x.0
+
+    pub links_held : links' ≡ over (links_of text) links
+    links_held = b.its_links.list ∙ rw x.0
+
+    pub events_held : events' ≡ over (events_of text) events
+    events_held = b.its_events.list ∙ rw x.0
 
 -- numbers at the start of a list are no more than the list has
 over_within : (ns old : List ℕ) {n : ℕ} {out : List ℕ} → n ≡ length ns → out ≡ over ns old → n ≤ length out
@@ -96,15 +152,28 @@ unfolding over
 over_within ns old e f = omega (arith, ap length f, length-append ns (drop (length ns) old))
 
 -- so are those that are stored of a text, as the answer counts them
-module _ (text : List ℕ) (r : Read) (e : r ≡ read_of text) (old : List ℕ) {out : List ℕ} where
+module _ (text : List ℕ) (r : Read) (e : answer_at 0 0 r ≡ read_of text) (old : List ℕ) {out : List ℕ} where
   pub tasks_within : out ≡ over (tasks_of text) old → r.tasks ≤ length out
   unfolding read_of
-  tasks_within = over_within (tasks_of text) old (ap (λ (x : Read). x.tasks) e)
+  tasks_within = over_within (tasks_of text) old (ap (λ (x : Answer). x.tasks) e)
 
   pub links_within : out ≡ over (links_of text) old → r.links ≤ length out
   unfolding read_of
-  links_within = over_within (links_of text) old (ap (λ (x : Read). x.links) e)
+  links_within = over_within (links_of text) old (ap (λ (x : Answer). x.links) e)
 
   pub events_within : out ≡ over (events_of text) old → r.events ≤ length out
   unfolding read_of
-  events_within = over_within (events_of text) old (ap (λ (x : Read). x.events) e)
+  events_within = over_within (events_of text) old (ap (λ (x : Answer). x.events) e)
+
+-- the code's answer is fixed by what it tells
+read_from : Answer → Read
+read_from a = record { kind = a.kind; tasks = a.tasks; links = a.links; events = a.events }
+
+pub one_read : (a b : Result Read Unread) → told a ≡ told b → a ≡ b
+unfolding read_from
+one_read (Ok r) (Ok q) e = ap (λ (x : Answer). Ok (read_from x)) e
+one_read (Ok r) (Err u) e = absurd (some_fault u.fault (sym (ap (λ (x : Answer). x.fault) e)))
+one_read (Err u) (Ok r) e = absurd (some_fault u.fault (ap (λ (x : Answer). x.fault) e))
+one_read (Err u) (Err v) e =
+    let f = one_fault u.fault v.fault (ap (λ (x : Answer). x.fault) e) in
+    λ i. Err (record { fault = f i; line = (e i).line; read = read_from (e i) })

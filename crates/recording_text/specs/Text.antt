@@ -1,11 +1,12 @@
 -- What a text says.
 -- Assumes nothing.
-use Rattle.std.specs.Prelude.{Bool, true, false, cond, ◌&&◌, ◌||◌, List, [], ◌∷◌, ◌++◌, ℕ, suc, ◌+◌, ◌*◌, ◌≤◌, eqb, ltb, length, take, drop, get_or}
+use Rattle.std.specs.Prelude.{Option, Some, None, Result, Ok, Err, Bool, false, cond, ◌&&◌, ◌||◌, List, [], ◌∷◌, ◌++◌, ℕ, suc, ◌+◌, ◌*◌, ◌≤◌, eqb, ltb, length, take, drop, get_or}
 use Rattle.recording_format.specs.RecordingKind.{wide_recording}
+use Rattle.recording_text_fields.specs.Faults.{number}
+use Rattle.recording_text_line.specs.declared.record.Record.{Record}
 use Rattle.recording_text.specs.declared.Read.{Read}
-use Rattle.recording_text_line.specs.declared.Said.{Said}
+use Rattle.recording_text.specs.declared.Unread.{Unread}
 use Rattle.recording_text.specs.declared.Kept.{Kept}
-use Rattle.recording_text.specs.declared.KnownKind.{KnownKind}
 use Rattle.recording_text_line.specs.Line.{Says, sort, widest, text_says}
 
 -- whether a record of a sort may stand where the kind is known, or not yet: the kind, 4, comes first and once; a line with no record, 0, may stand anywhere
@@ -93,36 +94,56 @@ abbrev pub fault_line : List ℕ → ℕ
 fault_line text = cond (eqb (fault_of text) 0) 0 (suc (length (readable_of text)))
 
 -- an answer: the fault and its line, the number of the kind, and how many numbers are stored
-abbrev pub answer_of : ℕ → ℕ → ℕ → ℕ → ℕ → ℕ → Read
+pub record Answer : Type 0 where
+  pub fault : ℕ
+  pub line : ℕ
+  pub kind : ℕ
+  pub tasks : ℕ
+  pub links : ℕ
+  pub events : ℕ
+
+abbrev pub answer_of : ℕ → ℕ → ℕ → ℕ → ℕ → ℕ → Answer
 answer_of fault line kind tasks links events = record { fault = fault; line = line; kind = kind; tasks = tasks; links = links; events = events }
 
 -- the answer to a text
-unfoldable pub read_of : List ℕ → Read
+unfoldable pub read_of : List ℕ → Answer
 read_of text = answer_of (fault_of text) (fault_line text) (kind_said text) (length (tasks_of text)) (length (links_of text)) (length (events_of text))
+
+-- the answer of the code
+abbrev pub answer_at : ℕ → ℕ → Read → Answer
+answer_at fault line r = answer_of fault line r.kind r.tasks r.links r.events
+
+abbrev pub told : Result Read Unread → Answer
+told (Ok r) = answer_at 0 0 r
+told (Err u) = answer_at (number u.fault) u.line u.read
 
 -- nothing is stored
 abbrev pub none_kept : Kept
 none_kept = record { records = 0; numbers = 0 }
 
--- whether a line has a record of a sort, of which fewer are stored than may be
-abbrev pub takes : Said → ℕ → ℕ → Kept → Bool
-takes said k most kept = eqb (sort said.letter) k && ltb kept.records most
+-- whether a record is of a sort, of which fewer are stored than may be
+abbrev pub takes : Record → ℕ → ℕ → Kept → Bool
+takes r k most kept = eqb (sort r.letter) k && ltb kept.records most
 
 -- there is room for it
-pub record RoomFor (said : Said) (k most room : ℕ) (kept : Kept) : Type 0 where
-  pub size : said.size ≤ widest (sort said.letter)
+pub record RoomFor (k most room : ℕ) (kept : Kept) : Type 0 where
   pub stored : kept.numbers ≤ widest k * kept.records
   pub whole : widest k * most ≤ room
   pub small : most ≤ events_kept
 
 -- one record more is stored
-abbrev pub and_record : Said → Kept → Kept
-and_record said kept = record { records = kept.records + 1; numbers = kept.numbers + said.size }
+abbrev pub and_record : Record → Kept → Kept
+and_record r kept = record { records = kept.records + 1; numbers = kept.numbers + r.size }
 
--- the kind is not known
-abbrev pub no_kind : KnownKind
-no_kind = record { known = false; number = 0 }
+-- its numbers in a list from a place on, in the place of those that stood there
+abbrev pub put_at : List ℕ → ℕ → Record → List ℕ
+put_at old at r = take at old ++ (take r.size r.numbers ++ drop (at + r.size) old)
 
--- the kind as it is known after a line
-abbrev pub kind_after : KnownKind → Said → KnownKind
-kind_after kind said = cond (eqb (sort said.letter) 4) (record { known = true; number = get_or said.numbers 0 0 }) kind
+-- the kind as it is known after a record
+abbrev pub kind_after : Option ℕ → Record → Option ℕ
+kind_after kind r = cond (eqb (sort r.letter) 4) (Some (get_or (take r.size r.numbers) 0 0)) kind
+
+-- its number, 0 where it is not known
+abbrev pub kind_number : Option ℕ → ℕ
+kind_number None = 0
+kind_number (Some n) = n

@@ -1,17 +1,22 @@
 // The text form of a recording, read line by line into the numbers that the writer of a recording takes; and the line of what it refuses.
 #![tactic(auto)]
 
-ghost use Rattle.std.specs.Prelude.{◌≡◌, cond, ◌+◌, ◌≤◌, length};
-ghost use Rattle.std.proofs.Math.Seq.{paste};
-ghost use Rattle.recording_text.specs.Text.{read_of, answer_of, none_kept, takes, and_record, RoomFor, tasks_of, links_of, events_of, over, in_place, fault_in, no_kind, kind_after};
-ghost use Rattle.recording_text_line.specs.Line.{said_of};
+ghost use Rattle.std.specs.Prelude.{◌≡◌, cond, length, take, MatchResult};
+ghost use Rattle.recording_text_fields.specs.Faults.{number};
+ghost use Rattle.recording_text_line.specs.Sorts.{sort_number};
+ghost use Rattle.recording_text_line.specs.Told.{said_of};
 ghost use Rattle.recording_text_place.specs.Place.{line_of};
+ghost use Rattle.recording_text.specs.Text.{read_of, told, takes, and_record, RoomFor, put_at, tasks_of, links_of, events_of, over, fault_in, kind_number, kind_after};
 
 use recording_format::{LINK_NUMBERS, MOST_LINKS, MOST_TASKS, PLAIN_EVENTS, WhichKind};
-use recording_text_fields::piece::piece_end;
-use recording_text_line::{Said, is_dated, line_says, sort_of};
+use recording_text_fields::fault::Fault;
+use recording_text_line::record::Record;
+use recording_text_line::said::Said;
+use recording_text_line::sort::Sort;
+use recording_text_place::refusal_line;
 
 // So many tasks, links and events are stored: one more than a recording of any kind may have, so that the writer sees that there are too many.
+// They are lists of a fixed size with counts beside them: memory is fixed.
 const TASKS_KEPT: usize = MOST_TASKS + 1;
 
 const LINKS_KEPT: usize = MOST_LINKS + 1;
@@ -27,23 +32,21 @@ pub const LINKS: usize = LINK_NUMBERS * LINKS_KEPT;
 // and that for events, of two to four numbers.
 pub const EVENTS: usize = 4 * EVENTS_KEPT;
 
-// What a text is read as: why it cannot be read, 0 where it can, and in which line, from 1; the number of the kind, 0 where no line before that
-// says it; how many numbers were stored.
-#[derive(Clone, Copy)]
+// What is read of a text: the number of the kind, and how many numbers were stored of tasks, links and events.
+#[derive(Clone, Copy, Debug, PartialEq, Eq)]
 pub struct Read {
-    pub fault: u8,
-    pub line: usize,
     pub kind: u32,
     pub tasks: usize,
     pub links: usize,
     pub events: usize,
 }
 
-// What is known of the kind: whether a line has said it, and its number, 0 before.
-#[derive(Clone, Copy)]
-pub struct KnownKind {
-    pub known: bool,
-    pub number: u32,
+// Why a text cannot be read, and in which line, from 1; and what was read before it, of a kind with the number 0 where no line said it.
+#[derive(Clone, Copy, Debug, PartialEq, Eq)]
+pub struct Unread {
+    pub fault: Fault,
+    pub line: usize,
+    pub read: Read,
 }
 
 // What is stored of one sort: so many records, and so many numbers.
@@ -53,108 +56,63 @@ pub struct Kept {
     pub numbers: usize,
 }
 
-// The first n of some numbers, copied into a list from a place on.
-fn copy(numbers: &[u32], n: usize, out: &mut [u32], at: usize)
-    requires { (n ≤ length numbers.now) × (at + n ≤ length out.old) }
-    ensures { out.new ≡ paste out.old at numbers.now n }
-{
-    let mut i = 0;
-    while i < n {
-        out[at + i] = numbers[i];
-        i += 1;
-    }
-}
-
-// Whether a line has a record of a sort, of which fewer are stored than may be.
-fn is_taken(said: Said, sort: u8, most: usize, kept: Kept) -> bool
-    ensures { result ≡ takes said sort most kept }
-{
-    (sort_of(said.letter) == sort) & (kept.records < most)
-}
-
-// Stores what a line says where it is a record of a sort, of which fewer are stored than may be.
-fn keep(said: Said, sort: u8, most: usize, out: &mut [u32], kept: Kept) -> Kept
-    requires { RoomFor said sort most (length out.old) kept }
-    ensures answer { result ≡ cond (takes said sort most kept) (and_record said kept) kept }
-    ensures list { out.new ≡ cond (takes said sort most kept) (paste out.old kept.numbers said.numbers said.size) out.old }
-{
-    if !is_taken(said, sort, most, kept) {
-        return kept;
-    }
-    let numbers = said.numbers;
-    copy(&numbers, said.size, out, kept.numbers);
-    Kept {
-        records: kept.records + 1,
-        numbers: kept.numbers + said.size,
-    }
-}
-
-// Nothing is stored yet.
-fn none_kept() -> Kept
-    ensures { result ≡ none_kept }
-{
-    Kept {
+impl Kept {
+    // Nothing is stored yet.
+    const NONE: Kept = Kept {
         records: 0,
         numbers: 0,
+    };
+}
+
+// Stores a record where it is of a sort, of which fewer are stored than may be.
+fn keep(said: &Record, sort: Sort, most: usize, out: &mut [u32], kept: Kept) -> Kept
+    requires { RoomFor (sort_number sort) most (length out.old) kept }
+    ensures answer { result ≡ cond (takes said.now (sort_number sort) most kept) (and_record said.now kept) kept }
+    ensures list { out.new ≡ cond (takes said.now (sort_number sort) most kept) (put_at out.old kept.numbers said.now) out.old }
+    ensures whole { length (take said.now.size said.now.numbers) ≡ said.now.size }
+{
+    if !said.is(sort) || most <= kept.records {
+        return kept;
+    }
+    let end = kept.numbers + said.size;
+    out[kept.numbers..end].copy_from_slice(said.numbers());
+    Kept {
+        records: kept.records + 1,
+        numbers: end,
     }
 }
 
-// The kind is not known yet.
-fn no_kind() -> KnownKind
-    ensures { result ≡ no_kind }
+// What a line says where the kind is known, or not yet: the kind comes first and once; a line with no record may stand anywhere.
+#[tactic(auto, unfolding(crate::specs::Text::fault_in, recording_text_line::specs::Line::sort))]
+fn in_place(known: bool, said: Result<Option<Record>, Fault>) -> Result<Option<Record>, Fault>
+    ensures { MatchResult result (λ r. (said_of said ≡ said_of result) × (fault_in known (said_of said) ≡ 0)) (λ f. fault_in known (said_of said) ≡ number f) }
 {
-    KnownKind {
-        known: false,
-        number: 0,
+    let Some(record) = said? else {
+        return Ok(None);
+    };
+    if record.is(Sort::Kind) == known {
+        return Err(Fault::KindNotFirst);
     }
+    Ok(Some(record))
 }
 
-// Whether a record of a sort may stand where the kind is known, or not yet: the kind comes first and once; a line with no record may stand anywhere.
-fn in_place(known: bool, sort: u8) -> bool
-    ensures { result ≡ in_place known sort }
+// The kind as it is known after a record.
+fn kind_after(kind: Option<u32>, said: &Record) -> Option<u32>
+    ensures { result ≡ kind_after kind said.now }
 {
-    if known {
-        return sort < 4;
-    }
-    (sort == 0) | (sort == 4)
-}
-
-// The fault of what a line says there, 0 for none: its own, or 6 where it may not stand there.
-fn fault_in(known: bool, said: Said) -> u8
-    ensures { result ≡ fault_in known (said_of said) }
-{
-    if said.fault != 0 {
-        return said.fault;
-    }
-    if in_place(known, sort_of(said.letter)) {
-        0
+    if said.is(Sort::Kind) {
+        Some(said.first())
     } else {
-        6
+        kind
     }
 }
 
-// The kind as it is known after a line.
-fn kind_after(kind: KnownKind, said: Said) -> KnownKind
-    ensures { result ≡ kind_after kind said }
-{
-    if sort_of(said.letter) != 4 {
-        return kind;
-    }
-    let numbers = said.numbers;
-    KnownKind {
-        known: true,
-        number: numbers[0],
-    }
-}
-
-// The answer: the fault and its line, the number of the kind, and how many numbers are stored.
-fn answer(fault: u8, line: usize, kind: KnownKind, task: Kept, link: Kept, event: Kept) -> Read
-    ensures { result ≡ answer_of fault line kind.number task.numbers link.numbers event.numbers }
+// What is read so far.
+fn so_far(kind: Option<u32>, task: Kept, link: Kept, event: Kept) -> Read
+    ensures { result ≡ record { kind = kind_number kind; tasks = task.numbers; links = link.numbers; events = event.numbers } }
 {
     Read {
-        fault,
-        line,
-        kind: kind.number,
+        kind: kind.unwrap_or(0),
         tasks: task.numbers,
         links: link.numbers,
         events: event.numbers,
@@ -167,41 +125,46 @@ pub fn read_text(
     tasks: &mut [u32; TASKS],
     links: &mut [u32; LINKS],
     events: &mut [u32; EVENTS],
-) -> Read
-    ensures answer { result ≡ read_of text.now }
+) -> Result<Read, Unread>
+    ensures answer { told result ≡ read_of text.now }
     ensures tasks { tasks.new ≡ over (tasks_of text.now) tasks.old }
     ensures links { links.new ≡ over (links_of text.now) links.old }
     ensures events { events.new ≡ over (events_of text.now) events.old }
 {
-    let mut kind = no_kind();
-    let mut task = none_kept();
-    let mut link = none_kept();
-    let mut event = none_kept();
+    let mut kind = None;
+    let mut task = Kept::NONE;
+    let mut link = Kept::NONE;
+    let mut event = Kept::NONE;
     let mut line = 0;
-    let mut at = 0;
-    while at < text.len() {
-        let end = piece_end(text, at, false);
-        let said = line_says(&text[at..end], is_dated(kind.number));
+    for said in Said::of(text) {
         line += 1;
-        let fault = fault_in(kind.known, said);
-        if fault != 0 {
-            return answer(fault, line, kind, task, link, event);
-        }
-        kind = kind_after(kind, said);
-        task = keep(said, 1, TASKS_KEPT, tasks, task);
-        link = keep(said, 2, LINKS_KEPT, links, link);
-        event = keep(said, 3, EVENTS_KEPT, events, event);
-        at = end + 1;
+        let record = match in_place(kind.is_some(), said) {
+            Ok(Some(record)) => record,
+            Ok(None) => continue,
+            Err(fault) => {
+                let read = so_far(kind, task, link, event);
+                return Err(Unread { fault, line, read });
+            }
+        };
+        kind = kind_after(kind, &record);
+        task = keep(&record, Sort::Task, TASKS_KEPT, tasks, task);
+        link = keep(&record, Sort::Link, LINKS_KEPT, links, link);
+        event = keep(&record, Sort::Event, EVENTS_KEPT, events, event);
     }
-    if !kind.known {
-        return answer(6, line + 1, kind, task, link, event);
+    let read = so_far(kind, task, link, event);
+    if kind.is_none() {
+        return Err(Unread {
+            fault: Fault::KindNotFirst,
+            line: line + 1,
+            read,
+        });
     }
-    answer(0, 0, kind, task, link, event)
+    Ok(read)
 }
 
 // The line of a refusal of the writer, in the text of a recording of a kind: that of the record at fault, or the line after the last.
 pub fn line_of(text: &[u8], which: WhichKind, refusal: u8, place: usize) -> usize
     ensures { result ≡ line_of which text.now refusal place }
 {
-    recording_text_place::refusal_line(text, which, refusal, place)
+    refusal_line(text, which, refusal, place)
 }

@@ -1,4 +1,5 @@
 -- Laws that several proofs cite.
 pub mod Splits
-pub mod Numerals
 pub mod Sets
+pub mod Numerals
+pub mod Faults

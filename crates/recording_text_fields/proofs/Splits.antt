@@ -1,124 +1,102 @@
--- Pieces between separators, found byte by byte.
+-- Pieces between separators, one by one.
 -- Assumes nothing.
-use mathlib.Core.Path.{◌≡◌, refl, sym, ap, ◌∙◌}
-use mathlib.Core.Bool.{Bool, true, false}
-use mathlib.Core.List.{List, [], ◌∷◌, ◌++◌}
-use Prim.Native.Nat.{ℕ, suc, ◌+◌, ◌-◌, ◌≤◌, ◌<◌}
-use native.Mathlib.Numerals.{add-one}
-use native.Mathlib.Omega.{arith}
-use lib.ListN.{length, drop, get_or, length-drop, drop_of_length-le}
-use lib.Seq.{drop-cons, take-suc, get_or-drop, length-take-le, drop-length}
-use Rattle.recording_text_fields.specs.Pieces.{begun, pieces, separator, filled, fields, between, Ends}
+use Rattle.std.proofs.Common.{cond, ◌≡◌, refl, sym, ap, ◌∙◌, Bool, true, false, true≢false, not, List, [], ◌∷◌, ℕ, suc, ◌+◌, ◌≤◌, ◌<◌, length, take, drop, Option, Some, None, length-drop, drop_of_length-le, arith, Bor, ◌-◌}
+use borrow.Author.Tests.{eqb-true, eq-eqb, not-false}
+use denote.Param.Members.{Mut}
+use lib.Dec.{eqb}
+use lib.Seq.{take_all, drop-drop}
+use Rattle.std.specs.List.{position_or_len, FoldsTo}
+use Rattle.std.specs.Fn.{CalledAt}
+use Rattle.std.specs.Iterator.{YieldsThen, YieldsFirstRef}
+use Rattle.std.specs.Option.{MatchOption}
+use Rattle.recording_text_fields.specs.declared.piece.Pieces.{Pieces}
+use Rattle.recording_text_fields.specs.Pieces.{begun, pieces, filled}
+use Rattle.recording_text_fields.specs.Left.{pieces_left}
 
--- bytes in front of the first piece
-abbrev pub prepend : List ℕ → List (List ℕ) → List (List ℕ)
-prepend [] ps = ps
-prepend (b ∷ l) ps = begun b (prepend l ps)
+-- the first piece, and those behind its separator
+pub first_cut : (p : ℕ → Bool) (s : List ℕ) → 0 < length s → pieces p s ≡ take (position_or_len p s) s ∷ pieces p (drop (position_or_len p s + 1) s)
+unfolding pieces
+first_cut p [] h = absurd (omega arith)
+first_cut p (b ∷ s) h = go (p b) refl s (λ k. first_cut p s k)
+  where
+    go :
+        (t : Bool) → p b ≡ t → (s : List ℕ) → (0 < length s → pieces p s ≡ take (position_or_len p s) s ∷ pieces p (drop (position_or_len p s + 1) s)) →
+        cond t ([] ∷ pieces p s) (begun b (pieces p s)) ≡ take (cond (not t) (1 + position_or_len p s) 0) (b ∷ s) ∷ pieces p (drop (cond (not t) (1 + position_or_len p s) 0 + 1) (b ∷ s))
+    go true e s r = refl
+    go false e [] r = refl
+    go false e (c ∷ s) r =
+        let n = position_or_len p (c ∷ s) in
+        let o : 1 + n ≡ suc n = omega arith in
+        let q : suc n + 1 ≡ suc (n + 1) = omega arith in
+        rw (o, q) (ap (begun b) (r (omega arith)))
 
-prepend_snoc : (l : List ℕ) (b : ℕ) (ps : List (List ℕ)) → prepend (l ++ (b ∷ [])) ps ≡ prepend l (begun b ps)
-prepend_snoc [] b ps = refl
-prepend_snoc (a ∷ l) b ps = ap (begun a) (prepend_snoc l b ps)
+-- the bytes in front of the first separator and from there on
+module _ (p : ℕ → Bool) (s : List ℕ) {n : ℕ} {front back : List ℕ} (h : 0 < length s) (e : n ≡ position_or_len p s) (f : front ≡ take n s) (g : back ≡ drop n s) where
+  -- there is no separator
+  pub cut_end : length back < 1 → pieces p s ≡ front ∷ pieces p back
+  cut_end k =
+      let l : length (drop n s) ≡ 0 = ap length (sym g) ∙ omega arith in
+      let m : length s ≤ n = omega (arith, l, length-drop n s) in
+      let z : drop (n + 1) s ≡ [] = drop_of_length-le s {i = n + 1} (omega arith) in
+      let w : back ≡ [] = g ∙ drop_of_length-le s {i = n} m in
+      first_cut p s h ∙ rw (← e, z, f, w)
 
-prepend_at : (l : List ℕ) (ps : List (List ℕ)) → prepend l ([] ∷ ps) ≡ l ∷ ps
-prepend_at [] ps = refl
-prepend_at (a ∷ l) ps = ap (begun a) (prepend_at l ps)
+  -- the others are behind it
+  pub cut_behind : 1 ≤ length back → pieces p s ≡ front ∷ pieces p (take (length back - 1) (drop 1 back))
+  cut_behind k =
+      let z : take (length back - 1) (drop 1 back) ≡ drop 1 back = take_all (length back - 1) (drop 1 back) (omega (arith, length-drop 1 back)) in
+      let w : drop 1 back ≡ drop (n + 1) s = rw g (drop-drop 1 n s) in
+      first_cut p s h ∙ rw (← e, z, w, f)
 
-prepend_end : (l : List ℕ) → 0 < length l → prepend l [] ≡ l ∷ []
-prepend_end [] h = absurd (omega arith)
-prepend_end (a ∷ []) h = refl
-prepend_end (a ∷ b ∷ l) h = ap (begun a) (prepend_end (b ∷ l) (omega arith))
+-- fields are no more than bytes
+pub pieces_few : (p : ℕ → Bool) (s : List ℕ) → length (pieces p s) ≤ length s
+unfolding pieces
+pieces_few p [] = omega arith
+pieces_few p (b ∷ s) = go (p b) (pieces p s) (pieces_few p s)
+  where
+    go : (t : Bool) (ps : List (List ℕ)) → length ps ≤ length s → length (cond t ([] ∷ ps) (begun b ps)) ≤ length (b ∷ s)
+    go true ps h = omega arith
+    go false [] h = omega arith
+    go false (x ∷ ps) h = omega arith
 
--- the bytes between two places, and one more
-pub between_none : (a : ℕ) (s : List ℕ) → between a a s ≡ []
-between_none a s = let e : a - a ≡ 0 = omega arith in rw e
-
-between_more : (a i : ℕ) (s : List ℕ) → a ≤ i → i < length s → between a (i + 1) s ≡ between a i s ++ (get_or s i 0 ∷ [])
-between_more a i s h l =
-    let e : i + 1 - a ≡ suc (i - a) = omega arith in
-    let k : a + (i - a) ≡ i = omega arith in
-    let g : get_or (drop a s) (i - a) 0 ≡ get_or s i 0 = get_or-drop a s (i - a) 0 ∙ ap (λ (j : ℕ). get_or s j 0) k in
-    rw (e, take-suc (drop a s) (i - a) 0 (omega (arith, length-drop a s)), g)
-
-pub length_between : (a e : ℕ) (s : List ℕ) → e ≤ length s → length (between a e s) ≡ e - a
-length_between a e s h = length-take-le (e - a) (drop a s) (omega (arith, length-drop a s))
-
-module _ (p : ℕ → Bool) (s : List ℕ) where
-  -- a byte that does not separate, and one that does
-  pub pieces_on : (i : ℕ) → i < length s → p (get_or s i 0) ≡ false → pieces p (drop i s) ≡ begun (get_or s i 0) (pieces p (drop (i + 1) s))
-  unfolding pieces
-  pieces_on i h e = ap (pieces p) (drop-cons s i 0 h) ∙ rw (e, add-one i)
-
-  pub pieces_at : (i : ℕ) → i < length s → p (get_or s i 0) ≡ true → pieces p (drop i s) ≡ [] ∷ pieces p (drop (i + 1) s)
-  unfolding pieces
-  pieces_at i h e = ap (pieces p) (drop-cons s i 0 h) ∙ rw (e, add-one i)
-
-  -- no separator from a place up to another
-  pub record Walked (a i : ℕ) : Type 0 where
-    pub after : a ≤ i
-    pub within : i ≤ length s
-    pub walked : pieces p (drop a s) ≡ prepend (between a i s) (pieces p (drop i s))
-
-  pub walked_none : (a : ℕ) → a ≤ length s → Walked a a
-  walked_none a h = record { after = omega arith; within = h; walked = rw (between_none a s) }
-
-  pub walked_on : (a i : ℕ) → Walked a i → i < length s → p (get_or s i 0) ≡ false → Walked a (i + 1)
-  walked_on a i w h e =
-      record {
-        after = omega arith;
-        within = omega arith;
-        walked = w.walked ∙ rw (pieces_on i h e, between_more a i s w.after h) (sym (prepend_snoc (between a i s) (get_or s i 0) (pieces p (drop (i + 1) s))));
-      }
-
-  -- a separator ends the piece, and so does the end of the bytes
-  pub ends_at : (a i : ℕ) → Walked a i → i < length s → p (get_or s i 0) ≡ true → Ends p s a i
-  ends_at a i w h e =
-      record { after = w.after; within = w.within; split = w.walked ∙ rw (pieces_at i h e) (prepend_at (between a i s) (pieces p (drop (i + 1) s))) }
-
-  pub ends_end : (a i : ℕ) → Walked a i → a < length s → length s ≤ i → Ends p s a i
-  unfolding pieces
-  ends_end a i w l h =
-      let e : i ≡ length s = omega (arith, w.within) in
-      let n : drop i s ≡ [] = rw e (drop-length s) in
-      let m : drop (i + 1) s ≡ [] = drop_of_length-le s {i = i + 1} (omega arith) in
-      record { after = w.after; within = w.within; split = w.walked ∙ rw (n, m) (prepend_end (between a i s) (omega (arith, length_between a i s w.within))) }
-
--- a piece that begins with no separator has a byte
-head_length : List (List ℕ) → ℕ
-head_length [] = 0
-head_length (l ∷ ls) = length l
-
-begun_head : (b : ℕ) (ps : List (List ℕ)) → 1 ≤ head_length (begun b ps)
-unfolding head_length
-begun_head b [] = omega arith
-begun_head b (p ∷ ps) = omega arith
-
-pub has_byte : (p : ℕ → Bool) (s : List ℕ) (a e : ℕ) → Ends p s a e → a < length s → p (get_or s a 0) ≡ false → a < e
-unfolding head_length
-has_byte p s a e w l q =
-    let x : head_length (pieces p (drop a s)) ≡ length (between a e s) = ap head_length w.split in
-    let y : head_length (pieces p (drop a s)) ≡ head_length (begun (get_or s a 0) (pieces p (drop (a + 1) s))) = ap head_length (pieces_on p s a l q) in
-    omega (arith, length_between a e s w.within, begun_head (get_or s a 0) (pieces p (drop (a + 1) s)))
-
--- the fields from a place on: past a blank, past an empty piece, and from a field on
-filled_some : (x : List ℕ) (ps : List (List ℕ)) → 0 < length x → filled (x ∷ ps) ≡ x ∷ filled ps
+filled_few : (ps : List (List ℕ)) → length (filled ps) ≤ length ps
 unfolding filled
-filled_some [] ps h = absurd (omega arith)
+filled_few [] = omega arith
+filled_few ([] ∷ ps) = omega (arith, filled_few ps)
+filled_few ((b ∷ x) ∷ ps) = omega (arith, filled_few ps)
+
+pub fields_few : (p : ℕ → Bool) (s : List ℕ) → length (filled (pieces p s)) ≤ length s
+fields_few p s = omega (arith, filled_few (pieces p s), pieces_few p s)
+
+-- no byte, no piece
+pub pieces_none : (p : ℕ → Bool) (s : List ℕ) → length s ≡ 0 → pieces p s ≡ []
+unfolding pieces
+pieces_none p [] h = refl
+pieces_none p (b ∷ s) h = absurd (omega arith)
+
+-- a piece with a byte is a field
+filled_some : (x : List ℕ) (ps : List (List ℕ)) → (length x ≡ 0 → ⊥) → filled (x ∷ ps) ≡ x ∷ filled ps
+unfolding filled
+filled_some [] ps h = absurd (h refl)
 filled_some (b ∷ x) ps h = refl
 
-pub fields_skip : (s : List ℕ) (i : ℕ) → i < length s → separator true (get_or s i 0) ≡ true → fields (drop i s) ≡ fields (drop (i + 1) s)
+filled_skip : (x : List ℕ) (ps : List (List ℕ)) → length x ≡ 0 → filled (x ∷ ps) ≡ filled ps
 unfolding filled
-fields_skip s i h e = rw (pieces_at (separator true) s i h e)
+filled_skip [] ps h = refl
+filled_skip (b ∷ x) ps h = absurd (omega arith)
 
-pub fields_none : (s : List ℕ) (a e : ℕ) → Ends (separator true) s a e → e ≤ a → fields (drop a s) ≡ fields (drop (e + 1) s)
-unfolding filled
-fields_none s a e w h =
-    let k : e ≡ a = omega (arith, w.after) in
-    let n : between a e s ≡ [] = rw k (between_none a s) in
-    ap filled w.split ∙ rw n
-
-pub fields_some : (s : List ℕ) (a e : ℕ) → Ends (separator true) s a e → a < e → fields (drop a s) ≡ between a e s ∷ fields (drop (e + 1) s)
-fields_some s a e w h = ap filled w.split ∙ filled_some (between a e s) (pieces (separator true) (drop (e + 1) s)) (omega (arith, length_between a e s w.within))
-
-pub fields_past : (s : List ℕ) (i : ℕ) → length s ≤ i → fields (drop i s) ≡ []
-unfolding filled pieces
-fields_past s i h = rw (drop_of_length-le s h)
+-- the field that is found first among pieces
+module _ {F : Type 0} (g : Mut F (Bor (Bor (List ℕ)) × Unit {0}) Bool) (tests : (x : Bor (List ℕ)) (b : Bool) (p q : F) → CalledAt g p x b q → b ≡ not (eqb (length x.now) 0)) where
+  pub found :
+      (xs : List (Bor (List ℕ))) (r : Option (Bor (List ℕ))) (s u : Pieces) (f j : F) → YieldsThen (YieldsFirstRef pieces_left) s xs r u → FoldsTo (λ p x q. CalledAt g p x false q) f xs j →
+      MatchOption r (Unit {0}) (λ x. (h : F) × CalledAt g j x true h) →
+      MatchOption r ((filled (pieces_left s) ≡ []) × (filled (pieces_left u) ≡ [])) (λ x. filled (pieces_left s) ≡ x.now ∷ filled (pieces_left u))
+  unfolding filled
+  found [] None s u f j (t, e, last) l stop = (ap (λ (p : Pieces). filled (pieces_left p)) e ∙ ap filled last.0, ap filled last.1)
+  found [] (Some x) s u f j (t, e, last) l (h, stop) =
+      let n = tests x true j h stop in
+      ap (λ (p : Pieces). filled (pieces_left p)) e ∙ ap filled last ∙ filled_some x.now (pieces_left u) (λ z. true≢false (n ∙ ap not (eq-eqb (length x.now) 0 z)))
+  found (x ∷ xs) r s u f j (t, (m, step, more), last) (k, one, l) stop =
+      let z : length x.now ≡ 0 = eqb-true (length x.now) 0 (not-false _ (sym (tests x false f k one))) in
+      let e : filled (pieces_left s) ≡ filled (pieces_left m) = ap filled step ∙ filled_skip x.now (pieces_left m) z in
+      rw e (found xs r m u k j (t, more, last) l stop)

@@ -1,8 +1,7 @@
 -- Fields that are numbers.
 -- Assumes nothing.
-use Rattle.std.specs.Prelude.{Bool, true, cond, ◌&&◌, List, [], ◌∷◌, ◌++◌, map, ℕ, ◌+◌, ◌-◌, ◌*◌, ◌^◌, min, eqb, leb, ltb, length, get_or}
+use Rattle.std.specs.Prelude.{Result, Ok, Err, Bool, true, cond, ◌&&◌, List, [], ◌∷◌, ◌++◌, map, ℕ, ◌+◌, ◌-◌, ◌*◌, ◌^◌, min, eqb, leb, ltb, length, get_or}
 use Rattle.std.specs.Int.Bits.{bit_or}
-use Rattle.recording_text_fields.specs.declared.number.Number.{Number}
 use Rattle.recording_text_fields.specs.declared.number.Numbers.{Numbers}
 
 -- `0` to `9`
@@ -27,9 +26,9 @@ value f = value_from 0 f
 unfoldable pub number_fault : List ℕ → ℕ
 number_fault f = cond (all_digits f) (cond (ltb 4294967295 (value f)) 3 0) 2
 
--- a field as a number, 0 with a fault
-abbrev pub field_number : List ℕ → Number
-field_number f = record { fault = number_fault f; value = cond (eqb (number_fault f) 0) (value f) 0 }
+-- a field as a number, or the fault
+abbrev pub field_number : List ℕ → Result ℕ ℕ
+field_number f = cond (eqb (number_fault f) 0) (Ok (value f)) (Err (number_fault f))
 
 -- the first field from the left that is no number says why; 0 where there is none
 unfoldable pub first_fault : List (List ℕ) → ℕ
@@ -67,12 +66,8 @@ handed_set set = cond (ltb set (2 ^ last_of_set)) set 0
 
 -- numbers as they are gathered: how many there are, the first four, and all as a set
 abbrev pub gathered : List ℕ → Numbers
-gathered ns = record { fault = 0; count = length ns; first = get_or ns 0 0; second = get_or ns 1 0; third = get_or ns 2 0; fourth = get_or ns 3 0; set = set_of ns }
-
--- no numbers, but a fault
-abbrev pub no_numbers : ℕ → Numbers
-no_numbers fault = record { fault = fault; count = 0; first = 0; second = 0; third = 0; fourth = 0; set = 0 }
+gathered ns = record { count = length ns; first = get_or ns 0 0 ∷ get_or ns 1 0 ∷ get_or ns 2 0 ∷ get_or ns 3 0 ∷ []; set = set_of ns }
 
 -- numbers and those of fields behind them, or the first fault
-unfoldable pub numbers_with : List ℕ → List (List ℕ) → Numbers
-numbers_with ns fs = cond (eqb (first_fault fs) 0) (gathered (ns ++ field_values fs)) (no_numbers (first_fault fs))
+unfoldable pub numbers_with : List ℕ → List (List ℕ) → Result Numbers ℕ
+numbers_with ns fs = cond (eqb (first_fault fs) 0) (Ok (gathered (ns ++ field_values fs))) (Err (first_fault fs))

@@ -1,28 +1,112 @@
-// Where a piece of bytes ends: a line of a text, or a field of a line.
-ghost use Rattle.std.specs.Prelude.{◌≡◌, ◌≤◌, ◌<◌, length};
-ghost use Rattle.recording_text_fields.specs.Pieces.{separator, Ends};
+// Pieces of bytes: the lines of a text, and the fields of a line.
+ghost use Rattle.std.specs.Prelude.{◌≡◌, ◌∷◌, ◌<◌, ◌^◌, length};
+ghost use Rattle.std.specs.Iterator.{YieldsFirstRef, item_count};
+ghost use Rattle.std.specs.List.{position_or_len};
+ghost use Rattle.recording_text_fields.specs.Pieces.{separator, pieces, lines, fields};
 
 // Whether a byte separates the fields inside a line, or lines.
-pub fn separates(inner: bool, b: u8) -> bool
+fn separates(inner: bool, b: u8) -> bool
     ensures { result ≡ separator inner b }
 {
     if inner {
-        return (b == 32) | ((b == 9) | (b == 13));
+        matches!(b, b' ' | b'\t' | b'\r')
+    } else {
+        b == b'\n'
     }
-    b == 10
 }
 
-// Where the piece from a place on ends: at the next separator, or with the bytes; past their end at the place itself.
-pub fn piece_end(s: &[u8], at: usize, inner: bool) -> usize
-    ensures within { at < length s.now → Ends (separator inner) s.now at result }
-    ensures past { length s.now ≤ at → result ≡ at }
+// Where the first piece of some bytes ends: at the first separator, or with the bytes.
+fn piece_end(s: &[u8], inner: bool) -> usize
+    ensures { result ≡ position_or_len (separator inner) s.now }
 {
-    let mut i = at;
-    while i < s.len() {
-        if separates(inner, s[i]) {
-            return i;
-        }
-        i += 1;
+    s.iter()
+        .position(|b| separates(inner, *b))
+        .unwrap_or(s.len())
+}
+
+// The first piece of some bytes, and the bytes behind its separator.
+fn first_piece(s: &[u8], inner: bool) -> (&[u8], &[u8])
+    requires { 0 < length s.now }
+    ensures { pieces (separator inner) s.now ≡ result.0.now ∷ pieces (separator inner) result.1.now }
+{
+    let (piece, behind) = s.split_at(piece_end(s, inner));
+    match behind {
+        [_, left @ ..] => (piece, left),
+        [] => (piece, behind),
     }
-    i
+}
+
+// Pieces: what stands before each separator, and behind the last one, unless the bytes end there.
+#[derive(Clone, Copy)]
+pub struct Pieces<'a> {
+    left: &'a [u8],
+    inner: bool,
+    ghost few: { length left.now < 2 ^ 63 },
+}
+
+impl<'a> Pieces<'a> {
+    ghost use Rattle.recording_text_fields.specs.Left.{pieces_left};
+
+    // The lines of a text.
+    pub fn lines(text: &'a [u8]) -> Pieces<'a>
+        ensures { pieces_left result ≡ lines text.now }
+    {
+        Pieces {
+            left: text,
+            inner: false,
+        }
+    }
+}
+
+impl<'a> Iterator for Pieces<'a> {
+    ghost use Rattle.recording_text_fields.specs.Left.{pieces_left};
+
+    type Item = &'a [u8];
+
+    ghost next_gives = { YieldsFirstRef pieces_left };
+
+    ghost remaining = { item_count pieces_left };
+
+    fn next(&mut self) -> Option<&'a [u8]> {
+        if self.left.is_empty() {
+            return None;
+        }
+        let (piece, left) = first_piece(self.left, self.inner);
+        self.left = left;
+        Some(piece)
+    }
+}
+
+// The fields of a line: its pieces that have a byte.
+#[derive(Clone, Copy)]
+pub struct Fields<'a> {
+    pieces: Pieces<'a>,
+}
+
+impl<'a> Fields<'a> {
+    ghost use Rattle.recording_text_fields.specs.Left.{fields_left};
+
+    pub fn of(line: &'a [u8]) -> Fields<'a>
+        ensures { fields_left result ≡ fields line.now }
+    {
+        let pieces = Pieces {
+            left: line,
+            inner: true,
+        };
+        Fields { pieces }
+    }
+}
+
+impl<'a> Iterator for Fields<'a> {
+    ghost use Rattle.recording_text_fields.specs.Left.{fields_left};
+
+    type Item = &'a [u8];
+
+    ghost next_gives = { YieldsFirstRef fields_left };
+
+    ghost remaining = { item_count fields_left };
+
+    fn next(&mut self) -> Option<&'a [u8]> {
+        self.pieces.find(|piece| !piece.is_empty())
+    }
 }

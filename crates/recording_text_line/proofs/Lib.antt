@@ -1,4 +1,4 @@
--- Laws that the proofs cite, and worked examples.
+-- Laws that several proofs cite, and worked examples.
 pub mod Letters
 pub mod Lines
 pub mod Whole

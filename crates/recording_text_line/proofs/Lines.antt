@@ -1,22 +1,18 @@
--- What the lines of a text say, one by one.
+-- A text has no more lines than bytes.
 -- Assumes nothing.
-use mathlib.Core.Path.{◌≡◌, ap, ◌∙◌}
-use mathlib.Core.Bool.{Bool, false}
-use mathlib.Core.List.{List, [], ◌∷◌}
-use Prim.Native.Nat.{ℕ, ◌+◌, ◌≤◌}
-use lib.ListN.{length, drop, drop_of_length-le}
-use Rattle.recording_text_fields.specs.Pieces.{pieces, separator, lines, between, Ends}
-use Rattle.recording_text_line.specs.declared.Said.{Said}
-use Rattle.recording_text_line.specs.Line.{says, said_of, dated_after, all_say}
+use Rattle.std.proofs.Common.{◌≡◌, Bool, List, [], ◌∷◌, ℕ, ◌<◌, ◌^◌, length, arith}
+use Rattle.recording_text_fields.specs.Pieces.{separator}
+use Rattle.recording_text_fields.proofs.Splits.{pieces_few}
+use Rattle.recording_text_line.specs.declared.said.Said.{Said}
+use Rattle.recording_text_line.specs.Line.{says, dated_after, all_say}
+use Rattle.recording_text_line.specs.Left.{said_left}
 
--- a line more
-pub line_more :
-    (s : List ℕ) {a e : ℕ} → Ends (separator false) s a e → (dated : Bool) (r : Said) → said_of r ≡ says dated (between a e s) → {next : Bool} →
-    next ≡ dated_after dated (said_of r) → all_say dated (lines (drop a s)) ≡ said_of r ∷ all_say next (lines (drop (e + 1) s))
+each_says : (dated : Bool) (ls : List (List ℕ)) → length (all_say dated ls) ≡ length ls
 unfolding all_say
-line_more s w dated r q n = ap (all_say dated) w.split ∙ rw (← q, n)
+each_says dated [] = omega arith
+each_says dated (l ∷ ls) = omega (arith, each_says (dated_after dated (says dated l)) ls)
 
--- past the end there is none
-pub no_line : (s : List ℕ) (dated : Bool) (i : ℕ) → length s ≤ i → all_say dated (lines (drop i s)) ≡ []
-unfolding all_say pieces
-no_line s dated i h = rw (drop_of_length-le s h)
+pub lines_few : (s : Said) → length (said_left s) < 2 ^ 63
+lines_few s =
+    let ls = s.lines in
+    omega (arith, each_says s.dated (Rattle.recording_text_fields.specs.Pieces.pieces (separator ls.inner) ls.left.now), pieces_few (separator ls.inner) ls.left.now, ls.few)

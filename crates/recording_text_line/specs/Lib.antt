@@ -1,2 +1,5 @@
 -- What a line says.
 pub mod Line
+pub mod Sorts
+pub mod Told
+pub mod Left

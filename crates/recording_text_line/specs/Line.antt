@@ -1,8 +1,7 @@
 -- What a line says, in a dated text or another, and what lines say one after the other.
 -- Assumes nothing.
-use Rattle.std.specs.Prelude.{◌≡◌, Bool, false, true, cond, not, ◌&&◌, ◌||◌, List, [], ◌∷◌, ◌++◌, ℕ, ◌-◌, ◌≤◌, eqb, ltb, length, take, drop, get_or, replicate}
+use Rattle.std.specs.Prelude.{Option, Some, None, Result, Ok, Err, ◌≡◌, Bool, false, true, cond, not, ◌&&◌, ◌||◌, List, [], ◌∷◌, ◌++◌, ℕ, ◌-◌, ◌≤◌, eqb, ltb, length, drop, get_or, replicate}
 use Rattle.recording_format.specs.RecordingKind.{dated_recording}
-use Rattle.recording_text_line.specs.declared.Said.{Said}
 use Rattle.recording_text_fields.specs.Pieces.{lines, fields}
 use Rattle.recording_text_fields.specs.Numeral.{is_digit, value, number_fault, first_fault, field_values, set_of, handed_set}
 
@@ -40,11 +39,17 @@ fields_wanted dated b = cond (eqb b 76) 4 (cond (eqb b 70) 2 (cond (eqb b 84 && 
 abbrev pub front : List ℕ → ℕ → List ℕ
 front tick b = cond (eqb b 83) (2 ∷ tick) (cond (eqb b 82) (3 ∷ tick) (cond (eqb b 70) (4 ∷ tick) []))
 
--- too few numbers, 4, too many, 5, or the record
+-- so many numbers, or too few, 4, or too many, 5
+abbrev pub exactly : ℕ → List ℕ → Result (List ℕ) ℕ
+exactly n ns = cond (ltb (length ns) n) (Err 4) (cond (ltb n (length ns)) (Err 5) (Ok ns))
+
+-- too few numbers, 4, too many, 5, or the record of them, behind others
+abbrev pub counted : ℕ → List ℕ → ℕ → List ℕ → Says
+counted b before n ns = cond (ltb (length ns) n) (faulty 4) (cond (ltb n (length ns)) (faulty 5) (saying b (before ++ ns)))
+
+-- the record of a letter, where as many numbers follow as are wanted
 abbrev pub counted_out : Bool → List ℕ → ℕ → List ℕ → Says
-counted_out dated tick b ns =
-    cond (ltb (length ns) (fields_wanted dated b)) (faulty 4)
-    (cond (ltb (fields_wanted dated b) (length ns)) (faulty 5) (saying b (front tick b ++ ns)))
+counted_out dated tick b ns = counted b (front tick b) (fields_wanted dated b) ns
 
 -- a letter and the numbers behind it: an arrival of any set, or as many numbers as are wanted
 unfoldable pub record_of : Bool → List ℕ → ℕ → List ℕ → Says
@@ -75,10 +80,14 @@ event_says x (f ∷ fs) = cond (eqb (sort (letter_of f)) 3) (lettered true (x �
 unfoldable pub tick_says : List ℕ → List (List ℕ) → Says
 tick_says f fs = cond (eqb (number_fault f) 0) (event_says (value f) fs) (faulty (number_fault f))
 
--- the fields of a line: none, or a first one that begins with `#`, say nothing; in a dated text one that begins with a digit is a tick
+-- a first field and those behind it: in a dated text one that begins with a digit is a tick
+abbrev pub first_says : Bool → List ℕ → List (List ℕ) → Says
+first_says dated f fs = cond (dated && is_digit (get_or f 0 0)) (tick_says f fs) (letter_says dated f fs)
+
+-- the fields of a line: none, or a first one that begins with `#`, say nothing
 unfoldable pub fields_say : Bool → List (List ℕ) → Says
 fields_say dated [] = nothing
-fields_say dated (f ∷ fs) = cond (eqb (get_or f 0 0) 35) nothing (cond (dated && is_digit (get_or f 0 0)) (tick_says f fs) (letter_says dated f fs))
+fields_say dated (f ∷ fs) = cond (eqb (get_or f 0 0) 35) nothing (first_says dated f fs)
 
 -- what a line says
 abbrev pub says : Bool → List ℕ → Says
@@ -101,10 +110,6 @@ all_say dated (l ∷ ls) = says dated l ∷ all_say (dated_after dated (says dat
 abbrev pub text_says : List ℕ → List Says
 text_says text = all_say false (lines text)
 
--- the answer of the code, of whose four numbers so many are there
-abbrev pub said_of : Said → Says
-said_of r = record { fault = r.fault; letter = r.letter; numbers = take r.size r.numbers }
-
 -- the most numbers that a record of a sort has, in any text: a link and an event 4, a task 2, the kind 1
 abbrev pub widest : ℕ → ℕ
 widest k = cond (eqb k 2) 4 (cond (eqb k 3) 4 (cond (eqb k 1) 2 1))
@@ -113,3 +118,8 @@ widest k = cond (eqb k 2) 4 (cond (eqb k 3) 4 (cond (eqb k 1) 2 1))
 pub record Padded (letter size : ℕ) (numbers : List ℕ) : Type 0 where
   pub few : size ≤ widest (sort letter)
   pub rest : drop size numbers ≡ replicate (4 - size) 0
+
+-- a tick as it is handed to the writer, where there is one
+abbrev pub ticks : Option ℕ → List ℕ
+ticks None = []
+ticks (Some x) = x ∷ []

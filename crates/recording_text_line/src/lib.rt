@@ -1,247 +1,150 @@
 // What a line of a recording's text says, in a dated text or another: a record, nothing, or why it cannot be read.
 #![tactic(auto)]
 
-ghost use Rattle.std.specs.Prelude.{◌≡◌, true, false, cond, List, [], ◌∷◌, ℕ, ◌+◌, ◌≤◌, ◌<◌, ltb, length, take, drop, get_or};
-ghost use Rattle.recording_text_fields.specs.Pieces.{fields, separator, between};
+ghost use Rattle.std.specs.Prelude.{◌≡◌, List, [], ◌∷◌, ℕ, ◌<◌, ◌≤◌};
+ghost use Rattle.recording_text_fields.specs.Faults.{told};
+ghost use Rattle.recording_text_fields.specs.Left.{fields_left};
 ghost use Rattle.recording_text_fields.specs.Numeral.{gathered};
-ghost use Rattle.recording_text_line.specs.Line.{faulty, saying, record_of, lettered, letter_of, begins, event_says, tick_says, fields_say, says, said_of, sort, is_dated, dated_after, Padded};
+ghost use Rattle.recording_text_line.specs.Line.{exactly, counted, widest, record_of, lettered, letter_of, event_says, tick_says, first_says, says, sort, ticks};
+ghost use Rattle.recording_text_line.specs.Sorts.{sort_number};
+ghost use Rattle.recording_text_line.specs.Told.{said_of, said_of_record, IsLetter};
 
-use recording_format::DATED_FIRST;
-use recording_text_fields::number::{Numbers, handed_set, is_digit, number_of, numbers_from};
-use recording_text_fields::piece::{piece_end, separates};
+use recording_text_fields::fault::Fault;
+use recording_text_fields::number::{Numbers, handed_set, is_digit, number_of, numbers_of};
+use recording_text_fields::piece::Fields;
 
-// The most numbers that a record has: those of a link, and of a finish with its tick.
-pub const NUMBERS: usize = 4;
+pub mod record;
+pub mod said;
+pub mod sort;
 
-// What a line says: why it cannot be read, 0 where it can; its letter, 0 for none; and so many numbers for the writer, zeros behind them.
-#[derive(Clone, Copy)]
-pub struct Said {
-    pub fault: u8,
-    pub letter: u8,
-    pub size: usize,
-    pub numbers: [u32; NUMBERS],
+use crate::record::Record;
+use crate::sort::{Sort, sort_of};
+
+// The numbers of a line, where it has just so many.
+fn exactly<const N: usize>(numbers: &Numbers) -> Result<[u32; N], Fault>
+    requires { N ≤ 4 }
+    ensures { (ns : List ℕ) → numbers.now ≡ gathered ns → told result ≡ exactly N ns }
+{
+    if numbers.count < N {
+        return Err(Fault::TooFewNumbers);
+    }
+    if N < numbers.count {
+        return Err(Fault::TooManyNumbers);
+    }
+    let mut these = [0; N];
+    these.copy_from_slice(&numbers.first[..N]);
+    Ok(these)
 }
 
-// The sort of a record by its letter: a task, a link, an event, the kind, or 0.
-pub fn sort_of(letter: u8) -> u8
-    ensures { result ≡ sort letter }
+// A record of just so many numbers.
+fn counted<const N: usize>(letter: u8, numbers: &Numbers) -> Result<Record, Fault>
+    requires four { N ≤ 4 }
+    requires known { 0 < sort letter }
+    requires few { N ≤ widest (sort letter) }
+    ensures { (ns : List ℕ) → numbers.now ≡ gathered ns → said_of_record result ≡ counted letter [] N ns }
+{
+    let own = exactly::<N>(numbers)?;
+    Ok(Record::of(letter, own))
+}
+
+// An event of just so many numbers, behind its kind and its tick, where it has one.
+fn counted_event<const N: usize>(
+    letter: u8,
+    kind: u32,
+    tick: Option<u32>,
+    numbers: &Numbers,
+) -> Result<Record, Fault>
+    requires few { N ≤ 2 }
+    requires sort { sort letter ≡ 3 }
+    ensures { (ns : List ℕ) → numbers.now ≡ gathered ns → said_of_record result ≡ counted letter (kind ∷ ticks tick) N ns }
+{
+    let own = exactly::<N>(numbers)?;
+    Ok(Record::event(letter, kind, tick, own))
+}
+
+// The record of a letter, a tick, where there is one, and the numbers behind them; in a dated text a task has its relative deadline too.
+#[tactic(auto, unfolding(crate::specs::Line::sort, crate::specs::Line::record_of))]
+fn record_of(dated: bool, tick: Option<u32>, letter: u8, numbers: &Numbers) -> Result<Record, Fault>
+    requires { 0 < sort letter }
+    ensures { (ns : List ℕ) → numbers.now ≡ gathered ns → said_of_record result ≡ record_of dated (ticks tick) letter ns }
 {
     match letter {
-        b'T' => 1,
-        b'L' => 2,
-        b'A' => 3,
-        b'S' => 3,
-        b'R' => 3,
-        b'F' => 3,
-        b'K' => 4,
-        _ => 0,
+        b'A' => Ok(Record::event(letter, 1, tick, [handed_set(numbers.set)])),
+        b'S' => counted_event::<1>(letter, 2, tick, numbers),
+        b'R' => counted_event::<1>(letter, 3, tick, numbers),
+        b'F' => counted_event::<2>(letter, 4, tick, numbers),
+        b'L' => counted::<4>(letter, numbers),
+        b'T' if dated => counted::<2>(letter, numbers),
+        _ => counted::<1>(letter, numbers),
     }
 }
 
-// A line with no record: it says nothing, or cannot be read.
-fn no_record(fault: u8) -> Said
-    ensures answer { said_of result ≡ faulty fault }
-    ensures padded { Padded result.letter result.size result.numbers }
+// The letter that a field is, and the sort of its records.
+#[tactic(auto, unfolding(crate::specs::Line::sort))]
+fn letter_in(field: &[u8]) -> Option<(u8, Sort)>
+    ensures { IsLetter result (letter_of field.now) }
 {
-    Said {
-        fault,
-        letter: 0,
-        size: 0,
-        numbers: [0u32; NUMBERS],
+    let [letter] = field else {
+        return None;
+    };
+    Some((*letter, sort_of(*letter)?))
+}
+
+// What a letter and the fields behind it say, behind a tick or with none.
+fn letter_says(dated: bool, tick: Option<u32>, letter: u8, fields: Fields) -> Result<Record, Fault>
+    requires { 0 < sort letter }
+    ensures { said_of_record result ≡ lettered dated (ticks tick) letter (fields_left fields.entry) }
+{
+    let numbers = numbers_of(fields)?;
+    record_of(dated, tick, letter, &numbers)
+}
+
+// What the fields behind a tick say.
+#[tactic(auto, unfolding(crate::specs::Line::event_says))]
+fn event_says(tick: u32, mut fields: Fields) -> Result<Record, Fault>
+    ensures { said_of_record result ≡ event_says tick (fields_left fields.entry) }
+{
+    let Some(field) = fields.next() else {
+        return Err(Fault::UnknownWord);
+    };
+    match letter_in(field) {
+        Some((letter, Sort::Event)) => letter_says(true, Some(tick), letter, fields),
+        _ => Err(Fault::UnknownWord),
     }
 }
 
-// A record of so many numbers, where as many were given as are wanted.
-fn counted(letter: u8, wanted: usize, count: usize, size: usize, numbers: [u32; NUMBERS]) -> Said
-    requires { Padded letter size numbers }
-    ensures answer { said_of result ≡ cond (ltb count wanted) (faulty 4) (cond (ltb wanted count) (faulty 5) (saying letter (take size numbers))) }
-    ensures padded { Padded result.letter result.size result.numbers }
+// What a first field that is a tick and those behind it say.
+#[tactic(auto, unfolding(crate::specs::Line::tick_says))]
+fn tick_says(first: &[u8], fields: Fields) -> Result<Record, Fault>
+    ensures { said_of_record result ≡ tick_says first.now (fields_left fields.entry) }
 {
-    if count < wanted {
-        return no_record(4);
-    }
-    if wanted < count {
-        return no_record(5);
-    }
-    Said {
-        fault: 0,
-        letter,
-        size,
-        numbers,
-    }
+    event_says(number_of(first)?, fields)
 }
 
-// The record of a letter and the numbers behind it; in a dated text a task has its relative deadline too.
-fn record_of(dated: bool, letter: u8, ns: Numbers) -> Said
-    ensures answer { (l : List ℕ) → ns ≡ gathered l → said_of result ≡ record_of dated [] letter l }
-    ensures padded { Padded result.letter result.size result.numbers }
+// What a first field and those behind it say.
+#[tactic(auto, unfolding(crate::specs::Line::letter_says))]
+fn first_says(dated: bool, first: &[u8], fields: Fields) -> Result<Record, Fault>
+    ensures { said_of_record result ≡ first_says dated first.now (fields_left fields.entry) }
 {
-    if (letter == b'T') & dated {
-        return counted(letter, 2, ns.count, 2, [ns.first, ns.second, 0, 0]);
+    match first {
+        [b, ..] if dated && is_digit(*b) => tick_says(first, fields),
+        _ => match letter_in(first) {
+            // In a dated text an event begins with its tick.
+            Some((_, Sort::Event)) if dated => Err(Fault::UnknownWord),
+            Some((letter, _)) => letter_says(dated, None, letter, fields),
+            None => Err(Fault::UnknownWord),
+        },
     }
-    match letter {
-        b'A' => counted(letter, ns.count, ns.count, 2, [1, handed_set(ns.set), 0, 0]),
-        b'S' => counted(letter, 1, ns.count, 2, [2, ns.first, 0, 0]),
-        b'R' => counted(letter, 1, ns.count, 2, [3, ns.first, 0, 0]),
-        b'F' => counted(letter, 2, ns.count, 3, [4, ns.first, ns.second, 0]),
-        b'L' => counted(
-            letter,
-            4,
-            ns.count,
-            4,
-            [ns.first, ns.second, ns.third, ns.fourth],
-        ),
-        _ => counted(letter, 1, ns.count, 1, [ns.first, 0, 0, 0]),
-    }
-}
-
-// The record of an event of a dated text: its tick, its letter, and the numbers behind it.
-fn event_of(tick: u32, letter: u8, ns: Numbers) -> Said
-    requires { sort letter ≡ 3 }
-    ensures answer { (l : List ℕ) → ns ≡ gathered l → said_of result ≡ record_of true (tick ∷ []) letter l }
-    ensures padded { Padded result.letter result.size result.numbers }
-{
-    match letter {
-        b'A' => counted(
-            letter,
-            ns.count,
-            ns.count,
-            3,
-            [1, tick, handed_set(ns.set), 0],
-        ),
-        b'S' => counted(letter, 1, ns.count, 3, [2, tick, ns.first, 0]),
-        b'R' => counted(letter, 1, ns.count, 3, [3, tick, ns.first, 0]),
-        _ => counted(letter, 2, ns.count, 4, [4, tick, ns.first, ns.second]),
-    }
-}
-
-// The place of the first byte of the first field from a place on; none in the line where there is none.
-fn first_field(line: &[u8], from: usize) -> usize
-    ensures same { fields (drop result line.now) ≡ fields (drop from line.now) }
-    ensures begins { result < length line.now → separator true (get_or line.now result 0) ≡ false }
-{
-    let mut at = from;
-    while at < line.len() {
-        if !separates(true, line[at]) {
-            return at;
-        }
-        at += 1;
-    }
-    at
-}
-
-// The letter that a field is, 0 where it has more bytes than one.
-fn letter_at(line: &[u8], at: usize, end: usize) -> u8
-    requires { (at < end) × (end ≤ length line.now) }
-    ensures { result ≡ letter_of (between at end line.now) }
-{
-    if end != at + 1 {
-        return 0;
-    }
-    line[at]
-}
-
-// Whether a line may begin with the letter of a record of a sort.
-fn may_begin(dated: bool, sort: u8) -> bool
-    ensures { result ≡ begins dated sort }
-{
-    !((sort == 0) | (dated & (sort == 3)))
-}
-
-// What a letter and the fields from a place on say.
-fn letter_says(line: &[u8], dated: bool, letter: u8, from: usize) -> Said
-    ensures answer { said_of result ≡ lettered dated [] letter (fields (drop from line.now)) }
-    ensures padded { Padded result.letter result.size result.numbers }
-{
-    let numbers = numbers_from(line, from);
-    if numbers.fault != 0 {
-        return no_record(numbers.fault);
-    }
-    record_of(dated, letter, numbers)
-}
-
-// What the fields from a place on say behind a tick.
-fn event_says(line: &[u8], tick: u32, from: usize) -> Said
-    ensures answer { said_of result ≡ event_says tick (fields (drop from line.now)) }
-    ensures padded { Padded result.letter result.size result.numbers }
-{
-    let at = first_field(line, from);
-    if line.len() <= at {
-        return no_record(1);
-    }
-    let end = piece_end(line, at, true);
-    let letter = letter_at(line, at, end);
-    if sort_of(letter) != 3 {
-        return no_record(1);
-    }
-    let numbers = numbers_from(line, end + 1);
-    if numbers.fault != 0 {
-        return no_record(numbers.fault);
-    }
-    event_of(tick, letter, numbers)
-}
-
-// What a tick between two places and the fields behind it say.
-fn tick_says(line: &[u8], at: usize, end: usize) -> Said
-    requires { (at ≤ end) × (end ≤ length line.now) }
-    ensures answer { said_of result ≡ tick_says (between at end line.now) (fields (drop (end + 1) line.now)) }
-    ensures padded { Padded result.letter result.size result.numbers }
-{
-    let tick = number_of(&line[at..end]);
-    if tick.fault != 0 {
-        return no_record(tick.fault);
-    }
-    event_says(line, tick.value, end + 1)
-}
-
-// What the fields from a place on say, where the first of them begins there.
-fn fields_say(line: &[u8], dated: bool, at: usize) -> Said
-    requires { (at < length line.now) × (separator true (get_or line.now at 0) ≡ false) }
-    ensures answer { said_of result ≡ fields_say dated (fields (drop at line.now)) }
-    ensures padded { Padded result.letter result.size result.numbers }
-{
-    let end = piece_end(line, at, true);
-    let first = line[at];
-    if first == b'#' {
-        return no_record(0);
-    }
-    if dated & is_digit(first) {
-        return tick_says(line, at, end);
-    }
-    let letter = letter_at(line, at, end);
-    if !may_begin(dated, sort_of(letter)) {
-        return no_record(1);
-    }
-    letter_says(line, dated, letter, end + 1)
 }
 
 // What a line says, in a dated text or another.
-pub fn line_says(line: &[u8], dated: bool) -> Said
-    ensures answer { said_of result ≡ says dated line.now }
-    ensures padded { Padded result.letter result.size result.numbers }
-    ensures four { length result.numbers ≡ 4 }
+#[tactic(auto, unfolding(crate::specs::Line::fields_say))]
+pub fn line_says(line: &[u8], dated: bool) -> Result<Option<Record>, Fault>
+    ensures { said_of result ≡ says dated line.now }
 {
-    let at = first_field(line, 0);
-    if at < line.len() {
-        return fields_say(line, dated, at);
+    let mut fields = Fields::of(line);
+    match fields.next() {
+        None | Some([b'#', ..]) => Ok(None),
+        Some(first) => Ok(Some(first_says(dated, first, fields)?)),
     }
-    no_record(0)
-}
-
-// Whether a number is that of the dated kind.
-pub fn is_dated(number: u32) -> bool
-    ensures { result ≡ is_dated number }
-{
-    number == DATED_FIRST as u32
-}
-
-// Whether the lines behind a line are those of a dated text. It is said of what a line says, which is padded (`line_says`).
-pub fn dated_after(dated: bool, said: Said) -> bool
-    ensures { Padded said.letter said.size said.numbers → result ≡ dated_after dated (said_of said) }
-{
-    if sort_of(said.letter) != 4 {
-        return dated;
-    }
-    let numbers = said.numbers;
-    is_dated(numbers[0])
 }

@@ -1,3 +1,2 @@
--- Laws that the proofs cite, and worked examples.
-pub mod Places
+-- Laws that several proofs cite, and worked examples.
 pub mod Examples

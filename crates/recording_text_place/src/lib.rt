@@ -1,17 +1,20 @@
 // The line of a record that the writer refuses, in the text of a recording.
 #![tactic(auto)]
 
-ghost use Rattle.std.specs.Prelude.{◌≡◌, ◌-◌};
-ghost use Rattle.recording_text_line.specs.Line.{text_says};
-ghost use Rattle.recording_text_place.specs.Place.{bytes_of, all_bytes, step, line_after, one_of, of_link, of_event, kind_or_task, line_of};
+ghost use Rattle.std.specs.Prelude.{◌≡◌, ◌-◌, eqb};
+ghost use Rattle.recording_text_line.specs.Line.{sort, text_says};
+ghost use Rattle.recording_text_line.specs.Sorts.{sort_number};
+ghost use Rattle.recording_text_line.specs.Told.{said_of};
+ghost use Rattle.recording_text_place.specs.Place.{bytes_of, all_bytes, weight, step, line_after, after_last, kind_or_task, line_of};
 
-use lent_bytes::place::left;
 use recording_format::{
     LINK_SIZE, TASK_PLACE, WhichKind, deadline_size, most_events, most_links, most_tasks, set_size,
     tick_size,
 };
-use recording_text_fields::piece::piece_end;
-use recording_text_line::{dated_after, line_says, sort_of};
+use recording_text_fields::fault::Fault;
+use recording_text_line::record::Record;
+use recording_text_line::said::Said;
+use recording_text_line::sort::Sort;
 
 // What stands before the tasks: the first byte, and T.
 const BEFORE_TASKS: usize = TASK_PLACE + 1;
@@ -22,9 +25,6 @@ const BEFORE_LINKS: usize = BEFORE_TASKS + 1;
 // And before the events, besides the tasks and the links: E too.
 const BEFORE_EVENTS: usize = BEFORE_LINKS + 2;
 
-// A sort that no line has.
-const NO_SORT: u8 = 5;
-
 // What is counted on the way to a record: records, or their bytes in a recording of a kind.
 #[derive(Clone, Copy)]
 pub enum Measure {
@@ -33,6 +33,7 @@ pub enum Measure {
 }
 
 // The bytes of a task, a link or an event in a recording of a kind, by its letter.
+#[tactic(auto, unfolding(crate::specs::Place::bytes_of))]
 fn bytes_of(which: WhichKind, letter: u8) -> usize
     ensures { result ≡ bytes_of which letter }
 {
@@ -41,113 +42,115 @@ fn bytes_of(which: WhichKind, letter: u8) -> usize
         b'T' => 4 + deadline_size(which),
         b'L' => LINK_SIZE,
         b'F' => 6 + tick,
-        b'S' => 2 + tick,
-        b'R' => 2 + tick,
+        b'S' | b'R' => 2 + tick,
         _ => 1 + tick + set_size(which),
     }
 }
 
-// What a line counts: one for its record, or its bytes; nothing where it has no record of the sort.
-fn counts(measure: Measure, sort: u8, letter: u8) -> usize
-    ensures { result ≡ step measure sort letter }
-{
-    if sort_of(letter) != sort {
-        return 0;
+impl Measure {
+    // What a record of a letter counts.
+    fn of(self, letter: u8) -> usize
+        ensures { result ≡ weight self letter }
+    {
+        match self {
+            Measure::Records => 1,
+            Measure::Bytes(which) => bytes_of(which, letter),
+        }
     }
-    match measure {
-        Measure::Records => 1,
-        Measure::Bytes(which) => bytes_of(which, letter),
+}
+
+// What a line counts: one for its record, or its bytes; nothing where it has no record of the sort.
+#[tactic(auto, unfolding(recording_text_line::specs::Line::sort))]
+fn counts(measure: Measure, wanted: Sort, said: &Result<Option<Record>, Fault>) -> usize
+    ensures { result ≡ step measure (sort_number wanted) (said_of said.now).letter }
+{
+    match said {
+        Ok(Some(record)) if record.is(wanted) => measure.of(record.letter),
+        _ => 0,
     }
 }
 
 // What is left of a number of bytes behind all records of a sort.
-fn behind(text: &[u8], which: WhichKind, sort: u8, bytes: usize) -> usize
-    ensures { result ≡ bytes - all_bytes which sort (text_says text.now) }
+#[tactic(auto, unfolding(crate::specs::Place::all_bytes))]
+fn behind(text: &[u8], which: WhichKind, wanted: Sort, bytes: usize) -> usize
+    ensures { result ≡ bytes - all_bytes which (sort_number wanted) (text_says text.now) }
 {
     let mut much = bytes;
-    let mut dated = false;
-    let mut at = 0;
-    while at < text.len() {
-        let end = piece_end(text, at, false);
-        let said = line_says(&text[at..end], dated);
-        much = left(much, counts(Measure::Bytes(which), sort, said.letter));
-        dated = dated_after(dated, said);
-        at = end + 1;
+    for said in Said::of(text) {
+        much = much.saturating_sub(counts(Measure::Bytes(which), wanted, &said));
     }
     much
 }
 
+// Whether a line has a record of a sort.
+#[tactic(auto, unfolding(recording_text_line::specs::Line::sort))]
+fn has(said: &Result<Option<Record>, Fault>, wanted: Sort) -> bool
+    ensures { result ≡ eqb (sort (said_of said.now).letter) (sort_number wanted) }
+{
+    matches!(said, Ok(Some(record)) if record.is(wanted))
+}
+
 // The line of the first record of a sort before which so much stands; the line after the last where there is none.
-fn line_after(text: &[u8], measure: Measure, sort: u8, before: usize) -> usize
-    ensures { result ≡ line_after measure sort before 1 (text_says text.now) }
+#[tactic(auto, using(recording_text_line::proofs::Lines::lines_few), unfolding(crate::specs::Place::line_after))]
+fn line_after(text: &[u8], measure: Measure, wanted: Sort, before: usize) -> usize
+    ensures { result ≡ line_after measure (sort_number wanted) before 1 (text_says text.now) }
 {
     let mut much = before;
     let mut line = 1;
-    let mut dated = false;
-    let mut at = 0;
-    while at < text.len() {
-        let end = piece_end(text, at, false);
-        let said = line_says(&text[at..end], dated);
-        if (sort_of(said.letter) == sort) & (much == 0) {
+    for said in Said::of(text) {
+        if much == 0 && has(&said, wanted) {
             return line;
         }
-        much = left(much, counts(measure, sort, said.letter));
+        much = much.saturating_sub(counts(measure, wanted, &said));
         line += 1;
-        dated = dated_after(dated, said);
-        at = end + 1;
     }
     line
 }
 
-// Whether a number is one of those from one to another.
-fn one_of(low: u8, high: u8, n: u8) -> bool
-    ensures { result ≡ one_of low high n }
+// The line after the last.
+#[tactic(auto, using(recording_text_line::proofs::Lines::lines_few))]
+fn after_last(text: &[u8]) -> usize
+    ensures { result ≡ after_last (text_says text.now) }
 {
-    (low <= n) & (n <= high)
-}
-
-// Whether a refusal is that of a rule of links.
-fn of_link(refusal: u8) -> bool
-    ensures { result ≡ of_link refusal }
-{
-    one_of(4, 9, refusal) | (refusal == 20)
-}
-
-// Whether a refusal is that of a rule of events.
-fn of_event(refusal: u8) -> bool
-    ensures { result ≡ of_event refusal }
-{
-    one_of(12, 16, refusal) | one_of(21, 23, refusal)
+    Said::of(text).count() + 1
 }
 
 // The line of refusal 2: at place 0 that of the kind, elsewhere that of the first task past the limit.
+#[tactic(auto, unfolding(crate::specs::Place::kind_or_task))]
 fn kind_or_task(text: &[u8], which: WhichKind, place: usize) -> usize
     ensures { result ≡ kind_or_task which place (text_says text.now) }
 {
     if place == 0 {
-        return line_after(text, Measure::Records, 4, 0);
+        line_after(text, Measure::Records, Sort::Kind, 0)
+    } else {
+        line_after(text, Measure::Records, Sort::Task, most_tasks(which))
     }
-    line_after(text, Measure::Records, 1, most_tasks(which))
 }
 
-// The line of a refusal in the text of a recording of a kind.
+// The line of a refusal in the text of a recording of a kind. The refusal is a number, as the writer's answer has it.
+#[tactic(auto, unfolding(crate::specs::Place::refusal_line))]
 pub fn refusal_line(text: &[u8], which: WhichKind, refusal: u8, place: usize) -> usize
     ensures { result ≡ line_of which text.now refusal place }
 {
-    if of_link(refusal) {
-        let past_tasks = behind(text, which, 1, left(place, BEFORE_LINKS));
-        return line_after(text, Measure::Bytes(which), 2, past_tasks);
-    }
-    if of_event(refusal) {
-        let past_tasks = behind(text, which, 1, left(place, BEFORE_EVENTS));
-        let past_links = behind(text, which, 2, past_tasks);
-        return line_after(text, Measure::Bytes(which), 3, past_links);
-    }
     match refusal {
+        // the rules of links
+        4..=9 | 20 => {
+            let past_tasks = behind(text, which, Sort::Task, place.saturating_sub(BEFORE_LINKS));
+            line_after(text, Measure::Bytes(which), Sort::Link, past_tasks)
+        }
+        // those of events
+        12..=16 | 21..=23 => {
+            let past_tasks = behind(text, which, Sort::Task, place.saturating_sub(BEFORE_EVENTS));
+            let past_links = behind(text, which, Sort::Link, past_tasks);
+            line_after(text, Measure::Bytes(which), Sort::Event, past_links)
+        }
         2 => kind_or_task(text, which, place),
-        3 => line_after(text, Measure::Records, 2, most_links(which)),
-        10 => line_after(text, Measure::Records, 3, most_events(which)),
-        24 => line_after(text, Measure::Bytes(which), 1, left(place, BEFORE_TASKS)),
-        _ => line_after(text, Measure::Records, NO_SORT, 0),
+        3 => line_after(text, Measure::Records, Sort::Link, most_links(which)),
+        10 => line_after(text, Measure::Records, Sort::Event, most_events(which)),
+        24 => {
+            let past_head = place.saturating_sub(BEFORE_TASKS);
+            line_after(text, Measure::Bytes(which), Sort::Task, past_head)
+        }
+        _ => after_last(text),
     }
 }

@@ -11,4 +11,4 @@ returns c =
     (piece _ _ _ c.text.ensures.shows
     (piece _ _ _ c.number.ensures.shows
     (piece _ _ _ c.text-2.ensures.shows
-    (piece _ _ _ c.number-2.ensures.shows (piece _ _ _ c.text-3.ensures.shows (piece _ _ _ c.number-whole.ensures.shows c.put.ensures))))))
+    (piece _ _ _ (rw c.from.ensures at c.number-2.ensures.shows) (piece _ _ _ c.text-3.ensures.shows (piece _ _ _ c.number-whole.ensures.shows c.put.ensures))))))

@@ -1,148 +1,63 @@
--- `recording_text::read_text` meets its contract. The loop's invariant: the lines before the place can be read, and what they say is stored. The measure is what is left of the text.
+-- `recording_text::read_text` meets its contract: a line that cannot be read, or the end.
 -- Assumes nothing.
-use mathlib.Core.Path.{◌≡◌, refl, sym, ap, ◌∙◌}
-use mathlib.Core.Bool.{Bool}
-use mathlib.Core.List.{[]}
-use native.Mathlib.Omega.{arith}
-use borrow.Author.Tests.{not-true, not-false, ne_eqb}
-use Rattle.recording_text.specs.declared.KnownKind.{KnownKind}
-use Rattle.recording_text_fields.specs.Pieces.{between}
-use Rattle.recording_text_line.specs.Line.{says, said_of, is_dated}
-use Rattle.recording_text.specs.Text.{fault_in, tasks_kept, links_kept, events_kept}
-use Rattle.recording_text.proofs.Stores.{and_line, held_none, held_more}
-use Rattle.recording_text.proofs.Known.{told_none, known_more, dated_more, told_more}
-use Rattle.recording_text.proofs.Texts.{before_none, before_more, stops, ends, list_held, answered}
-use borrow.Author.Rules.{rules}
+use Rattle.std.proofs.Common.{◌≡◌, refl, sym, ap, ◌∙◌, true, false, length, arith}
+use borrow.Author.Tests.{ne_eqb}
+use Rattle.std.specs.Option.{is_some}
+use Rattle.recording_text_fields.specs.Faults.{number}
+use Rattle.recording_text_fields.proofs.Faults.{some_fault}
+use Rattle.recording_text_line.proofs.Lines.{lines_few}
+use Rattle.recording_text_line.specs.Told.{said_of}
+use Rattle.recording_text.specs.Text.{fault_in, readable_of, fault_of}
+use Rattle.recording_text.proofs.Texts.{reading_none, reading_few, reading_skip, reading_on, reading_stops, reading_ends, answered, tasks_held, links_held, events_held}
 use Rattle.recording_text.proofs.read_text.Goals as goal
 
-pub loop-at-init : goal.loop-at-init
-loop-at-init c = let kind = c.no_kind-kind in
-    let a = c.args in (
-      [],
-      (
-        before_none a.text.now (ap (λ (k : KnownKind). k.known) kind.ensures) (ap (λ (k : KnownKind). is_dated k.number) kind.ensures),
-        (
-          told_none kind.ensures,
-          (held_none 1 tasks_kept a.tasks.now c.none_kept-task.ensures, (held_none 2 links_kept a.links.now c.none_kept-link.ensures, held_none 3 events_kept a.events.now c.none_kept-event.ensures)),
-        ),
-      ),
-    )
-
-pub slice_bounds-line_says-count : goal.slice_bounds-line_says-count
-slice_bounds-line_says-count c = omega (arith, (c.piece_end-end.ensures.within c.loop-at-test.true).after)
-
-pub slice_bounds-line_says-start : goal.slice_bounds-line_says-start
-slice_bounds-line_says-start c = (c.piece_end-end.ensures.within c.loop-at-test.true).after
-
-pub slice_bounds-line_says-end : goal.slice_bounds-line_says-end
-slice_bounds-line_says-end c = (c.piece_end-end.ensures.within c.loop-at-test.true).within
+pub loop-said-init : goal.loop-said-init
+loop-said-init c = rw c.into_iter-said-iterator.ensures.into_iter_gives (reading_none _ c.of-said-items.ensures _ _ _)
 
 pub overflow_add-line : goal.overflow_add-line
-overflow_add-line c = let test = c in
-    omega (arith, test.loop-at-test.true, test.loop-at.invariant.1.0.near)
+overflow_add-line c = omega (arith, reading_few c.loop-said.invariant, lines_few c.of-said-items.result, ap length c.of-said-items.ensures, ap length c.in-Some.ensures.steps)
 
-pub returns-then-fault-ne0 : goal.returns-then-fault-ne0
-returns-then-fault-ne0 c = let fault = c in
-    let said = fault in
-    let piece = said in
-    let l = piece.loop-at in
-    let text = piece.args.text.now in
-    let told = l.invariant.1.1.0 in
-    let held = l.invariant.1.1.1 in
-    let x = said.line_says-said.result in
-    let q = said.line_says-said.ensures.answer ∙ ap (λ (d : Bool). says d (between l.at piece.piece_end-end.result text)) said.is_dated.ensures in
-    let s = stops text l.invariant.1.0 (piece.piece_end-end.ensures.within piece.loop-at-test.true) x q fault.fault_in-fault.ensures c.if-fault-ne0.true in
-    let n = ne_eqb fault.fault_in-fault.result 0 c.if-fault-ne0.true in record {
-      answer = answered text s.0 s.1 (rw n (omega (arith, l.invariant.1.0.many))) told.number held.0.numbers held.1.0.numbers held.1.1.numbers c.answer.ensures;
-      tasks = list_held text s.0 1 tasks_kept held.0;
-      links = list_held text s.0 2 links_kept held.1.0;
-      events = list_held text s.0 3 events_kept held.1.1;
+pub loop-said-preserved-in-Ok-None : goal.loop-said-preserved-in-Ok-None
+loop-said-preserved-in-Ok-None c = let h = rw c.in-Ok-None.field-0-is at c.in-Ok-None.ensures in
+    reading_skip c.loop-said.invariant c.in-Some.ensures.steps (rw c.is_some.ensures at h.1) (sym h.0)
+
+pub returns-in-Err : goal.returns-in-Err
+returns-in-Err c = let b = c.loop-said.invariant in
+    let f : fault_in (is_some c.loop-said.kind) (said_of c.in-Some.said) ≡ number c.in-Err.fault = rw c.is_some.ensures at c.in-Err.ensures in
+    let x = reading_stops b c.in-Some.ensures.steps f (some_fault c.in-Err.fault) in
+    record {
+      answer = rw c.so_far-read.ensures (answered b x (rw (ne_eqb (number c.in-Err.fault) 0 (some_fault c.in-Err.fault))));
+      tasks = tasks_held b x;
+      links = links_held b x;
+      events = events_held b x;
     }
 
-pub keep-task-requires : goal.keep-task-requires
-keep-task-requires c = let said = c in
-    let l = said.loop-at in
-    record { size = said.line_says-said.ensures.padded.few; stored = l.invariant.1.1.1.0.few; whole = search rules; small = omega arith }
+pub loop-said-preserved : goal.loop-said-preserved
+loop-said-preserved c = let h = rw c.in-Ok-Some.field-0-is at c.in-Ok-Some.ensures in
+    reading_on c.loop-said.invariant c.in-Some.ensures.steps (rw c.is_some.ensures at h.1) c.in-Ok-Some.record (sym h.0) c.keep-task.ensures.whole c.kind_after-kind.ensures
+    c.keep-task.ensures.answer c.keep-task.ensures.list c.keep-link.ensures.answer c.keep-link.ensures.list c.keep-event.ensures.answer c.keep-event.ensures.list
 
-pub keep-link-requires : goal.keep-link-requires
-keep-link-requires c = let said = c in
-    let l = said.loop-at in
-    record { size = said.line_says-said.ensures.padded.few; stored = l.invariant.1.1.1.1.0.few; whole = search rules; small = omega arith }
-
-pub keep-event-requires : goal.keep-event-requires
-keep-event-requires c = let said = c in
-    let l = said.loop-at in
-    record { size = said.line_says-said.ensures.padded.few; stored = l.invariant.1.1.1.1.1.few; whole = search rules; small = omega arith }
-
-pub overflow_add-at : goal.overflow_add-at
-overflow_add-at c = let piece = c in
-    omega (arith, (piece.piece_end-end.ensures.within piece.loop-at-test.true).within, piece)
-
-pub loop-at-smaller : goal.loop-at-smaller
-loop-at-smaller c = let piece = c in
-    omega (arith, (piece.piece_end-end.ensures.within piece.loop-at-test.true).after, piece.loop-at-test.true)
-
-pub loop-at-preserved : goal.loop-at-preserved
-loop-at-preserved c = let kind = c in
-    let no = kind in
-    let fault = no in
-    let said = fault in
-    let piece = said in
-    let l = piece.loop-at in
-    let a = piece.args in
-    let text = a.text.now in
-    let done = l.invariant.0 in
-    let told = l.invariant.1.1.0 in
-    let held = l.invariant.1.1.1 in
-    let x = said.line_says-said.result in
-    let q = said.line_says-said.ensures.answer ∙ ap (λ (d : Bool). says d (between l.at piece.piece_end-end.result text)) said.is_dated.ensures in
-    let padded = said.line_says-said.ensures.padded in
-    let four = said.line_says-said.ensures.four in
-    let z : fault_in l.kind.known (said_of x) ≡ 0 = sym fault.fault_in-fault.ensures ∙ no.if-fault-ne0.false in
-    let k = kind.kind_after-kind.ensures in (
-      and_line done x,
-      (
-        before_more text l.invariant.1.0 (piece.piece_end-end.ensures.within piece.loop-at-test.true) x q piece.loop-at-test.true z (known_more told x padded z k) (dated_more told x padded z k),
-        (
-          told_more told x padded z k,
-          (
-            held_more 1 tasks_kept done a.tasks.now held.0 x padded.few four c.keep-task.ensures.answer c.keep-task.ensures.list,
-            (
-              held_more 2 links_kept done a.links.now held.1.0 x padded.few four c.keep-link.ensures.answer c.keep-link.ensures.list,
-              held_more 3 events_kept done a.events.now held.1.1 x padded.few four c.keep-event.ensures.answer c.keep-event.ensures.list,
-            ),
-          ),
-        ),
-      ),
-    )
-
-pub overflow_add-line-then-not-kind : goal.overflow_add-line-then-not-kind
-overflow_add-line-then-not-kind c = omega (arith, c.loop-at.invariant.1.0.near)
-
-pub returns-then-not-kind : goal.returns-then-not-kind
-returns-then-not-kind c = let at-loop = c in
-    let l = at-loop.loop-at in
-    let text = at-loop.args.text.now in
-    let told = l.invariant.1.1.0 in
-    let held = l.invariant.1.1.1 in
-    let known = not-true l.kind.known c.if-not-kind.true in
-    let s = ends text l.invariant.1.0 c.loop-at-test.false in record {
-      answer = answered text s.0 (s.1 ∙ rw known) (omega (arith, l.invariant.1.0.many)) told.number held.0.numbers held.1.0.numbers held.1.1.numbers c.answer-then-not-kind.ensures;
-      tasks = list_held text s.0 1 tasks_kept held.0;
-      links = list_held text s.0 2 links_kept held.1.0;
-      events = list_held text s.0 3 events_kept held.1.1;
+pub returns-then-is_none : goal.returns-then-is_none
+returns-then-is_none c = let b = c.loop-said.invariant in
+    let k : is_some c.loop-said.kind ≡ false = rw c.if-is_none.true at c.is_none.ensures in
+    let x : (readable_of c.args.text.now ≡ b.done) × (fault_of c.args.text.now ≡ 6) = let r = reading_ends b c.in-None.ensures.steps.0 in (r.0, r.1 ∙ rw k) in
+    record {
+      answer = rw c.so_far-read-2.ensures (answered b x refl);
+      tasks = tasks_held b x;
+      links = links_held b x;
+      events = events_held b x;
     }
 
 pub returns : goal.returns
-returns c = let at-loop = c in
-    let l = at-loop.loop-at in
-    let text = at-loop.args.text.now in
-    let told = l.invariant.1.1.0 in
-    let held = l.invariant.1.1.1 in
-    let known = not-false l.kind.known c.if-not-kind.false in
-    let s = ends text l.invariant.1.0 c.loop-at-test.false in record {
-      answer = answered text s.0 (s.1 ∙ rw known) refl told.number held.0.numbers held.1.0.numbers held.1.1.numbers c.answer-2.ensures;
-      tasks = list_held text s.0 1 tasks_kept held.0;
-      links = list_held text s.0 2 links_kept held.1.0;
-      events = list_held text s.0 3 events_kept held.1.1;
+returns c = let b = c.loop-said.invariant in
+    let k : is_some c.loop-said.kind ≡ true = rw c.if-is_none.false at c.is_none.ensures in
+    let x : (readable_of c.args.text.now ≡ b.done) × (fault_of c.args.text.now ≡ 0) = let r = reading_ends b c.in-None.ensures.steps.0 in (r.0, r.1 ∙ rw k) in
+    record {
+      answer = rw c.so_far-read-2.ensures (answered b x refl);
+      tasks = tasks_held b x;
+      links = links_held b x;
+      events = events_held b x;
     }
+
+pub overflow_add-result : goal.overflow_add-result
+overflow_add-result c = omega (arith, reading_few c.loop-said.invariant, lines_few c.of-said-items.result, ap length c.of-said-items.ensures)

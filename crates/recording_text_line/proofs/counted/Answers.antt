@@ -1,25 +1,13 @@
--- `recording_text_line::counted` meets its contract. Each way out is one answer of the two tests.
+-- `recording_text_line::counted` meets its contract: there are as many numbers as are wanted, or the fault.
 -- Assumes nothing.
-use mathlib.Core.Path.{◌∙◌}
-use borrow.Author.Tests.{lt-ltb, le-ltb}
+use mathlib.Core.List.{[]}
+use Rattle.std.proofs.lemmas.Result.{err_from_is_err_and}
+use Rattle.recording_text_line.proofs.Letters.{some_counted, none_counted}
 use Rattle.recording_text_line.proofs.counted.Goals as goal
 
-pub returns-then-count-wanted : goal.returns-then-count-wanted
-returns-then-count-wanted c = let a = c.args in
-    record {
-      answer = c.no_record.ensures.answer ∙ rw (lt-ltb a.count a.wanted c.if-count-wanted.true);
-      padded = c.no_record.ensures.padded;
-    }
-
-pub returns-then-wanted-count : goal.returns-then-wanted-count
-returns-then-wanted-count c = let a = c.args in record {
-  answer = c.no_record-then-wanted-count.ensures.answer ∙ rw (le-ltb a.count a.wanted c.if-count-wanted.false, lt-ltb a.wanted a.count c.if-wanted-count.true);
-  padded = c.no_record-then-wanted-count.ensures.padded;
-}
+pub returns-in_err-own : goal.returns-in_err-own
+returns-in_err-own g c ns e = let p = err_from_is_err_and c.from_residual.result c.from_residual.ensures.1 in
+    rw (p.1, p.2) (none_counted c.args.letter [] g.row.N ns c.exactly.result (c.exactly.ensures ns e) _ c.in_err-own.was)
 
 pub returns : goal.returns
-returns c = let a = c.args in
-    record {
-      answer = rw (le-ltb a.count a.wanted c.if-count-wanted.false, le-ltb a.wanted a.count c.if-wanted-count.false);
-      padded = c.requires;
-    }
+returns g c ns e = rw (c.of.ensures.letter, c.of.ensures.numbers) (some_counted c.args.letter [] g.row.N ns c.exactly.result (c.exactly.ensures ns e) _ c.in_ok-own.was)

@@ -1,27 +1,14 @@
 -- `recording_text_line::letter_says` meets its contract: a fault among the numbers, or the record.
 -- Assumes nothing.
-use mathlib.Core.Path.{sym, ◌∙◌}
-use mathlib.Core.List.{[]}
-use lib.ListN.{drop}
-use Rattle.recording_text_fields.specs.Pieces.{fields}
-use Rattle.recording_text_line.specs.Line.{said_of}
-use Rattle.recording_text_line.proofs.Letters.{no_numbers_lem, some_numbers}
+use Rattle.std.proofs.lemmas.Result.{err_from_is_err_and}
+use Rattle.recording_text_fields.specs.Left.{fields_left}
+use Rattle.recording_text_line.specs.Line.{ticks}
+use Rattle.recording_text_line.proofs.Letters.{no_numbers, some_numbers}
 use Rattle.recording_text_line.proofs.letter_says.Goals as goal
 
-pub returns-then-numbers-ne0 : goal.returns-then-numbers-ne0
-returns-then-numbers-ne0 c = let numbers = c in
-    let a = numbers.args in
-    let r = c.no_record in
-    record {
-      answer = r.ensures.answer ∙ sym (no_numbers_lem a.dated [] a.letter (fields (drop a.from a.line.now)) numbers.numbers_from-numbers.ensures c.if-numbers-ne0.true);
-      padded = r.ensures.padded;
-    }
+pub returns-in_err-numbers : goal.returns-in_err-numbers
+returns-in_err-numbers c = let a = c.args in let p = err_from_is_err_and c.from_residual.result c.from_residual.ensures.1 in
+    rw (p.1, p.2) (no_numbers a.dated (ticks a.tick) a.letter (fields_left a.fields) c.in_err-numbers.ensures)
 
 pub returns : goal.returns
-returns c = let numbers = c in
-    let a = numbers.args in
-    let r = c.record_of in
-    record {
-      answer = some_numbers a.dated [] a.letter (fields (drop a.from a.line.now)) numbers.numbers_from-numbers.ensures c.if-numbers-ne0.false (said_of r.result) r.ensures.answer;
-      padded = r.ensures.padded;
-    }
+returns c = let a = c.args in some_numbers a.dated (ticks a.tick) a.letter (fields_left a.fields) c.in_ok-numbers.ensures c.record_of.ensures

@@ -1,36 +1,25 @@
--- `recording_text_fields::piece::piece_end` meets its contract. The loop's invariant: no separator stands between the place and i; past the end i is the place. The measure is what is left of the bytes.
+-- `recording_text_fields::piece::piece_end` meets its contract: the place of the first separator, or the length.
 -- Assumes nothing.
-use mathlib.Core.Path.{refl, sym, ◌∙◌}
-use native.Mathlib.Omega.{arith}
+use borrow.Author.Rules.{rules}
+use Rattle.std.proofs.Common.{◌≡◌, refl, Bool, true, false, cond, ℕ, Some, None, ltb, ◌≤◌, length, arith}
+use borrow.Author.Tests.{ltb-false}
+use Rattle.std.specs.List.{position_or_len}
+use Rattle.std.specs.Option.{unwrap_or}
+use Rattle.std.proofs.lemmas.List.Sums.{prefix_len-le-length}
+use Rattle.std.proofs.lemmas.Iterator.{YieldsList-from_slice}
+use Rattle.std.proofs.lemmas.Iterator.Search.{position_from_yields_List}
 use Rattle.recording_text_fields.specs.Pieces.{separator}
-use Rattle.recording_text_fields.proofs.Splits.{walked_none, walked_on, ends_at, ends_end}
 use Rattle.recording_text_fields.proofs.piece.piece_end.Goals as goal
 
-pub loop-i-init : goal.loop-i-init
-loop-i-init c = let a = c.args in
-    (λ h. walked_none (separator a.inner) a.s.now a.at (omega arith), λ h. refl)
-
-pub returns-then-separates : goal.returns-then-separates
-returns-then-separates c = let at-loop = c in
-    let l = at-loop.loop-i in
-    let a = at-loop.args in
-    record {
-      within = λ h. ends_at (separator a.inner) a.s.now a.at l.i (l.invariant.0 h) (omega arith) (sym c.separates.ensures ∙ c.if-separates.true);
-      past = l.invariant.1;
-    }
-
-pub loop-i-preserved : goal.loop-i-preserved
-loop-i-preserved c = let at-loop = c in
-    let l = at-loop.loop-i in
-    let a = at-loop.args in (
-      λ h. walked_on (separator a.inner) a.s.now a.at l.i (l.invariant.0 h) (omega arith) (sym c.separates.ensures ∙ c.if-separates.false),
-      λ h. absurd (omega (arith, l.invariant.1 h)),
-    )
+-- a place below the length, or the length
+end_of : (n m : ℕ) → n ≤ m → unwrap_or (cond (ltb n m) (Some n) None) m ≡ n
+end_of n m h = go (ltb n m) refl
+  where
+    go : (b : Bool) → ltb n m ≡ b → unwrap_or (cond b (Some n) None) m ≡ n
+    go true e = refl
+    go false e = omega (arith, ltb-false n m e)
 
 pub returns : goal.returns
-returns c = let l = c.loop-i in
-    let a = c.args in
-    record {
-      within = λ h. ends_end (separator a.inner) a.s.now a.at l.i (l.invariant.0 h) h (omega arith);
-      past = l.invariant.1;
-    }
+returns c = let a = c.args in
+    rw (c.unwrap_or.ensures, position_from_yields_List (separator a.inner) _ _ c.position.result c.position.ensures.ran (YieldsList-from_slice a.s.now c.iter.ensures.rest) (λ x b q k. search rules))
+    (end_of (position_or_len (separator a.inner) a.s.now) (length a.s.now) (prefix_len-le-length _ a.s.now))

@@ -1,0 +1,15 @@
+-- `recording_text_line::counted_event` meets its contract: there are as many numbers as are wanted, or the fault.
+-- Assumes nothing.
+use mathlib.Core.List.{◌∷◌}
+use Rattle.std.proofs.lemmas.Result.{err_from_is_err_and}
+use Rattle.recording_text_line.specs.Line.{ticks}
+use Rattle.recording_text_line.proofs.Letters.{some_counted, none_counted}
+use Rattle.recording_text_line.proofs.counted_event.Goals as goal
+
+pub returns-in_err-own : goal.returns-in_err-own
+returns-in_err-own g c ns e = let p = err_from_is_err_and c.from_residual.result c.from_residual.ensures.1 in
+    rw (p.1, p.2) (none_counted c.args.letter (c.args.kind ∷ ticks c.args.tick) g.row.N ns c.exactly.result (c.exactly.ensures ns e) _ c.in_err-own.was)
+
+pub returns : goal.returns
+returns g c ns e =
+    rw (c.event.ensures.letter, c.event.ensures.numbers) (some_counted c.args.letter (c.args.kind ∷ ticks c.args.tick) g.row.N ns c.exactly.result (c.exactly.ensures ns e) _ c.in_ok-own.was)
