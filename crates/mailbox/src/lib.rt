@@ -295,28 +295,28 @@ impl State {
         ensures answer { Gives self (call_of when e) result }
         ensures sound { StaysSound self result }
     {
-        let tasks = self.tasks;
-        let links = self.links;
-        let mut control = self.control;
-        let mut values = self.values;
-        let mut times = self.times;
         let given = match when {
-            When::Untimed => give(Ok(e), tasks, links, &mut control, &mut values, &times),
+            When::Untimed => give(
+                Ok(e),
+                self.tasks,
+                self.links,
+                &mut self.control,
+                &mut self.values,
+                &self.times,
+            ),
             When::At(tick) => give_at(
                 tick,
                 Ok(e),
-                tasks,
-                links,
-                &mut control,
-                &mut values,
-                &mut times,
+                self.tasks,
+                self.links,
+                &mut self.control,
+                &mut self.values,
+                &mut self.times,
             ),
         };
-        self.control = control;
-        self.values = values;
-        self.times = times;
+        let state = self.itself();
         Step {
-            state: self.itself(),
+            state,
             answer: Answer::from(given),
         }
     }

@@ -6,7 +6,6 @@ use Rattle.std.specs.Result.{result_unwrap_or}
 use Rattle.refusals.specs.Numbers.{told}
 use Rattle.protocol_state.specs.Saved.{state_room}
 use Rattle.protocol_state.specs.Give.{reply, given_to}
-use Rattle.mailbox_layout.specs.Layout.{state_of}
 use Rattle.mailbox_event.specs.Plain.{call_of}
 use Rattle.mailbox.specs.States.{saved, Gives}
 use Rattle.mailbox.proofs.Makes.{same_reply, stays}
@@ -17,16 +16,16 @@ pub returns : goal.returns
 returns c = let m = c in
     let a = m in
     let q = a.args.self in
-    let given : reply (state_of q.tasks q.links m.match-when.control m.match-when.values m.match-when.times) (told m.match-when.given) (result_unwrap_or m.match-when.given 0)
+    let given : reply (saved m.match-when.self) (told m.match-when.given) (result_unwrap_or m.match-when.given 0)
     ≡ given_to state_room (saved q) (call_of a.args.when a.args.e) =
     elim m.match-when.branch [
-      | in-Untimed w ↦ rw (w.control-is, w.values-is, w.times-is, w.given-is, w.in-Untimed.is) w.give-given.ensures.answer
-      | in-At w ↦ rw (w.control-is, w.values-is, w.times-is, w.given-is, w.in-At.is) w.give_at-given.ensures.answer
+      | in-Untimed w ↦ rw (w.self-is, w.given-is, w.in-Untimed.is) w.give-given.ensures.answer
+      | in-At w ↦ rw (w.self-is, w.given-is, w.in-At.is) w.give_at-given.ensures.answer
     ] in
     let d : Gives q (call_of a.args.when a.args.e) _ = record {
-      answer = same_reply c.itself.result _ c.itself.ensures.same (rw (c.from.ensures.0, c.from.ensures.1) given);
+      answer = same_reply c.itself-state.result _ c.itself-state.ensures.same (rw (c.from.ensures.0, c.from.ensures.1) given);
       lent = search rules;
-      whole = c.itself.ensures.whole;
+      whole = c.itself-state.ensures.whole;
     } in
     record {
       answer = d;
