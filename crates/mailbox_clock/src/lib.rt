@@ -152,7 +152,7 @@ pub fn keep_arrival(tick: u32, set: u32, tasks: usize, times: &mut [u32; TIMES])
     ensures dated { policy_in times.old ≢ 0 → (L : ℕ) (c v : List ℕ) → state_of (min tasks state_room.tasks) L c v times.new ≡ clocked tick (arrival set) (state_of (min tasks state_room.tasks) L c v times.old) }
 {
     keep_each(tick, set, few(tasks, TASKS), times);
-    put_entry(times, InTimes::Last, 0, tick);
+    keep_tick(tick, times);
 }
 
 // The ticks after the finish of task `t`: its arrival tick is set back.
@@ -161,5 +161,5 @@ pub fn keep_finish(tick: u32, t: u8, times: &mut [u32; TIMES])
     ensures dated { policy_in times.old ≢ 0 → (T L w : ℕ) (c v : List ℕ) → state_of T L c v times.new ≡ clocked tick (finish t w) (state_of T L c v times.old) }
 {
     put_entry(times, InTimes::Since, usize::from(t), 0);
-    put_entry(times, InTimes::Last, 0, tick);
+    keep_tick(tick, times);
 }

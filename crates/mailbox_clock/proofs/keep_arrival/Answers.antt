@@ -13,6 +13,6 @@ returns c = let s = c in
     let n = s in
     let a = n.args in
     let each = rw n.few.ensures at s.keep_each.ensures in record {
-      times = c.put_entry.ensures ∙ ap (last_put a.tick) each;
-      dated = λ dated L k v. clock_goes _ L k v a.times.now _ (arrival a.set) dated _ _ each c.put_entry.ensures;
+      times = c.keep_tick.ensures.times ∙ ap (last_put a.tick) each;
+      dated = λ dated L k v. clock_goes _ L k v a.times.now _ (arrival a.set) dated _ _ each c.keep_tick.ensures.times;
     }

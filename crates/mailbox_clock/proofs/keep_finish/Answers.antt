@@ -12,6 +12,6 @@ unfolding since_after
 returns c = let s = c in
     let a = s.args in
     let back = rw c.from.ensures at s.put_entry.ensures in record {
-      times = c.put_entry-2.ensures ∙ ap (last_put a.tick) back;
-      dated = λ dated T L w k v. clock_goes T L k v a.times.now _ (finish _ w) dated _ _ back c.put_entry-2.ensures;
+      times = c.keep_tick.ensures.times ∙ ap (last_put a.tick) back;
+      dated = λ dated T L w k v. clock_goes T L k v a.times.now _ (finish _ w) dated _ _ back c.keep_tick.ensures.times;
     }
