@@ -11,7 +11,8 @@ use Rattle.mailbox_event.specs.Plain.{plain}
 use Rattle.std.specs.Prelude.{Result, Ok, Err}
 use Rattle.refusals.specs.Numbers.{number}
 use Rattle.refusals.specs.declared.Refusal.{Refusal}
-use Rattle.refusals.proofs.Numbers.{number_once}
+use Rattle.refusals.specs.declared.Refused.{Refused}
+use Rattle.refusals.proofs.Numbers.{number_not_0, number_once}
 use Rattle.recording_event.specs.Next.{got_of}
 use Rattle.recording_event.specs.declared.Record.{Record}
 use Rattle.protocol_state.specs.Saved.{Saved}
@@ -26,7 +27,7 @@ use Rattle.mailbox.specs.declared.Step.{Step}
 use Rattle.mailbox.specs.declared.Made.{Made}
 use Rattle.mailbox.proofs.Packed.{saved_same}
 use Rattle.recording_table.specs.Heads.{Heads}
-use Rattle.recording_table.specs.Sections.{HoldsTable}
+use Rattle.recording_table.specs.Sections.{HoldsTable, ReadsTable}
 use Rattle.recording_table.specs.declared.Table.{Table}
 use Rattle.recording_text.proofs.Texts.{one_read}
 use Rattle.recording_make.proofs.Makes.{one_recording}
@@ -81,11 +82,21 @@ one_made a b x y =
 
 one_table : {p : ℕ} {x : Verdict Heads} (a b : Table) → HoldsTable p x a → HoldsTable p x b → a ≡ b
 one_table a b x y = λ i. record {
-  refusal = same x.refusal y.refusal i;
   place = same x.place y.place i;
   events = same x.events y.events i;
   state = saved_same a.state b.state x.whole y.whole (same x.state y.state) i;
 }
+
+one_reading : {p : ℕ} {x : Verdict Heads} (a b : Result Table Refused) → ReadsTable p x a → ReadsTable p x b → a ≡ b
+one_reading (Ok s) (Ok t) x y = ap Ok (one_table s t (x.table s refl) (y.table t refl))
+one_reading (Ok s) (Err r) x y = absurd (number_not_0 r.refusal ((y.refused r refl).refusal ∙ (x.table s refl).none))
+one_reading (Err r) (Ok t) x y = absurd (number_not_0 r.refusal ((x.refused r refl).refusal ∙ (y.table t refl).none))
+one_reading (Err r) (Err q) x y =
+    let u = x.refused r refl in
+    let v = y.refused q refl in
+    let refusal = number_once r.refusal q.refusal (same u.refusal v.refusal) in
+    let place = same u.place v.place in
+    ap Err (λ i. record { refusal = refusal i; place = place i })
 
 -- what the arrays hold, without the counts
 abbrev uncounted : Saved → Saved
@@ -134,7 +145,7 @@ one_answer = record {
   kind_of = λ κs lent a b left left' x y. same x y;
   refused = λ why a b x y. one_next a b (same x y);
   number_of = λ κs lent a b left left' x y. same x y;
-  read_table = λ κs lent a b left left' x y. one_table a b x y;
+  read_table = λ κs lent a b left left' x y. one_reading a b x y;
   new = λ bytes at w w' x y. λ i. record { bytes = same x.0 y.0 i; at = same x.1 y.1 i };
   next = λ w n n' x y. one_next n n' (same x y);
   walk_rest = λ w part part' x y. same x y;

@@ -11,6 +11,7 @@ use Rattle.mailbox.specs.declared.Step.{Step}
 use Rattle.mailbox.specs.declared.Made.{Made}
 use Rattle.recording.specs.declared.Answer.{Answer}
 use Rattle.refusals.specs.declared.Refusal.{Refusal}
+use Rattle.refusals.specs.declared.Refused.{Refused}
 use Rattle.mailbox_event.specs.declared.Kind.{Kind}
 use Rattle.recording_event.specs.declared.Record.{Record}
 use Rattle.recording_table.specs.declared.Table.{Table}
@@ -187,7 +188,7 @@ pub record OneAnswer : Type 0 where
   pub refused : (why : Refusal) (n n' : Result Record Refusal) → got_of n ≡ got_of (Err why) → got_of n' ≡ got_of (Err why) → n ≡ n'
   pub number_of : One 0 of_number_of.ps of_number_of.r on_number_of.Learnt ℕ (λ κs n left. n)
   -- `recording_table`
-  pub read_table : One 1 of_read_table.ps of_read_table.r on_read_table.Learnt Table (λ κs t left. t)
+  pub read_table : One 1 of_read_table.ps of_read_table.r on_read_table.Learnt (Result Table Refused) (λ κs t left. t)
   -- `recording_walk`; `moved` has the clause of `new`, and a walker is equal with its reference
   pub new : (bytes : Bor (List ℕ)) (at : ℕ) (w w' : Walker) → WalksFrom bytes at w → WalksFrom bytes at w' → w ≡ w'
   pub next : (w : Walker) (n n' : Result Record Refusal) → WalksTo w n → WalksTo w n' → n ≡ n'

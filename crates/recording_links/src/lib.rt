@@ -15,11 +15,12 @@ use mailbox_layout::{CONTROL, Link, TIMES, VALUES};
 use mailbox_plan::{is_ahead, put_flag};
 use mailbox_rules::table::fault_after;
 use recording_format::{LINK_SIZE, WhichKind};
-use recording_head::{Count, Section, link_count};
-use refusals::told;
+use recording_head::{Section, link_count};
+use refusals::{Refusal, Refused, placed};
 
 // The next `n` link records from a place on, up to the first at fault, in a table of so many tasks with these times, which say who is ahead
 // of whom: the links into the control, and their start values into the values.
+#[tactic(auto, using(crate::proofs::LinkLoop::links_first, crate::proofs::LinkLoop::links_on, crate::proofs::LinkLoop::links_end))]
 fn link_records(
     s: &[u8],
     at: usize,
@@ -28,45 +29,36 @@ fn link_records(
     times: &[u32; TIMES],
     control: &mut [u8; CONTROL],
     values: &mut [u32; VALUES],
-) -> Section
+) -> Result<Section, Refused>
     requires { n ≤ state_room.links }
     ensures { (ts : List Task) → NoLinks ts control.old values.old → HoldsLinks ts (links_played (ahead_among times.now) tasks n s.now at) result control.new values.new }
 {
     let mut plan = [0u8; LINKS];
-    let mut fault: u8 = 0;
-    let mut p = at;
-    let mut l: usize = 0;
-    while l < n {
-        if room(s, p) < LINK_SIZE {
-            fault = 1;
-            break;
+    let mut place = at;
+    for l in 0..n {
+        if room(s, place) < LINK_SIZE {
+            return Err(Refusal::Ends.at(place));
         }
-        let writer = u8_at(s, p, 0);
-        let reader = u8_at(s, p, 1);
+        let writer = u8_at(s, place, 0);
+        let reader = u8_at(s, place, 1);
         let link = Link {
             writer,
             reader,
-            kind: u8_at(s, p, 2),
-            start_value: u32_at(s, p, 3),
+            kind: u8_at(s, place, 2),
+            start_value: u32_at(s, place, 3),
         };
-        fault = told(fault_after(&plan, tasks, control, times, l, link));
-        if fault != 0 {
-            break;
-        }
+        let fault = fault_after(&plan, tasks, control, times, l, link);
+        placed(fault, place)?;
         put_link(control, values, l, link);
         let behind = is_ahead(times, writer as usize, reader as usize);
         put_flag(&mut plan, l, behind);
-        p += LINK_SIZE;
-        l += 1;
+        place += LINK_SIZE;
     }
-    Section {
-        refusal: fault,
-        place: p,
-        count: l,
-    }
+    Ok(Section { place, count: n })
 }
 
 // The section of the links at a place, in a table of so many tasks with these times, into a control and values that hold no link yet.
+#[tactic(auto, using(crate::proofs::LinkLoop::links_lost))]
 pub fn read_links(
     s: &[u8],
     which: WhichKind,
@@ -75,16 +67,9 @@ pub fn read_links(
     times: &[u32; TIMES],
     control: &mut [u8; CONTROL],
     values: &mut [u32; VALUES],
-) -> Section
+) -> Result<Section, Refused>
     ensures { (ts : List Task) → NoLinks ts control.old values.old → HoldsLinks ts (links_at which (ahead_among times.now) tasks s.now at) result control.new values.new }
 {
-    let c = link_count(s, which, at);
-    match c {
-        Count::Is(n, p) => link_records(s, p, tasks, n, times, control, values),
-        Count::Not(r) => Section {
-            refusal: r,
-            place: at,
-            count: 0,
-        },
-    }
+    let links = placed(link_count(s, which, at), at)?;
+    link_records(s, links.after, tasks, links.count, times, control, values)
 }

@@ -21,91 +21,97 @@ use Rattle.recording_format.specs.Task.{task_size, task_there, tasks, task_fault
 use Rattle.mailbox_layout.specs.Layout.{default_region, deadline_region, cut_values, cut_times}
 use Rattle.mailbox_layout.specs.Fresh.{with_number}
 use Rattle.mailbox_layout.proofs.Tables.{task_put, deadline_put}
+use Rattle.std.specs.Prelude.{Result, Ok, Err}
+use Rattle.refusals.specs.Numbers.{number, told, placed}
+use Rattle.refusals.specs.declared.Refusal.{Refusal}
+use Rattle.refusals.specs.declared.Refusal.TheVariants.{Ends}
+use Rattle.refusals.specs.declared.Refused.{Refused}
+use Rattle.refusals.proofs.Numbers.{number_not_0}
+use Rattle.refusals.proofs.Places.{placed_ok, placed_err}
 use Rattle.recording_head.specs.declared.Section.{Section}
 use Rattle.recording_tasks.specs.Tasks.{tasks_played, tasks_at, date_fault, HasTasks, NoTasks, HoldsTasks}
 
 -- what an answer holds, an equal one holds
-tasks_so : {k : ℕ} {y z : Verdict (List Task)} {t : Section} {v x : List ℕ} → HoldsTasks k y t v x → y ≡ z → HoldsTasks k z t v x
+tasks_so : {k : ℕ} {y z : Verdict (List Task)} {t : Result Section Refused} {v x : List ℕ} → HoldsTasks k y t v x → y ≡ z → HoldsTasks k z t v x
 tasks_so {k} {t = t} {v} {x} h e = subst (λ (y : Verdict (List Task)). HoldsTasks k y t v x) e h
 
 -- the section after its count
 pub tasks_counted :
-    (which : WhichKind) (s : List ℕ) {n q : ℕ} {t : Section} {v x : List ℕ} → task_count_at (any_kind which) s task_place ≡ got n q →
+    (which : WhichKind) (s : List ℕ) {n q : ℕ} {t : Result Section Refused} {v x : List ℕ} → task_count_at (any_kind which) s task_place ≡ got n q →
     HoldsTasks (any_kind which).policy (tasks_played which n s q) t v x → HoldsTasks (any_kind which).policy (tasks_at which s) t v x
 tasks_counted which s e h = tasks_so h (sym (section_counted (tasks (any_kind which)) (task_limit (any_kind which)) (task_fault (any_kind which)) and_task [] [] s task_place e))
 
 -- or without one
 pub tasks_lost :
-    (which : WhichKind) (s : List ℕ) {r : ℕ} {v x : List ℕ} → task_count_at (any_kind which) s task_place ≡ stop r → NoTasks (any_kind which).policy v x →
-    HoldsTasks (any_kind which).policy (tasks_at which s) (record { refusal = r; place = task_place; count = 0 }) v x
+    (which : WhichKind) (s : List ℕ) {why : Refusal} {v x : List ℕ} → task_count_at (any_kind which) s task_place ≡ stop (number why) → NoTasks (any_kind which).policy v x →
+    HoldsTasks (any_kind which).policy (tasks_at which s) (Err (record { refusal = why; place = task_place })) v x
 tasks_lost which s e h =
-    tasks_so (record { refusal = refl; place = refl; count = refl; tasks = h })
+    tasks_so (record { answer = record { refusal = refl; place = refl }; tasks = h })
     (sym (section_refused (tasks (any_kind which)) (task_limit (any_kind which)) (task_fault (any_kind which)) and_task [] [] s task_place e))
 
 -- at turn i of n: i tasks are read, up to p, and the others are left
-pub record TasksTurn (which : WhichKind) (n : ℕ) (s : List ℕ) (from : ℕ) (v x : List ℕ) (r p i : ℕ) : Type 0 where
+pub record TasksTurn (which : WhichKind) (n : ℕ) (s : List ℕ) (from : ℕ) (v x : List ℕ) (p i : ℕ) : Type 0 where
   pub read : List Task
   pub few : i ≤ n
-  pub none : r ≡ 0
   pub count : i ≡ length read
   pub held : HasTasks (any_kind which).policy read v x
   pub left : tasks_played which n s from ≡ play (tasks (any_kind which)) (task_fault (any_kind which)) and_task (n - i) read s p
 
 -- before the first
 pub tasks_first :
-    (which : WhichKind) (n : ℕ) (s : List ℕ) (from : ℕ) {v x : List ℕ} → NoTasks (any_kind which).policy v x → TasksTurn which n s from v x 0 from 0
-tasks_first which n s from e = record { read = []; few = omega arith; none = refl; count = refl; held = e; left = rw sub-zero }
+    (which : WhichKind) (n : ℕ) (s : List ℕ) (from : ℕ) {v x : List ℕ} → NoTasks (any_kind which).policy v x → TasksTurn which n s from v x from 0
+tasks_first which n s from e = record { read = []; few = omega arith; count = refl; held = e; left = rw sub-zero }
 
-module _ {which : WhichKind} {n : ℕ} {s : List ℕ} {from : ℕ} {v x : List ℕ} {r p i : ℕ} (t : TasksTurn which n s from v x r p i) where
-  -- the answer of those that are read
-  abbrev found : ℕ → Section
-  found f = record { refusal = f; place = p; count = i }
-
-  holds : (f : ℕ) {y : Verdict (List Task)} → verdict f p t.read ≡ y → HoldsTasks (any_kind which).policy y (found f) v x
-  holds f e = tasks_so (record { refusal = refl; place = refl; count = t.count; tasks = t.held }) e
+module _ {which : WhichKind} {n : ℕ} {s : List ℕ} {from : ℕ} {v x : List ℕ} {p i : ℕ} (t : TasksTurn which n s from v x p i) where
+  -- a refusal at this place
+  refuses : (r : Refused) → r.place ≡ p → verdict (number r.refusal) p t.read ≡ tasks_played which n s from → HoldsTasks (any_kind which).policy (tasks_played which n s from) (Err r) v x
+  refuses r a e = tasks_so (record { answer = record { refusal = refl; place = a }; tasks = t.held }) e
 
   -- no record is left
-  pub tasks_end_lem : n ≤ i → HoldsTasks (any_kind which).policy (tasks_played which n s from) (found r) v x
+  pub tasks_end_lem : i ≡ n → HoldsTasks (any_kind which).policy (tasks_played which n s from) (Ok (record { place = p; count = n })) v x
   tasks_end_lem h =
-      holds r
-      (ap (λ (f : ℕ). verdict f p t.read) t.none ∙ play_end (tasks (any_kind which)) (task_fault (any_kind which)) and_task t.read s p i n t.left h)
+      tasks_so (record { answer = record { none = refl; place = refl; count = sym h ∙ t.count }; tasks = t.held })
+      (play_end (tasks (any_kind which)) (task_fault (any_kind which)) and_task t.read s p i n t.left (omega arith))
 
   module _ {k m : ℕ} (h : i < n) (z : k ≡ task_size (any_kind which)) (e : m ≡ length s - p) where
     -- the next record is cut
-    pub tasks_cut : m < k → HoldsTasks (any_kind which).policy (tasks_played which n s from) (found 1) v x
-    tasks_cut g =
-        holds 1
-        (play_stop (tasks (any_kind which)) (task_fault (any_kind which)) and_task t.read s p i n t.left 1 h
+    pub tasks_cut : {r : Refused} → m < k → r ≡ record { refusal = Ends; place = p } → HoldsTasks (any_kind which).policy (tasks_played which n s from) (Err r) v x
+    tasks_cut {r} g u =
+        refuses r (ap (λ (x : Refused). x.place) u)
+        (ap (λ (x : Refused). verdict (number x.refusal) p t.read) u
+        ∙ play_stop (tasks (any_kind which)) (task_fault (any_kind which)) and_task t.read s p i n t.left 1 h
         (too_few (task_size (any_kind which)) (task_there (any_kind which) s p) s p e (rw z at g)))
 
-    module _ {d f : ℕ} (g : k ≤ m) (y : d ≡ number_at (any_kind which).deadline_width s (p + 4)) (j : f ≡ date_fault which d) where
-      -- it is read, with its fault
-      is_read : (tasks (any_kind which)).read s p ≡ got (task_there (any_kind which) s p) (p + task_size (any_kind which))
-      is_read = enough_for (task_size (any_kind which)) (task_there (any_kind which) s p) s p e (rw z at g)
+    -- it is read
+    is_read : k ≤ m → (tasks (any_kind which)).read s p ≡ got (task_there (any_kind which) s p) (p + task_size (any_kind which))
+    is_read g = enough_for (task_size (any_kind which)) (task_there (any_kind which) s p) s p e (rw z at g)
 
-      fault : f ≡ task_fault (any_kind which) t.read (task_there (any_kind which) s p)
+    -- with what is judged of it
+    module _ {d : ℕ} (f : Result (Unit {0}) Refusal) (g : k ≤ m) (y : d ≡ number_at (any_kind which).deadline_width s (p + 4)) (j : told f ≡ date_fault which d) where
+      fault : told f ≡ task_fault (any_kind which) t.read (task_there (any_kind which) s p)
       fault = j ∙ ap (date_fault which) y
 
       -- it is at fault
-      pub tasks_refused : f ≢ 0 → HoldsTasks (any_kind which).policy (tasks_played which n s from) (found f) v x
-      tasks_refused o =
-          holds f
-          (ap (λ (q : ℕ). verdict q p t.read) fault
-          ∙ play_refused (tasks (any_kind which)) (task_fault (any_kind which)) and_task t.read s p i n t.left (task_there (any_kind which) s p) _ h is_read (λ u. o (fault ∙ u)))
+      pub tasks_refused : {r : Refused} → placed f p ≡ Err r → HoldsTasks (any_kind which).policy (tasks_played which n s from) (Err r) v x
+      tasks_refused {r} o =
+          let refused = placed_err f p o in
+          let is : number r.refusal ≡ task_fault (any_kind which) t.read (task_there (any_kind which) s p) = ap told (sym refused.0) ∙ fault in
+          refuses r refused.1
+          (ap (λ (q : ℕ). verdict q p t.read) is
+          ∙ play_refused (tasks (any_kind which)) (task_fault (any_kind which)) and_task t.read s p i n t.left (task_there (any_kind which) s p) _ h (is_read g) (λ u. number_not_0 r.refusal (is ∙ u)))
 
       -- it is taken
       pub tasks_on :
-          {b : ℕ} {v' x' : List ℕ} → f ≡ 0 → b ≡ number_at 4 s p → cut_values v' ≡ with_number default_region i b (cut_values v) →
-          cut_times x' ≡ with_number deadline_region i d (cut_times x) → TasksTurn which n s from v' x' f (p + k) (i + 1)
+          {b : ℕ} {v' x' : List ℕ} {u : Unit {0}} → placed f p ≡ Ok u → b ≡ number_at 4 s p → cut_values v' ≡ with_number default_region i b (cut_values v) →
+          cut_times x' ≡ with_number deadline_region i d (cut_times x) → TasksTurn which n s from v' x' (p + k) (i + 1)
       tasks_on o b put dated = record {
         read = and_task t.read (task_there (any_kind which) s p);
         few = omega arith;
-        none = o;
         count = ap (λ (q : ℕ). q + 1) t.count ∙ sym (length-append t.read (task_there (any_kind which) s p ∷ []));
         held = record {
           values = task_put t.read (task_there (any_kind which) s p) t.held.values t.count (rw b at put);
           times = deadline_put (any_kind which).policy t.read (task_there (any_kind which) s p) t.held.times t.count (rw y at dated);
         };
         left = rw z
-            (play_on (tasks (any_kind which)) (task_fault (any_kind which)) and_task t.read s p i n t.left (task_there (any_kind which) s p) _ h is_read (sym fault ∙ o));
+            (play_on (tasks (any_kind which)) (task_fault (any_kind which)) and_task t.read s p i n t.left (task_there (any_kind which) s p) _ h (is_read g) (sym fault ∙ ap told (placed_ok f p o)));
       }

@@ -7,10 +7,7 @@ ghost use Rattle.recording_text_line.specs.Sorts.{sort_number};
 ghost use Rattle.recording_text_line.specs.Told.{said_of};
 ghost use Rattle.recording_text_place.specs.Place.{bytes_of, all_bytes, weight, step, line_after, after_last, kind_or_task, line_of};
 
-use recording_format::{
-    LINK_SIZE, TASK_PLACE, WhichKind, deadline_size, most_events, most_links, most_tasks, set_size,
-    tick_size,
-};
+use recording_format::{LINK_SIZE, TASK_PLACE, WhichKind};
 use recording_text_fields::fault::Fault;
 use recording_text_line::record::Record;
 use recording_text_line::said::Said;
@@ -37,13 +34,13 @@ pub enum Measure {
 fn bytes_of(which: WhichKind, letter: u8) -> usize
     ensures { result ≡ bytes_of which letter }
 {
-    let tick = tick_size(which);
+    let tick = which.tick_size();
     match letter {
-        b'T' => 4 + deadline_size(which),
+        b'T' => 4 + which.deadline_size(),
         b'L' => LINK_SIZE,
         b'F' => 6 + tick,
         b'S' | b'R' => 2 + tick,
-        _ => 1 + tick + set_size(which),
+        _ => 1 + tick + which.set_size(),
     }
 }
 
@@ -123,7 +120,7 @@ fn kind_or_task(text: &[u8], which: WhichKind, place: usize) -> usize
     if place == 0 {
         line_after(text, Measure::Records, Sort::Kind, 0)
     } else {
-        line_after(text, Measure::Records, Sort::Task, most_tasks(which))
+        line_after(text, Measure::Records, Sort::Task, which.most_tasks())
     }
 }
 
@@ -145,8 +142,8 @@ pub fn refusal_line(text: &[u8], which: WhichKind, refusal: u8, place: usize) ->
             line_after(text, Measure::Bytes(which), Sort::Event, past_links)
         }
         2 => kind_or_task(text, which, place),
-        3 => line_after(text, Measure::Records, Sort::Link, most_links(which)),
-        10 => line_after(text, Measure::Records, Sort::Event, most_events(which)),
+        3 => line_after(text, Measure::Records, Sort::Link, which.most_links()),
+        10 => line_after(text, Measure::Records, Sort::Event, which.most_events()),
         24 => {
             let past_head = place.saturating_sub(BEFORE_TASKS);
             line_after(text, Measure::Bytes(which), Sort::Task, past_head)

@@ -1,2 +1,3 @@
 -- Laws that other crates cite.
 pub mod Numbers
+pub mod Places

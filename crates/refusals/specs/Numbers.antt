@@ -3,6 +3,7 @@
 use Rattle.std.specs.Prelude.{Result, Ok, Err, ℕ}
 use Rattle.refusals.specs.declared.Refusal.{Refusal}
 use Rattle.refusals.specs.declared.Refusal.TheVariants as why
+use Rattle.refusals.specs.declared.Refused.{Refused}
 
 -- the numbers of documents 01 and 02; 25 is that of request 2026-09, 26 that of request 2026-13
 abbrev pub number : Refusal → ℕ
@@ -37,3 +38,8 @@ number why.BadFloat = 26
 abbrev pub told : {A : Type 0} → Result A Refusal → ℕ
 told (Ok x) = 0
 told (Err r) = number r
+
+-- what was judged at a place: a refusal with it
+abbrev pub placed : {A : Type 0} → Result A Refusal → ℕ → Result A Refused
+placed (Ok x) p = Ok x
+placed (Err r) p = Err (record { refusal = r; place = p })

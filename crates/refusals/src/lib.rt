@@ -2,7 +2,7 @@
 #![tactic(auto)]
 
 ghost use Rattle.std.specs.Prelude.{◌≡◌};
-ghost use Rattle.refusals.specs.Numbers.{number, told};
+ghost use Rattle.refusals.specs.Numbers.{number, told, placed};
 
 // The reasons, in the order of their numbers, from 1 on. 2, 11 and 18 are those of a settings list and of what is to be written too.
 #[derive(Clone, Copy, Debug, PartialEq, Eq)]
@@ -103,4 +103,11 @@ pub fn told(judged: Result<(), Refusal>) -> u8
         Ok(()) => 0,
         Err(refusal) => u8::from(refusal),
     }
+}
+
+// What was judged at a place of the bytes: a refusal with that place.
+pub fn placed<T>(judged: Result<T, Refusal>, place: usize) -> Result<T, Refused>
+    ensures { result ≡ placed judged place }
+{
+    judged.map_err(|why| why.at(place))
 }
