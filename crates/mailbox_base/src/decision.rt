@@ -14,24 +14,41 @@ pub const WAITING: u8 = 1;
 
 pub const RUNNING: u8 = 2;
 
-// The table: what an event of a kind does in a phase, the next phase or the refusal. What is no phase counts as running. Each caller names a kind,
-// so that with the call in line only the phase is asked for while events run.
+// The table: what each kind of event (arrival, start, read, finish) does in each phase (idle, waiting, running), the next phase or the refusal.
+const DECISIONS: [[Result<u8, Refusal>; 3]; 4] = [
+    [
+        Ok(WAITING),
+        Err(Refusal::StillActive),
+        Err(Refusal::StillActive),
+    ],
+    [
+        Err(Refusal::NotWaiting),
+        Ok(RUNNING),
+        Err(Refusal::NotWaiting),
+    ],
+    [
+        Err(Refusal::NotRunning),
+        Err(Refusal::NotRunning),
+        Ok(RUNNING),
+    ],
+    [Err(Refusal::NotRunning), Err(Refusal::NotRunning), Ok(IDLE)],
+];
+
+// The entry for an event of a kind in a phase; what is no phase has the last column. Each caller names a kind, so that with the call in line all
+// three entries are constants, and no table is read while events run.
 pub fn decide(kind: Kind, phase: u8) -> Result<u8, Refusal>
     ensures { Decides (decided (row kind) phase) result }
 {
-    match (kind, phase) {
-        (Kind::Arrival, IDLE) => Ok(WAITING),
-        (Kind::Arrival, WAITING) => Err(Refusal::StillActive),
-        (Kind::Arrival, _) => Err(Refusal::StillActive),
-        (Kind::Start, IDLE) => Err(Refusal::NotWaiting),
-        (Kind::Start, WAITING) => Ok(RUNNING),
-        (Kind::Start, _) => Err(Refusal::NotWaiting),
-        (Kind::Read, IDLE) => Err(Refusal::NotRunning),
-        (Kind::Read, WAITING) => Err(Refusal::NotRunning),
-        (Kind::Read, _) => Ok(RUNNING),
-        (Kind::Finish, IDLE) => Err(Refusal::NotRunning),
-        (Kind::Finish, WAITING) => Err(Refusal::NotRunning),
-        (Kind::Finish, _) => Ok(IDLE),
+    let [idle, waiting, running] = match kind {
+        Kind::Arrival => DECISIONS[0],
+        Kind::Start => DECISIONS[1],
+        Kind::Read => DECISIONS[2],
+        Kind::Finish => DECISIONS[3],
+    };
+    match phase {
+        IDLE => idle,
+        WAITING => waiting,
+        _ => running,
     }
 }
 
