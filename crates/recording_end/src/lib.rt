@@ -8,28 +8,25 @@ ghost use Rattle.protocol_state.specs.Saved.{at, active_phase};
 ghost use Rattle.mailbox_layout.specs.Layout.{phase_in};
 ghost use Rattle.recording_core.specs.Playing.{unfinished};
 
-use mailbox_base::numbers::pick;
+use lists::some;
+use mailbox_base::decision::IDLE;
 use mailbox_layout::{CONTROL, InControl, control_at};
+use refusals::Refusal;
 
 // Whether a task of a state is active, waiting or running: it has arrived and not finished.
 fn some_active(tasks: usize, control: &[u8; CONTROL]) -> bool
     ensures { result ≡ some (λ t. active_phase (at (phase_in control.now) t)) tasks }
 {
-    let mut found = false;
-    let mut t = 0;
-    while t < tasks {
-        found = (control_at(control, InControl::Phase, t) != 0) | found;
-        t += 1;
-    }
-    found
+    some(tasks, |t| control_at(control, InControl::Phase, t) != IDLE)
 }
 
-// The refusal after the last step, 0 for none: one that was given before it stays; else 25 where a task is still active.
+// The refusal after the last step, 0 for none: one that was given before it stays; else 25 where a task is still active. A number, since any that
+// was given stays.
 pub fn lastly(refusal: u8, tasks: usize, control: &[u8; CONTROL]) -> u8
     ensures { result ≡ cond (eqb refusal 0) (unfinished tasks (at (phase_in control.now))) refusal }
 {
-    if refusal != 0 {
-        return refusal;
+    match refusal {
+        0 if some_active(tasks, control) => u8::from(Refusal::Unfinished),
+        _ => refusal,
     }
-    pick(some_active(tasks, control), 25, 0)
 }
