@@ -18,40 +18,46 @@ pub fn one_if(b: bool) -> usize
     if b { 1 } else { 0 }
 }
 
+// A test of numbers, which may be asked of any: so who asks it of many needs nothing of it, where it would have to ask a closure's condition.
+pub trait Test {
+    // of which numbers it holds
+    ghost test: { Self → ℕ → Bool };
+
+    fn holds(&self, k: usize) -> bool
+        ensures { result ≡ test self.now k };
+}
+
 // Whether a test holds of each number below n. Each is asked, also behind one of which it does not hold, so that the compiler may ask several at
 // once.
-pub fn every<F: Fn(usize) -> bool>(n: usize, test: F) -> bool
-    requires { (k : ℕ) → k < n → F.pre test k }
-    ensures { (f : ℕ → Bool) → ((k : ℕ) (b : Bool) → k < n → F.post test k b → b ≡ f k) → result ≡ every f n }
+pub fn every<T: Test>(n: usize, test: &T) -> bool
+    ensures { result ≡ every (T.test test.now) n }
 {
     let mut ok = true;
     for k in 0..n {
-        ok = test(k) & ok;
+        ok = test.holds(k) & ok;
     }
     ok
 }
 
 // Whether it holds of one of them. Each is asked, likewise.
-pub fn some<F: Fn(usize) -> bool>(n: usize, test: F) -> bool
-    requires { (k : ℕ) → k < n → F.pre test k }
-    ensures { (f : ℕ → Bool) → ((k : ℕ) (b : Bool) → k < n → F.post test k b → b ≡ f k) → result ≡ some f n }
+pub fn some<T: Test>(n: usize, test: &T) -> bool
+    ensures { result ≡ some (T.test test.now) n }
 {
     let mut found = false;
     for k in 0..n {
-        found = test(k) | found;
+        found = test.holds(k) | found;
     }
     found
 }
 
 // Of how many of them it holds.
-pub fn count<F: Fn(usize) -> bool>(n: usize, test: F) -> usize
-    requires { (k : ℕ) → k < n → F.pre test k }
-    ensures holding { (f : ℕ → Bool) → ((k : ℕ) (b : Bool) → k < n → F.post test k b → b ≡ f k) → result ≡ count f n }
+pub fn count<T: Test>(n: usize, test: &T) -> usize
+    ensures holding { result ≡ count (T.test test.now) n }
     ensures bound { result ≤ n }
 {
     let mut c = 0;
     for k in 0..n {
-        c += one_if(test(k));
+        c += one_if(test.holds(k));
     }
     c
 }

@@ -8,7 +8,7 @@ ghost use Rattle.mailbox_layout.specs.Layout.{cut, cut_values, cut_times, deadli
 ghost use Rattle.mailbox_layout.specs.Fresh.{fresh_control, fresh_values, fresh_times};
 ghost use Rattle.refusals.specs.Numbers.{told};
 
-use lists::{few, some};
+use lists::{Test, few, some};
 use mailbox_base::numbers::{LINKS, TASKS};
 use mailbox_layout::fresh::{fill_cells, fresh_times, put_link};
 use mailbox_layout::{CONTROL, InTimes, InValues, Link, TIMES, VALUES, entry_at, put_entry};
@@ -62,11 +62,26 @@ pub(crate) fn times_of(n: usize, deadlines: &[u16; TASKS]) -> [u32; TIMES]
     times
 }
 
-// Whether one of so many tasks has a relative deadline of 0.
+// The test whether a task has a relative deadline of 0.
+#[derive(Clone, Copy)]
+struct Undated<'a> {
+    times: &'a [u32; TIMES],
+}
+
+impl<'a> Test for Undated<'a> {
+    ghost test = { λ u t. eqb (at (deadline_in u.times.now) t) 0 };
+
+    fn holds(&self, t: usize) -> bool {
+        let times = self.times;
+        entry_at(times, InTimes::Deadline, t) == 0
+    }
+}
+
+// Whether one of so many tasks has one.
 fn some_undated(tasks: usize, times: &[u32; TIMES]) -> bool
     ensures { result ≡ some (λ t. eqb (at (deadline_in times.now) t) 0) tasks }
 {
-    some(tasks, |t| entry_at(times, InTimes::Deadline, t) == 0)
+    some(tasks, &Undated { times })
 }
 
 // The refusal of a table of so many tasks: 24 after 2, where one of them has no relative deadline under earliest deadline first. `table` is

@@ -15,7 +15,7 @@ ghost use Rattle.mailbox_layout.specs.Layout.{Becomes, newest_in, previous_in, p
 ghost use Rattle.mailbox_plan.specs.Plan.{is_flagged, Planned};
 ghost use Rattle.mailbox_arrival.specs.Arrives.{moved_at, moved, pointed_at, pointed};
 
-use lists::{few, some};
+use lists::{Test, few, some};
 use mailbox_base::decision::entry;
 use mailbox_base::numbers::{LINKS, TASKS, has};
 use mailbox_event::Kind;
@@ -31,16 +31,41 @@ fn is_behind(plan: &[u8; LINKS], control: &[u8; CONTROL], t: u8, l: usize) -> bo
     (control_at(control, InControl::Writer, l) == t) & goes_behind(plan, l)
 }
 
+// The test whether a link holds position `p` of task `t`.
+#[derive(Clone, Copy)]
+struct Holding<'a> {
+    plan: &'a [u8; LINKS],
+    control: &'a [u8; CONTROL],
+    t: u8,
+    p: u8,
+}
+
+impl<'a> Test for Holding<'a> {
+    ghost test = { λ h l. (eqb (at (writer_in h.control.now) l) h.t && is_flagged h.plan.now l) && eqb (at (pointer_in h.control.now) l) h.p };
+
+    fn holds(&self, l: usize) -> bool {
+        let control = self.control;
+        is_behind(self.plan, control, self.t, l)
+            & (control_at(control, InControl::Pointer, l) == self.p)
+    }
+}
+
 // Whether one of the links holds position `p` of task `t`.
 fn held(plan: &[u8; LINKS], control: &[u8; CONTROL], links: usize, t: u8, p: u8) -> bool
     ensures { (ahead : ℕ → ℕ → Bool) → Planned ahead (at (writer_in control.now)) (at (reader_in control.now)) links plan.now → result ≡ some (holds ahead (at (writer_in control.now)) (at (reader_in control.now)) (at (pointer_in control.now)) t p) links }
 {
-    some(links, |l| {
-        is_behind(plan, control, t, l) & (control_at(control, InControl::Pointer, l) == p)
-    })
+    let holding = Holding {
+        plan,
+        control,
+        t,
+        p,
+    };
+    some(links, &holding)
 }
 
-// The bits of the positions of task `t` that the links hold.
+// The bits of the positions of task `t` that the links hold. From here up to `arrive` all is put in line, so that the compiler knows in this loop that
+// there are no more links than there is room for, and asks several at once.
+#[inline(always)]
 fn held_bits(plan: &[u8; LINKS], control: &[u8; CONTROL], links: usize, t: u8) -> u16
     ensures { (ahead : ℕ → ℕ → Bool) → Planned ahead (at (writer_in control.now)) (at (reader_in control.now)) links plan.now → (p : ℕ) → p < last_bit → has result p ≡ some (holds ahead (at (writer_in control.now)) (at (reader_in control.now)) (at (pointer_in control.now)) t p) links }
 {
@@ -56,6 +81,7 @@ fn held_bits(plan: &[u8; LINKS], control: &[u8; CONTROL], links: usize, t: u8) -
 
 // The lowest free position of task `t`, whose newest is `x`. Mostly no link holds the lowest position other than `x`, and one look at the
 // links shows it; else it is looked up. Where the links keep the rules at most nine of ten positions are taken, so the tenth needs no test.
+#[inline(always)]
 fn lowest_free(
     lowest: &[u8; PATTERNS],
     plan: &[u8; LINKS],
@@ -85,6 +111,7 @@ fn seen_once(a: u8) -> u8
 
 // The writers' part for task `t`, where it is in the set: its newest position becomes its previous, its lowest free one its newest,
 // one more of its arrivals is seen, and it is waiting.
+#[inline(always)]
 fn move_task(
     lowest: &[u8; PATTERNS],
     plan: &[u8; LINKS],
@@ -110,6 +137,7 @@ fn move_task(
 }
 
 // The writers' part: each task of the set moves.
+#[inline(always)]
 fn move_tasks(
     lowest: &[u8; PATTERNS],
     plan: &[u8; LINKS],

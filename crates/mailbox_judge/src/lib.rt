@@ -15,7 +15,7 @@ ghost use Rattle.protocol_state.specs.Judge.{allows, may_arrive, preempted, judg
 ghost use Rattle.mailbox_event.specs.Plain.{row};
 ghost use Rattle.mailbox_layout.specs.Layout.{phase_in, reader_in, deadline_in, since_in, ahead_among, sooner_among};
 
-use lists::{every, few, some};
+use lists::{Test, every, few, some};
 use mailbox_base::decision::{IDLE, decide};
 use mailbox_base::numbers::{LINKS, TASKS, has};
 use mailbox_event::Kind;
@@ -30,14 +30,27 @@ fn may_arrive(set: u32, t: usize, phase: u8) -> bool
     !has(set, t) || decide(Kind::Arrival, phase).is_ok()
 }
 
+// The test whether a task may arrive with the set.
+#[derive(Clone, Copy)]
+struct MayArrive<'a> {
+    set: u32,
+    control: &'a [u8; CONTROL],
+}
+
+impl<'a> Test for MayArrive<'a> {
+    ghost test = { λ m. may_arrive m.set (at (phase_in m.control.now)) };
+
+    fn holds(&self, t: usize) -> bool {
+        let control = self.control;
+        may_arrive(self.set, t, control_at(control, InControl::Phase, t))
+    }
+}
+
 // Whether each task of the set may arrive.
 fn all_may(set: u32, tasks: usize, control: &[u8; CONTROL]) -> bool
     ensures { result ≡ every (may_arrive set (at (phase_in control.now))) tasks }
 {
-    every(
-        tasks,
-        |t| may_arrive(set, t, control_at(control, InControl::Phase, t)),
-    )
+    every(tasks, &MayArrive { set, control })
 }
 
 // Whether an arrival is allowed: 12 for the empty set and for a task that is none of the table's.
@@ -62,12 +75,27 @@ fn is_active(phase: u8) -> bool
     phase != IDLE
 }
 
-// Whether a task before `t`, one ahead of it, is active. It takes the region of the phases: so its loop needs no test whether there is such
-// a place, and the compiler asks several tasks at once.
+// The test whether a task is active, by the region of the phases.
+#[derive(Clone, Copy)]
+struct Active<'a> {
+    phase: &'a [u8],
+}
+
+impl<'a> Test for Active<'a> {
+    ghost test = { λ a u. active_phase (at a.phase.now u) };
+
+    fn holds(&self, u: usize) -> bool {
+        let phase = self.phase;
+        is_active(phase.get(u).copied().unwrap_or(IDLE))
+    }
+}
+
+// Whether a task before `t`, one ahead of it, is active. It asks no more tasks than there are phases, so that the compiler needs no test whether there is
+// such a place, and asks several tasks at once.
 fn some_before(t: usize, phase: &[u8]) -> bool
     ensures { result ≡ some (λ u. active_phase (at phase.now u)) t }
 {
-    some(few(t, phase.len()), |u| is_active(phase[u]))
+    some(few(t, phase.len()), &Active { phase })
 }
 
 // When the job of task `t` is due: the tick of its arrival, and its relative deadline.
@@ -97,20 +125,26 @@ fn goes_first(times: &[u32; TIMES], u: usize, phase: u8, t: usize, due: u64) -> 
     is_active(phase) && is_sooner(times, u, t, due)
 }
 
-// Whether the job of a task that goes before that of `t` is active.
+// Whether the job of a task that goes before that of `t` is active. Its loop stands here, and is not that of `lists::some`: mostly a task is idle, and
+// for such a one nothing else is done.
 fn some_sooner(t: usize, tasks: usize, control: &[u8; CONTROL], times: &[u32; TIMES]) -> bool
     ensures { result ≡ some (λ u. sooner_among times.now u t && active_phase (at (phase_in control.now) u)) tasks }
 {
     let due = due_at(times, t);
     let phase = phases_in(control);
-    some(
-        few(tasks, phase.len()),
-        |u| goes_first(times, u, phase[u], t, due),
-    )
+    let mut found = false;
+    for u in 0..few(tasks, phase.len()) {
+        if goes_first(times, u, phase[u], t, due) {
+            found = true;
+        }
+    }
+    found
 }
 
 // Whether a start, a read or a finish by task `t` is allowed, where `waits` says whether an active job goes before its own. Its phase is asked
-// before the others: what is refused by its phase needs no search, and of an event that is then done the compiler asks for the phase once.
+// before the others: what is refused by its phase needs no search, and of an event that is then done the compiler asks for the phase once. It is put
+// in line, where its kind is known: called, it would look the kind up at each event.
+#[inline(always)]
 fn judge_by<F: Fn(usize) -> bool>(
     waits: F,
     kind: Kind,
@@ -140,7 +174,8 @@ pub fn judge_task(kind: Kind, t: u8, tasks: usize, control: &[u8; CONTROL]) -> R
     judge_by(waits, kind, t, tasks, control)
 }
 
-// With deadlines, ticks left aside: the job that is due earlier goes before, ties by the order of tasks.
+// With deadlines, ticks left aside: the job that is due earlier goes before, ties by the order of tasks. In line, likewise.
+#[inline(always)]
 pub fn judge_job(
     kind: Kind,
     t: u8,

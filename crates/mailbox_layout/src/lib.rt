@@ -13,6 +13,7 @@ ghost use Rattle.mailbox_layout.specs.Layout.{control_widths, value_widths, time
 use mailbox_base::numbers::{CELLS, LINKS, TASKS, cell_of};
 
 pub mod fresh;
+pub mod numbered;
 
 // The fields of the control, a region each: by task,
 #[derive(Clone, Copy, Debug, PartialEq, Eq)]
@@ -165,7 +166,7 @@ impl Field for InTimes {
 }
 
 // What stands at place `i` of a field of the control, by task or by link; 0 where there is no such place. Here and below anything may be asked for
-// that is a field, one past the last too.
+// that is a field: by its name, or by any number (`numbered`), one past the last too.
 #[tactic(auto, using(regions::proofs::Regions::region_at, regions::proofs::Regions::region_past))]
 pub fn control_at<F: Field>(control: &[u8], field: F, i: usize) -> u8
     ensures { result ≡ at (region (regions F.widths control.now) (F.number field)) i }

@@ -6,19 +6,34 @@ ghost use Rattle.protocol_state.specs.Saved.{at, state_room};
 ghost use Rattle.mailbox_layout.specs.Layout.{writer_in, reader_in};
 ghost use Rattle.mailbox_plan.specs.Plan.{Planned};
 
-use lists::{few, some};
+use lists::{Test, few, some};
 use mailbox_base::numbers::{LINKS, TASKS};
 use mailbox_layout::{CONTROL, InControl, control_at};
 use mailbox_plan::goes_behind;
+
+// The test whether a link goes from `w` to `r`.
+#[derive(Clone, Copy)]
+struct Between<'a> {
+    control: &'a [u8; CONTROL],
+    w: u8,
+    r: u8,
+}
+
+impl<'a> Test for Between<'a> {
+    ghost test = { λ b j. eqb (at (writer_in b.control.now) j) b.w && eqb (at (reader_in b.control.now) j) b.r };
+
+    fn holds(&self, l: usize) -> bool {
+        let control = self.control;
+        (control_at(control, InControl::Writer, l) == self.w)
+            & (control_at(control, InControl::Reader, l) == self.r)
+    }
+}
 
 // Whether one of the first `n` links goes from `w` to `r`.
 pub fn has_pair(control: &[u8; CONTROL], n: usize, w: u8, r: u8) -> bool
     ensures { result ≡ some (λ j. eqb (at (writer_in control.now) j) w && eqb (at (reader_in control.now) j) r) (min n state_room.links) }
 {
-    some(few(n, LINKS), |l| {
-        (control_at(control, InControl::Writer, l) == w)
-            & (control_at(control, InControl::Reader, l) == r)
-    })
+    some(few(n, LINKS), &Between { control, w, r })
 }
 
 // N: how many of the first `n` links are task `t`'s to readers behind, by their plan.

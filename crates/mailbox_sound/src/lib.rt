@@ -11,7 +11,7 @@ ghost use Rattle.mailbox_plan.specs.Plan.{is_flagged, Planned};
 ghost use Rattle.mailbox_rules.specs.CountsBehind.{CountsBehind};
 ghost use Rattle.mailbox_sound.specs.AtHand.{in_arrays, pointer_by, task_by, link_by};
 
-use lists::every;
+use lists::{Test, every};
 use mailbox_base::numbers::{LINKS, MOST_TICK, TASKS};
 use mailbox_layout::{CONTROL, InControl, InTimes, TIMES, VALUES, control_at, entry_at};
 use mailbox_plan::goes_behind;
@@ -111,6 +111,22 @@ fn task_stands(
     task_ok(counts, control, t) & (seen_stands & time_stands)
 }
 
+// The test whether a task is as it may be.
+#[derive(Clone, Copy)]
+struct TaskStands<'a> {
+    counts: &'a [u8; TASKS],
+    control: &'a [u8; CONTROL],
+    times: &'a [u32; TIMES],
+}
+
+impl<'a> Test for TaskStands<'a> {
+    ghost test = { λ s. task_by s.counts.now (in_arrays s.control.now s.times.now) };
+
+    fn holds(&self, t: usize) -> bool {
+        task_stands(self.counts, self.control, self.times, t)
+    }
+}
+
 // Whether each task is as it may be.
 fn tasks_stand(
     counts: &[u8; TASKS],
@@ -120,7 +136,12 @@ fn tasks_stand(
 ) -> bool
     ensures { tasks ≤ state_room.tasks → (ahead : ℕ → ℕ → Bool) (L : ℕ) → CountsBehind ahead (at (writer_in control.now)) (at (reader_in control.now)) L counts.now → (T : ℕ) (v : List ℕ) → result ≡ every (task_stands ahead (state_of T L control.now v times.now)) tasks }
 {
-    every(tasks, |t| task_stands(counts, control, times, t))
+    let stands = TaskStands {
+        counts,
+        control,
+        times,
+    };
+    every(tasks, &stands)
 }
 
 // Whether a link, to a reader behind or not, may have the pointer `y`, where the reader has this phase and the writer `n` links to readers
@@ -182,6 +203,22 @@ fn link_stands(counts: &[u8; TASKS], plan: &[u8; LINKS], control: &[u8; CONTROL]
     pointer_ok(counts, plan, control, l) & mark_stands
 }
 
+// The test whether a link is as it may be.
+#[derive(Clone, Copy)]
+struct LinkStands<'a> {
+    counts: &'a [u8; TASKS],
+    plan: &'a [u8; LINKS],
+    control: &'a [u8; CONTROL],
+}
+
+impl<'a> Test for LinkStands<'a> {
+    ghost test = { λ s. link_by s.counts.now s.plan.now (in_arrays s.control.now []) };
+
+    fn holds(&self, l: usize) -> bool {
+        link_stands(self.counts, self.plan, self.control, l)
+    }
+}
+
 // Whether each link is as it may be, where there is room for the writers.
 fn links_stand(
     counts: &[u8; TASKS],
@@ -191,7 +228,12 @@ fn links_stand(
 ) -> bool
     ensures { ((l : ℕ) → l < links → at (writer_in control.now) l < state_room.tasks) → (ahead : ℕ → ℕ → Bool) → Planned ahead (at (writer_in control.now)) (at (reader_in control.now)) links plan.now → CountsBehind ahead (at (writer_in control.now)) (at (reader_in control.now)) links counts.now → (T : ℕ) (v x : List ℕ) → result ≡ every (link_stands ahead (state_of T links control.now v x)) links }
 {
-    every(links, |l| link_stands(counts, plan, control, l))
+    let stands = LinkStands {
+        counts,
+        plan,
+        control,
+    };
+    every(links, &stands)
 }
 
 // Whether a state is sound: its table keeps the rules, and its clock, each task and each link is as it may be. The plan of its links is lent;

@@ -13,7 +13,10 @@ use Rattle.refusals.specs.Numbers.{number}
 use Rattle.refusals.specs.declared.Refusal.{Refusal}
 use Rattle.refusals.specs.declared.Refused.{Refused}
 use Rattle.refusals.proofs.Numbers.{number_not_0, number_once}
-use Rattle.recording_event.specs.Next.{got_of}
+use Rattle.recording_format.specs.Event as format
+use Rattle.mailbox_event.specs.declared.Kind.{Kind}
+use Rattle.mailbox_event.specs.declared.Kind.TheVariants as kind
+use Rattle.recording_event.specs.Next.{plain_kind, found_of, got_of}
 use Rattle.recording_event.specs.declared.Record.{Record}
 use Rattle.protocol_state.specs.Saved.{Saved}
 use Rattle.protocol_deadlines.specs.Timed.{timed}
@@ -62,6 +65,28 @@ one_next (Ok x) (Ok y) e =
 one_next (Ok x) (Err why) e = absurd cc
 one_next (Err why) (Ok y) e = absurd cc
 one_next (Err v) (Err w) e =
+    let n : number v ≡ number w = cc in
+    ap Err (number_once v w n)
+
+abbrev kind_from : format.Kind → Kind
+kind_from format.an_arrival = kind.Arrival
+kind_from format.a_start = kind.Start
+kind_from format.a_read = kind.Read
+kind_from format.a_finish = kind.Finish
+
+kind_back : (k : Kind) → kind_from (plain_kind k) ≡ k
+kind_back kind.Arrival = refl
+kind_back kind.Start = refl
+kind_back kind.Read = refl
+kind_back kind.Finish = refl
+
+one_kind : (a b : Result Kind Refusal) → found_of a 0 ≡ found_of b 0 → a ≡ b
+one_kind (Ok k) (Ok l) e =
+    let p : plain_kind k ≡ plain_kind l = cc in
+    ap Ok (sym (kind_back k) ∙ ap kind_from p ∙ kind_back l)
+one_kind (Ok k) (Err why) e = absurd cc
+one_kind (Err why) (Ok l) e = absurd cc
+one_kind (Err v) (Err w) e =
     let n : number v ≡ number w = cc in
     ap Err (number_once v w n)
 
@@ -142,7 +167,8 @@ one_answer = record {
   read_tickless = λ κs lent a b left left' x y. one_next a b (same x y);
   event_in = λ κs lent a b left left' x y. one_next a b (same x y);
   head_size = λ κs lent a b left left' x y. same x y;
-  kind_of = λ κs lent a b left left' x y. same x y;
+  kind_of = λ κs lent a b left left' x y. one_kind a b (same (x 0) (y 0));
+  kind_from_byte = λ κs lent a b left left' x y. same x y;
   refused = λ why a b x y. one_next a b (same x y);
   number_of = λ κs lent a b left left' x y. same x y;
   read_table = λ κs lent a b left left' x y. one_reading a b x y;
@@ -151,11 +177,13 @@ one_answer = record {
   walk_rest = λ w part part' x y. same x y;
   event_at = λ κs lent a b left left' x y. one_next a b (same x y);
   write = λ κs lent a b left left' x y. λ i. (same x.0 y.0 i, same x.1.0 y.1.0 i);
+  written_from = λ κs lent a b left left' x y. same x y;
   migrate = λ κs lent a b left left' x y. same x.0 y.0;
   write_back = λ κs lent a b left left' x y. λ i. (same x.0 y.0 i, same x.1.0 y.1.0 i);
   read_text = λ κs lent a b left left' x y. λ i. (one_read a b (same x.0 y.0) i, (same x.1.0 y.1.0 i, (same x.1.1.0 y.1.1.0 i, same x.1.1.1 y.1.1.1 i)));
   line_of = λ κs lent a b left left' x y. same x y;
   make_recording = λ κs lent a b left left' x y. λ i. (one_recording a b (same x.0 y.0) x.1.0 y.1.0 i, same x.1.1 y.1.1 i);
+  unmade_from = λ κs lent a b left left' x y. same x y;
   host_fresh = λ κs lent a b left left' x y. let e = same x y in λ i. ((e i).refusal, (e i).state);
   host_fresh_dated = λ κs lent a b left left' x y. let e = same x y in λ i. ((e i).refusal, (e i).state);
   host_event = λ κs lent a b left left' x y. let e = same x.0 y.0 in

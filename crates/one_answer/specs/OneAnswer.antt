@@ -97,8 +97,10 @@ use Rattle.recording_event.proofs.event_in.Kinds as of_event_in
 use Rattle.recording_event.proofs.event_in.Reads as on_event_in
 use Rattle.recording_event.proofs.head_size.Kinds as of_head_size
 use Rattle.recording_event.proofs.head_size.Reads as on_head_size
-use Rattle.mailbox_event.proofs.KindTryFromU8.try_from.Kinds as of_kind_of
-use Rattle.mailbox_event.proofs.KindTryFromU8.try_from.Reads as on_kind_of
+use Rattle.recording_event.proofs.kind_of.Kinds as of_kind_of
+use Rattle.recording_event.proofs.kind_of.Reads as on_kind_of
+use Rattle.mailbox_event.proofs.KindTryFromU8.try_from.Kinds as of_kind_from_byte
+use Rattle.mailbox_event.proofs.KindTryFromU8.try_from.Reads as on_kind_from_byte
 use Rattle.refusals.proofs.U8FromRefusal.from.Kinds as of_number_of
 use Rattle.refusals.proofs.U8FromRefusal.from.Reads as on_number_of
 use Rattle.recording_table.proofs.read_table.Kinds as of_read_table
@@ -107,6 +109,8 @@ use Rattle.recording_walk.proofs.event_at.Kinds as of_event_at
 use Rattle.recording_walk.proofs.event_at.Reads as on_event_at
 use Rattle.recording_write.proofs.write.Kinds as of_write
 use Rattle.recording_write.proofs.write.Reads as on_write
+use Rattle.recording_write.proofs.WrittenFromResultUsizeRefused.from.Kinds as of_written_from
+use Rattle.recording_write.proofs.WrittenFromResultUsizeRefused.from.Reads as on_written_from
 use Rattle.settings.proofs.migrate.Kinds as of_migrate
 use Rattle.settings.proofs.migrate.Reads as on_migrate
 use Rattle.settings.proofs.write_back.Kinds as of_write_back
@@ -117,6 +121,8 @@ use Rattle.recording_text.proofs.line_of.Kinds as of_line_of
 use Rattle.recording_text.proofs.line_of.Reads as on_line_of
 use Rattle.recording_make.proofs.make_recording.Kinds as of_make_recording
 use Rattle.recording_make.proofs.make_recording.Reads as on_make_recording
+use Rattle.recording_make.proofs.UnmadeFromUnread.from.Kinds as of_unmade_from
+use Rattle.recording_make.proofs.UnmadeFromUnread.from.Reads as on_unmade_from
 use Rattle.exports.proofs.fresh.parnusild_fresh_32_96_66.Kinds as of_host_fresh
 use Rattle.exports.proofs.fresh.parnusild_fresh_32_96_66.Reads as on_host_fresh
 use Rattle.exports.proofs.fresh.parnusild_fresh_dated_32_96_66.Kinds as of_host_fresh_dated
@@ -183,8 +189,9 @@ pub record OneAnswer : Type 0 where
   pub read_tickless : One 1 of_read_tickless.ps of_read_tickless.r on_read_tickless.Learnt (Result Record Refusal) (λ κs n left. n)
   pub event_in : One 1 of_event_in.ps of_event_in.r on_event_in.Learnt (Result Record Refusal) (λ κs n left. n)
   pub head_size : One 0 of_head_size.ps of_head_size.r on_head_size.Learnt ℕ (λ κs n left. n)
-  -- the kind that a byte says, in `mailbox_event`; why no event is taken; and the number of that, in `refusals`
   pub kind_of : One 0 of_kind_of.ps of_kind_of.r on_kind_of.Learnt (Result Kind Refusal) (λ κs k left. k)
+  -- the kind from a byte, in `mailbox_event`; why no event is taken, whatever refusal it is; and the number of that, in `refusals`
+  pub kind_from_byte : One 0 of_kind_from_byte.ps of_kind_from_byte.r on_kind_from_byte.Learnt (Result Kind Refusal) (λ κs k left. k)
   pub refused : (why : Refusal) (n n' : Result Record Refusal) → got_of n ≡ got_of (Err why) → got_of n' ≡ got_of (Err why) → n ≡ n'
   pub number_of : One 0 of_number_of.ps of_number_of.r on_number_of.Learnt ℕ (λ κs n left. n)
   -- `recording_table`
@@ -194,16 +201,18 @@ pub record OneAnswer : Type 0 where
   pub next : (w : Walker) (n n' : Result Record Refusal) → WalksTo w n → WalksTo w n' → n ≡ n'
   pub walk_rest : (w : Walker) (part part' : Bor (List ℕ)) → WalksLeft w part → WalksLeft w part' → part.now ≡ part'.now
   pub event_at : One 1 of_event_at.ps of_event_at.r on_event_at.Learnt (Result Record Refusal) (λ κs n left. n)
-  -- `recording_write`: the answer, and the lent buffer
+  -- `recording_write`: the answer, and the lent buffer; and the answer from what writing came to
   pub write : One 4 of_write.ps of_write.r on_write.Learnt (writer.Written × List ℕ) (λ κs a left. (a, left.1.1.1.1.0.now))
+  pub written_from : One 0 of_written_from.ps of_written_from.r on_written_from.Learnt writer.Written (λ κs a left. a)
   -- `settings`: the answer, and the lent buffer
   pub migrate : One 1 of_migrate.ps of_migrate.r on_migrate.Learnt Migration (λ κs m left. m)
   pub write_back : One 1 of_write_back.ps of_write_back.r on_write_back.Learnt (settings.Written × List ℕ) (λ κs a left. (a, left.1.1.0.now))
   -- `recording_text`: the answer, and the three lent lists
   pub read_text : One 4 of_read_text.ps of_read_text.r on_read_text.Learnt (Result Read Unread × (List ℕ × (List ℕ × List ℕ))) (λ κs a left. (a, (left.1.0.now, (left.1.1.0.now, left.1.1.1.0.now))))
   pub line_of : One 1 of_line_of.ps of_line_of.r on_line_of.Learnt ℕ (λ κs n left. n)
-  -- `recording_make`: the answer, and the lent buffer
+  -- `recording_make`: the answer, and the lent buffer; and why there is none, from why a text cannot be read
   pub make_recording : One 2 of_make_recording.ps of_make_recording.r on_make_recording.Learnt (Result ℕ Unmade × List ℕ) (λ κs a left. (a, left.1.0.now))
+  pub unmade_from : One 0 of_unmade_from.ps of_unmade_from.r on_unmade_from.Learnt Unmade (λ κs u left. u)
   -- what hosts link: the refusal, and all that is lent to be changed; of a state, what its arrays hold
   pub host_fresh : One 10 of_host_fresh.ps of_host_fresh.r on_host_fresh.Learnt (ℕ × Saved) (λ κs r left. (r, state_in left.1.1.1.1.1.1.1))
   pub host_fresh_dated : One 11 of_host_fresh_dated.ps of_host_fresh_dated.r on_host_fresh_dated.Learnt (ℕ × Saved) (λ κs r left. (r, state_in left.1.1.1.1.1.1.1.1))

@@ -15,8 +15,8 @@ use mailbox_layout::{CONTROL, Link, TIMES, VALUES};
 use mailbox_plan::{is_ahead, put_flag};
 use mailbox_rules::table::fault_after;
 use recording_format::{LINK_SIZE, WhichKind};
-use recording_head::{Section, link_count};
-use refusals::{Refusal, Refused, placed};
+use recording_head::{Section, Stopped, link_count, placed_after};
+use refusals::Refusal;
 
 // The next `n` link records from a place on, up to the first at fault, in a table of so many tasks with these times, which say who is ahead
 // of whom: the links into the control, and their start values into the values.
@@ -29,7 +29,7 @@ fn link_records(
     times: &[u32; TIMES],
     control: &mut [u8; CONTROL],
     values: &mut [u32; VALUES],
-) -> Result<Section, Refused>
+) -> Result<Section, Stopped>
     requires { n ≤ state_room.links }
     ensures { (ts : List Task) → NoLinks ts control.old values.old → HoldsLinks ts (links_played (ahead_among times.now) tasks n s.now at) result control.new values.new }
 {
@@ -37,7 +37,10 @@ fn link_records(
     let mut place = at;
     for l in 0..n {
         if room(s, place) < LINK_SIZE {
-            return Err(Refusal::Ends.at(place));
+            return Err(Stopped {
+                refused: Refusal::Ends.at(place),
+                count: l,
+            });
         }
         let writer = u8_at(s, place, 0);
         let reader = u8_at(s, place, 1);
@@ -48,7 +51,7 @@ fn link_records(
             start_value: u32_at(s, place, 3),
         };
         let fault = fault_after(&plan, tasks, control, times, l, link);
-        placed(fault, place)?;
+        placed_after(fault, place, l)?;
         put_link(control, values, l, link);
         let behind = is_ahead(times, writer as usize, reader as usize);
         put_flag(&mut plan, l, behind);
@@ -67,9 +70,9 @@ pub fn read_links(
     times: &[u32; TIMES],
     control: &mut [u8; CONTROL],
     values: &mut [u32; VALUES],
-) -> Result<Section, Refused>
+) -> Result<Section, Stopped>
     ensures { (ts : List Task) → NoLinks ts control.old values.old → HoldsLinks ts (links_at which (ahead_among times.now) tasks s.now at) result control.new values.new }
 {
-    let links = placed(link_count(s, which, at), at)?;
+    let links = placed_after(link_count(s, which, at), at, 0)?;
     link_records(s, links.after, tasks, links.count, times, control, values)
 }

@@ -22,31 +22,33 @@ use Rattle.mailbox_layout.specs.Layout.{default_region, deadline_region, cut_val
 use Rattle.mailbox_layout.specs.Fresh.{with_number}
 use Rattle.mailbox_layout.proofs.Tables.{task_put, deadline_put}
 use Rattle.std.specs.Prelude.{Result, Ok, Err}
-use Rattle.refusals.specs.Numbers.{number, told, placed}
+use Rattle.refusals.specs.Numbers.{number, told}
 use Rattle.refusals.specs.declared.Refusal.{Refusal}
 use Rattle.refusals.specs.declared.Refusal.TheVariants.{Ends}
 use Rattle.refusals.specs.declared.Refused.{Refused}
 use Rattle.refusals.proofs.Numbers.{number_not_0}
-use Rattle.refusals.proofs.Places.{placed_ok, placed_err}
+use Rattle.recording_head.specs.Sections.{placed_after}
 use Rattle.recording_head.specs.declared.Section.{Section}
+use Rattle.recording_head.specs.declared.Stopped.{Stopped}
+use Rattle.recording_head.proofs.Stops.{placed_after_ok, placed_after_err}
 use Rattle.recording_tasks.specs.Tasks.{tasks_played, tasks_at, date_fault, HasTasks, NoTasks, HoldsTasks}
 
 -- what an answer holds, an equal one holds
-tasks_so : {k : ℕ} {y z : Verdict (List Task)} {t : Result Section Refused} {v x : List ℕ} → HoldsTasks k y t v x → y ≡ z → HoldsTasks k z t v x
+tasks_so : {k : ℕ} {y z : Verdict (List Task)} {t : Result Section Stopped} {v x : List ℕ} → HoldsTasks k y t v x → y ≡ z → HoldsTasks k z t v x
 tasks_so {k} {t = t} {v} {x} h e = subst (λ (y : Verdict (List Task)). HoldsTasks k y t v x) e h
 
 -- the section after its count
 pub tasks_counted :
-    (which : WhichKind) (s : List ℕ) {n q : ℕ} {t : Result Section Refused} {v x : List ℕ} → task_count_at (any_kind which) s task_place ≡ got n q →
+    (which : WhichKind) (s : List ℕ) {n q : ℕ} {t : Result Section Stopped} {v x : List ℕ} → task_count_at (any_kind which) s task_place ≡ got n q →
     HoldsTasks (any_kind which).policy (tasks_played which n s q) t v x → HoldsTasks (any_kind which).policy (tasks_at which s) t v x
 tasks_counted which s e h = tasks_so h (sym (section_counted (tasks (any_kind which)) (task_limit (any_kind which)) (task_fault (any_kind which)) and_task [] [] s task_place e))
 
 -- or without one
 pub tasks_lost :
     (which : WhichKind) (s : List ℕ) {why : Refusal} {v x : List ℕ} → task_count_at (any_kind which) s task_place ≡ stop (number why) → NoTasks (any_kind which).policy v x →
-    HoldsTasks (any_kind which).policy (tasks_at which s) (Err (record { refusal = why; place = task_place })) v x
+    HoldsTasks (any_kind which).policy (tasks_at which s) (Err (record { refused = record { refusal = why; place = task_place }; count = 0 })) v x
 tasks_lost which s e h =
-    tasks_so (record { answer = record { refusal = refl; place = refl }; tasks = h })
+    tasks_so (record { answer = record { refused = record { refusal = refl; place = refl }; count = refl }; tasks = h })
     (sym (section_refused (tasks (any_kind which)) (task_limit (any_kind which)) (task_fault (any_kind which)) and_task [] [] s task_place e))
 
 -- at turn i of n: i tasks are read, up to p, and the others are left
@@ -63,9 +65,11 @@ pub tasks_first :
 tasks_first which n s from e = record { read = []; few = omega arith; count = refl; held = e; left = rw sub-zero }
 
 module _ {which : WhichKind} {n : ℕ} {s : List ℕ} {from : ℕ} {v x : List ℕ} {p i : ℕ} (t : TasksTurn which n s from v x p i) where
-  -- a refusal at this place
-  refuses : (r : Refused) → r.place ≡ p → verdict (number r.refusal) p t.read ≡ tasks_played which n s from → HoldsTasks (any_kind which).policy (tasks_played which n s from) (Err r) v x
-  refuses r a e = tasks_so (record { answer = record { refusal = refl; place = a }; tasks = t.held }) e
+  -- a refusal at this place, after the tasks before it
+  refuses :
+      (r : Stopped) → r.refused.place ≡ p → r.count ≡ i → verdict (number r.refused.refusal) p t.read ≡ tasks_played which n s from →
+      HoldsTasks (any_kind which).policy (tasks_played which n s from) (Err r) v x
+  refuses r a c e = tasks_so (record { answer = record { refused = record { refusal = refl; place = a }; count = c ∙ t.count }; tasks = t.held }) e
 
   -- no record is left
   pub tasks_end_lem : i ≡ n → HoldsTasks (any_kind which).policy (tasks_played which n s from) (Ok (record { place = p; count = n })) v x
@@ -75,9 +79,11 @@ module _ {which : WhichKind} {n : ℕ} {s : List ℕ} {from : ℕ} {v x : List �
 
   module _ {k m : ℕ} (h : i < n) (z : k ≡ task_size (any_kind which)) (e : m ≡ length s - p) where
     -- the next record is cut
-    pub tasks_cut : {r : Refused} → m < k → r ≡ record { refusal = Ends; place = p } → HoldsTasks (any_kind which).policy (tasks_played which n s from) (Err r) v x
+    pub tasks_cut :
+        {r : Refused} → m < k → r ≡ record { refusal = Ends; place = p } →
+        HoldsTasks (any_kind which).policy (tasks_played which n s from) (Err (record { refused = r; count = i })) v x
     tasks_cut {r} g u =
-        refuses r (ap (λ (x : Refused). x.place) u)
+        refuses (record { refused = r; count = i }) (ap (λ (x : Refused). x.place) u) refl
         (ap (λ (x : Refused). verdict (number x.refusal) p t.read) u
         ∙ play_stop (tasks (any_kind which)) (task_fault (any_kind which)) and_task t.read s p i n t.left 1 h
         (too_few (task_size (any_kind which)) (task_there (any_kind which) s p) s p e (rw z at g)))
@@ -92,17 +98,17 @@ module _ {which : WhichKind} {n : ℕ} {s : List ℕ} {from : ℕ} {v x : List �
       fault = j ∙ ap (date_fault which) y
 
       -- it is at fault
-      pub tasks_refused : {r : Refused} → placed f p ≡ Err r → HoldsTasks (any_kind which).policy (tasks_played which n s from) (Err r) v x
+      pub tasks_refused : {r : Stopped} → placed_after f p i ≡ Err r → HoldsTasks (any_kind which).policy (tasks_played which n s from) (Err r) v x
       tasks_refused {r} o =
-          let refused = placed_err f p o in
-          let is : number r.refusal ≡ task_fault (any_kind which) t.read (task_there (any_kind which) s p) = ap told (sym refused.0) ∙ fault in
-          refuses r refused.1
+          let stopped = placed_after_err f p i o in
+          let is : number r.refused.refusal ≡ task_fault (any_kind which) t.read (task_there (any_kind which) s p) = ap told (sym stopped.why) ∙ fault in
+          refuses r stopped.place stopped.count
           (ap (λ (q : ℕ). verdict q p t.read) is
-          ∙ play_refused (tasks (any_kind which)) (task_fault (any_kind which)) and_task t.read s p i n t.left (task_there (any_kind which) s p) _ h (is_read g) (λ u. number_not_0 r.refusal (is ∙ u)))
+          ∙ play_refused (tasks (any_kind which)) (task_fault (any_kind which)) and_task t.read s p i n t.left (task_there (any_kind which) s p) _ h (is_read g) (λ u. number_not_0 r.refused.refusal (is ∙ u)))
 
       -- it is taken
       pub tasks_on :
-          {b : ℕ} {v' x' : List ℕ} {u : Unit {0}} → placed f p ≡ Ok u → b ≡ number_at 4 s p → cut_values v' ≡ with_number default_region i b (cut_values v) →
+          {b : ℕ} {v' x' : List ℕ} {u : Unit {0}} → placed_after f p i ≡ Ok u → b ≡ number_at 4 s p → cut_values v' ≡ with_number default_region i b (cut_values v) →
           cut_times x' ≡ with_number deadline_region i d (cut_times x) → TasksTurn which n s from v' x' (p + k) (i + 1)
       tasks_on o b put dated = record {
         read = and_task t.read (task_there (any_kind which) s p);
@@ -113,5 +119,5 @@ module _ {which : WhichKind} {n : ℕ} {s : List ℕ} {from : ℕ} {v x : List �
           times = deadline_put (any_kind which).policy t.read (task_there (any_kind which) s p) t.held.times t.count (rw y at dated);
         };
         left = rw z
-            (play_on (tasks (any_kind which)) (task_fault (any_kind which)) and_task t.read s p i n t.left (task_there (any_kind which) s p) _ h (is_read g) (sym fault ∙ ap told (placed_ok f p o)));
+            (play_on (tasks (any_kind which)) (task_fault (any_kind which)) and_task t.read s p i n t.left (task_there (any_kind which) s p) _ h (is_read g) (sym fault ∙ ap told (placed_after_ok f p i o)));
       }

@@ -20,13 +20,33 @@ pub digits_on : (f : List ℕ) (i : ℕ) → i < length f → is_digit (get_or f
 unfolding all_digits
 digits_on f i h e = ap all_digits (drop-cons f i 0 h) ∙ rw (e, add-one i)
 
-digits_not : (f : List ℕ) (i : ℕ) → i < length f → is_digit (get_or f i 0) ≡ false → all_digits (drop i f) ≡ false
+pub digits_not : (f : List ℕ) (i : ℕ) → i < length f → is_digit (get_or f i 0) ≡ false → all_digits (drop i f) ≡ false
 unfolding all_digits
 digits_not f i h e = ap all_digits (drop-cons f i 0 h) ∙ rw e
 
 pub value_on : (m : ℕ) (f : List ℕ) (i : ℕ) → i < length f → value_from m (drop i f) ≡ value_from (m * 10 + (get_or f i 0 - 48)) (drop (i + 1) f)
 unfolding value_from
 value_on m f i h = ap (value_from m) (drop-cons f i 0 h) ∙ rw (add-one i)
+
+-- all digits are read
+pub done : (f : List ℕ) (i m : ℕ) → length f ≤ i → all_digits f ≡ all_digits (drop i f) → value f ≡ value_from m (drop i f) → (all_digits f ≡ true) × (value f ≡ m)
+unfolding all_digits value_from
+done f i m h d v =
+    let n : drop i f ≡ [] = drop_of_length-le f h in
+    (d ∙ ap all_digits n, v ∙ ap (value_from m) n)
+
+-- what a field is as a number
+pub number_bad : (f : List ℕ) → all_digits f ≡ false → Err 2 ≡ field_number f
+unfolding number_fault
+number_bad f e = rw e
+
+pub number_large : (f : List ℕ) → all_digits f ≡ true → 4294967295 < value f → Err 3 ≡ field_number f
+unfolding number_fault
+number_large f e h = rw (e, lt-ltb 4294967295 (value f) h)
+
+pub number_good : (f : List ℕ) → all_digits f ≡ true → value f ≤ 4294967295 → Ok (value f) ≡ field_number f
+unfolding number_fault
+number_good f e h = rw (e, le-ltb 4294967295 (value f) h)
 
 -- the bytes before i are digits, and n is their number, cut at one more than the largest
 pub record Begun (f : List ℕ) (i n : ℕ) : Type 0 where
@@ -47,30 +67,22 @@ module _ {f : List ℕ} {i n : ℕ} (b : Begun f i n) where
     whole = b.whole ∙ value_on b.number f i h;
   }
 
-  -- what a field is that has a byte that is no digit,
-  pub number_bad : i < length f → is_digit (get_or f i 0) ≡ false → Err 2 ≡ field_number f
-  unfolding number_fault
-  number_bad h e = rw (b.digits, digits_not f i h e)
+  -- a byte that is no digit,
+  pub begun_bad : i < length f → is_digit (get_or f i 0) ≡ false → Err 2 ≡ field_number f
+  begun_bad h e = number_bad f (b.digits ∙ digits_not f i h e)
 
-  -- and one of digits
+  -- and none left
   module _ (h : length f ≤ i) where
-    all : all_digits f ≡ true
-    unfolding all_digits
-    all = b.digits ∙ ap all_digits (drop_of_length-le f h)
+    its_value : (all_digits f ≡ true) × (value f ≡ b.number)
+    its_value = done f i b.number h b.digits b.whole
 
-    its_value : value f ≡ b.number
-    unfolding value_from
-    its_value = b.whole ∙ ap (value_from b.number) (drop_of_length-le f h)
+    pub begun_large : 4294967295 < n → Err 3 ≡ field_number f
+    begun_large l = number_large f its_value.0 (omega (arith, its_value.1, b.cut))
 
-    pub number_large : 4294967295 < n → Err 3 ≡ field_number f
-    unfolding number_fault
-    number_large l = rw (all, lt-ltb 4294967295 (value f) (omega (arith, its_value, b.cut)))
-
-    pub number_good : n ≤ 4294967295 → Ok n ≡ field_number f
-    unfolding number_fault
-    number_good l =
-        let v : n ≡ value f = omega (arith, its_value, b.cut) in
-        rw (v, all, le-ltb 4294967295 (value f) (omega (arith, v)))
+    pub begun_good : n ≤ 4294967295 → Ok n ≡ field_number f
+    begun_good l =
+        let v : n ≡ value f = omega (arith, its_value.1, b.cut) in
+        rw v (number_good f its_value.0 (omega (arith, v)))
 
 -- one number more: in the set, and among the first four
 set_more : (set : ℕ) (ns : List ℕ) (n : ℕ) → bit_or (set_with clipped set ns) (2 ^ clipped n) ≡ set_with clipped set (ns ++ (n ∷ []))

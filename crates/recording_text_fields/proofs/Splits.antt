@@ -1,16 +1,18 @@
--- Pieces between separators, one by one.
+-- Pieces between separators, one by one, and by their places.
 -- Assumes nothing.
-use Rattle.std.proofs.Common.{cond, ◌≡◌, refl, sym, ap, ◌∙◌, Bool, true, false, true≢false, not, List, [], ◌∷◌, ℕ, suc, ◌+◌, ◌≤◌, ◌<◌, length, take, drop, Option, Some, None, length-drop, drop_of_length-le, arith, Bor, ◌-◌}
+use Rattle.std.proofs.Common.{cond, ◌≡◌, refl, sym, ap, ◌∙◌, Bool, true, false, true≢false, not, List, [], ◌∷◌, ℕ, suc, ◌+◌, ◌≤◌, ◌<◌, length, take, drop, get_or, Option, Some, None, length-drop, drop_of_length-le, arith, Bor, ◌-◌}
+use native.Mathlib.Numerals.{add-one}
 use borrow.Author.Tests.{eqb-true, eq-eqb, not-false}
 use denote.Param.Members.{Mut}
 use lib.Dec.{eqb}
-use lib.Seq.{take_all, drop-drop}
+use lib.Seq.{take_all, drop-cons, drop-drop, length-take-le}
+use Rattle.std.proofs.lemmas.List.Sums.{prefix_len-le-length}
 use Rattle.std.specs.List.{position_or_len, FoldsTo}
 use Rattle.std.specs.Fn.{CalledAt}
 use Rattle.std.specs.Iterator.{YieldsThen, YieldsFirstRef}
 use Rattle.std.specs.Option.{MatchOption}
 use Rattle.recording_text_fields.specs.declared.piece.Pieces.{Pieces}
-use Rattle.recording_text_fields.specs.Pieces.{begun, pieces, filled}
+use Rattle.recording_text_fields.specs.Pieces.{begun, pieces, separator, filled, fields, between, Ends}
 use Rattle.recording_text_fields.specs.Left.{pieces_left}
 
 -- the first piece, and those behind its separator
@@ -30,23 +32,70 @@ first_cut p (b ∷ s) h = go (p b) refl s (λ k. first_cut p s k)
         let q : suc n + 1 ≡ suc (n + 1) = omega arith in
         rw (o, q) (ap (begun b) (r (omega arith)))
 
--- the bytes in front of the first separator and from there on
-module _ (p : ℕ → Bool) (s : List ℕ) {n : ℕ} {front back : List ℕ} (h : 0 < length s) (e : n ≡ position_or_len p s) (f : front ≡ take n s) (g : back ≡ drop n s) where
+-- the first separator from a place on ends the piece, and where there is none the bytes do
+pub ends_cut : (p : ℕ → Bool) (s : List ℕ) (a : ℕ) {e : ℕ} → a < length s → e ≡ a + position_or_len p (drop a s) → Ends p s a e
+ends_cut p s a {e} h q =
+    let n = position_or_len p (drop a s) in
+    let l = length-drop a s in
+    let z : e - a ≡ n = omega (arith, q) in
+    let i : a + (n + 1) ≡ e + 1 = omega (arith, q) in
+    let d : drop (n + 1) (drop a s) ≡ drop (e + 1) s = drop-drop (n + 1) a s ∙ ap (λ (k : ℕ). drop k s) i in
+    record { after = omega (arith, q); within = omega (arith, q, l, prefix_len-le-length (λ b. not (p b)) (drop a s)); split = first_cut p (drop a s) (omega (arith, l)) ∙ rw (z, d) }
+
+-- the bytes in front of the end of the first piece and from there on
+module _ (p : ℕ → Bool) (s : List ℕ) {n : ℕ} {front back : List ℕ} (w : Ends p s 0 n) (f : front ≡ take n s) (g : back ≡ drop n s) where
+  first_split : pieces p s ≡ front ∷ pieces p (drop (n + 1) s)
+  first_split = let z : n - 0 ≡ n = omega arith in w.split ∙ rw (z, f)
+
   -- there is no separator
   pub cut_end : length back < 1 → pieces p s ≡ front ∷ pieces p back
   cut_end k =
       let l : length (drop n s) ≡ 0 = ap length (sym g) ∙ omega arith in
       let m : length s ≤ n = omega (arith, l, length-drop n s) in
       let z : drop (n + 1) s ≡ [] = drop_of_length-le s {i = n + 1} (omega arith) in
-      let w : back ≡ [] = g ∙ drop_of_length-le s {i = n} m in
-      first_cut p s h ∙ rw (← e, z, f, w)
+      let e : back ≡ [] = g ∙ drop_of_length-le s {i = n} m in
+      first_split ∙ rw (z, e)
 
   -- the others are behind it
   pub cut_behind : 1 ≤ length back → pieces p s ≡ front ∷ pieces p (take (length back - 1) (drop 1 back))
   cut_behind k =
       let z : take (length back - 1) (drop 1 back) ≡ drop 1 back = take_all (length back - 1) (drop 1 back) (omega (arith, length-drop 1 back)) in
-      let w : drop 1 back ≡ drop (n + 1) s = rw g (drop-drop 1 n s) in
-      first_cut p s h ∙ rw (← e, z, w, f)
+      let e : drop 1 back ≡ drop (n + 1) s = rw g (drop-drop 1 n s) in
+      first_split ∙ rw (z, e)
+
+-- the bytes between two places
+pub between_none : (a : ℕ) (s : List ℕ) → between a a s ≡ []
+between_none a s = let e : a - a ≡ 0 = omega arith in rw e
+
+pub length_between : (a e : ℕ) (s : List ℕ) → e ≤ length s → length (between a e s) ≡ e - a
+length_between a e s h = length-take-le (e - a) (drop a s) (omega (arith, length-drop a s))
+
+module _ (p : ℕ → Bool) (s : List ℕ) where
+  -- a byte that does not separate, and one that does
+  pub pieces_on : (i : ℕ) → i < length s → p (get_or s i 0) ≡ false → pieces p (drop i s) ≡ begun (get_or s i 0) (pieces p (drop (i + 1) s))
+  unfolding pieces
+  pieces_on i h e = ap (pieces p) (drop-cons s i 0 h) ∙ rw (e, add-one i)
+
+  pub pieces_at : (i : ℕ) → i < length s → p (get_or s i 0) ≡ true → pieces p (drop i s) ≡ [] ∷ pieces p (drop (i + 1) s)
+  unfolding pieces
+  pieces_at i h e = ap (pieces p) (drop-cons s i 0 h) ∙ rw (e, add-one i)
+
+-- a piece that begins with no separator has a byte
+head_length : List (List ℕ) → ℕ
+head_length [] = 0
+head_length (l ∷ ls) = length l
+
+begun_head : (b : ℕ) (ps : List (List ℕ)) → 1 ≤ head_length (begun b ps)
+unfolding head_length
+begun_head b [] = omega arith
+begun_head b (p ∷ ps) = omega arith
+
+pub has_byte : (p : ℕ → Bool) (s : List ℕ) (a e : ℕ) → Ends p s a e → a < length s → p (get_or s a 0) ≡ false → a < e
+unfolding head_length
+has_byte p s a e w l q =
+    let x : head_length (pieces p (drop a s)) ≡ length (between a e s) = ap head_length w.split in
+    let y : head_length (pieces p (drop a s)) ≡ head_length (begun (get_or s a 0) (pieces p (drop (a + 1) s))) = ap head_length (pieces_on p s a l q) in
+    omega (arith, length_between a e s w.within, begun_head (get_or s a 0) (pieces p (drop (a + 1) s)))
 
 -- fields are no more than bytes
 pub pieces_few : (p : ℕ → Bool) (s : List ℕ) → length (pieces p s) ≤ length s
@@ -84,6 +133,25 @@ filled_skip : (x : List ℕ) (ps : List (List ℕ)) → length x ≡ 0 → fille
 unfolding filled
 filled_skip [] ps h = refl
 filled_skip (b ∷ x) ps h = absurd (omega arith)
+
+-- the fields from a place on: past a blank, past an empty piece, and from a field on
+pub fields_skip : (s : List ℕ) (i : ℕ) → i < length s → separator true (get_or s i 0) ≡ true → fields (drop i s) ≡ fields (drop (i + 1) s)
+unfolding filled
+fields_skip s i h e = rw (pieces_at (separator true) s i h e)
+
+pub fields_none : (s : List ℕ) (a e : ℕ) → Ends (separator true) s a e → e ≤ a → fields (drop a s) ≡ fields (drop (e + 1) s)
+unfolding filled
+fields_none s a e w h =
+    let k : e ≡ a = omega (arith, w.after) in
+    let n : between a e s ≡ [] = rw k (between_none a s) in
+    ap filled w.split ∙ rw n
+
+pub fields_some : (s : List ℕ) (a e : ℕ) → Ends (separator true) s a e → a < e → fields (drop a s) ≡ between a e s ∷ fields (drop (e + 1) s)
+fields_some s a e w h = ap filled w.split ∙ filled_some (between a e s) (pieces (separator true) (drop (e + 1) s)) (λ z. omega (arith, length_between a e s w.within, z))
+
+pub fields_past : (s : List ℕ) (i : ℕ) → length s ≤ i → fields (drop i s) ≡ []
+unfolding filled pieces
+fields_past s i h = rw (drop_of_length-le s h)
 
 -- the field that is found first among pieces
 module _ {F : Type 0} (g : Mut F (Bor (Bor (List ℕ)) × Unit {0}) Bool) (tests : (x : Bor (List ℕ)) (b : Bool) (p q : F) → CalledAt g p x b q → b ≡ not (eqb (length x.now) 0)) where

@@ -1,7 +1,8 @@
 // The fields of a line that are numbers.
-ghost use Rattle.std.specs.Prelude.{◌≡◌, List, [], ◌∷◌, ◌++◌, ℕ, ◌+◌, ◌-◌, ◌*◌, ◌^◌, ◌≤◌, ◌<◌, min};
+ghost use Rattle.std.specs.Prelude.{◌≡◌, List, [], ◌∷◌, ◌++◌, ℕ, ◌+◌, ◌-◌, ◌*◌, ◌^◌, ◌≤◌, ◌<◌, min, drop};
 ghost use Rattle.recording_text_fields.specs.Faults.{told};
 ghost use Rattle.recording_text_fields.specs.Left.{fields_left};
+ghost use Rattle.recording_text_fields.specs.Pieces.{fields};
 ghost use Rattle.recording_text_fields.specs.Numeral.{is_digit, field_number, last_of_set, handed_set, gathered, numbers_with};
 
 use crate::fault::Fault;
@@ -102,4 +103,11 @@ pub fn numbers_of(fields: Fields) -> Result<Numbers, Fault>
         numbers.push(number_of(field)?);
     }
     Ok(numbers)
+}
+
+// The numbers of the fields of a line from a place on; past its end there are none.
+pub fn numbers_from(line: &[u8], from: usize) -> Result<Numbers, Fault>
+    ensures { told result ≡ numbers_with [] (fields (drop from line.now)) }
+{
+    numbers_of(Fields::of(line.get(from..).unwrap_or(&[])))
 }

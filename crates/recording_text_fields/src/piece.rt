@@ -1,11 +1,10 @@
 // Pieces of bytes: the lines of a text, and the fields of a line.
-ghost use Rattle.std.specs.Prelude.{◌≡◌, ◌∷◌, ◌<◌, ◌^◌, length};
+ghost use Rattle.std.specs.Prelude.{◌≡◌, ◌∷◌, ◌≤◌, ◌<◌, ◌^◌, length};
 ghost use Rattle.std.specs.Iterator.{YieldsFirstRef, item_count};
-ghost use Rattle.std.specs.List.{position_or_len};
-ghost use Rattle.recording_text_fields.specs.Pieces.{separator, pieces, lines, fields};
+ghost use Rattle.recording_text_fields.specs.Pieces.{separator, pieces, lines, fields, Ends};
 
 // Whether a byte separates the fields inside a line, or lines.
-fn separates(inner: bool, b: u8) -> bool
+pub fn separates(inner: bool, b: u8) -> bool
     ensures { result ≡ separator inner b }
 {
     if inner {
@@ -15,21 +14,30 @@ fn separates(inner: bool, b: u8) -> bool
     }
 }
 
-// Where the first piece of some bytes ends: at the first separator, or with the bytes.
-fn piece_end(s: &[u8], inner: bool) -> usize
-    ensures { result ≡ position_or_len (separator inner) s.now }
+// Where the piece from a place on ends: at the next separator, or with the bytes; past their end at the place itself. It is put in line, and so is what
+// calls it, up to the loops over lines and fields, so that the compiler knows there which bytes separate.
+#[inline(always)]
+pub fn piece_end(s: &[u8], at: usize, inner: bool) -> usize
+    ensures within { at < length s.now → Ends (separator inner) s.now at result }
+    ensures past { length s.now ≤ at → result ≡ at }
 {
-    s.iter()
+    let Some(left) = s.get(at..) else {
+        return at;
+    };
+    let size = left
+        .iter()
         .position(|b| separates(inner, *b))
-        .unwrap_or(s.len())
+        .unwrap_or(left.len());
+    at + size
 }
 
 // The first piece of some bytes, and the bytes behind its separator.
+#[inline(always)]
 fn first_piece(s: &[u8], inner: bool) -> (&[u8], &[u8])
     requires { 0 < length s.now }
     ensures { pieces (separator inner) s.now ≡ result.0.now ∷ pieces (separator inner) result.1.now }
 {
-    let (piece, behind) = s.split_at(piece_end(s, inner));
+    let (piece, behind) = s.split_at(piece_end(s, 0, inner));
     match behind {
         [_, left @ ..] => (piece, left),
         [] => (piece, behind),
@@ -67,6 +75,7 @@ impl<'a> Iterator for Pieces<'a> {
 
     ghost remaining = { item_count pieces_left };
 
+    #[inline(always)]
     fn next(&mut self) -> Option<&'a [u8]> {
         if self.left.is_empty() {
             return None;
@@ -106,6 +115,7 @@ impl<'a> Iterator for Fields<'a> {
 
     ghost remaining = { item_count fields_left };
 
+    #[inline(always)]
     fn next(&mut self) -> Option<&'a [u8]> {
         self.pieces.find(|piece| !piece.is_empty())
     }

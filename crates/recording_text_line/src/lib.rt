@@ -17,8 +17,11 @@ pub mod record;
 pub mod said;
 pub mod sort;
 
+pub use crate::record::NUMBERS;
 use crate::record::Record;
-use crate::sort::{Sort, sort_of};
+pub use crate::said::{dated_after, is_dated};
+use crate::sort::Sort;
+pub use crate::sort::sort_of;
 
 // The numbers of a line, where it has just so many.
 fn exactly<const N: usize>(numbers: &Numbers) -> Result<[u32; N], Fault>
@@ -90,7 +93,8 @@ fn letter_in(field: &[u8]) -> Option<(u8, Sort)>
     Some((*letter, sort_of(*letter)?))
 }
 
-// What a letter and the fields behind it say, behind a tick or with none.
+// What a letter and the fields behind it say, behind a tick or with none. In line, where it is known which.
+#[inline(always)]
 fn letter_says(dated: bool, tick: Option<u32>, letter: u8, fields: Fields) -> Result<Record, Fault>
     requires { 0 < sort letter }
     ensures { said_of_record result ≡ lettered dated (ticks tick) letter (fields_left fields.entry) }

@@ -1,5 +1,5 @@
 // Records as lines say them.
-ghost use Rattle.std.specs.Prelude.{◌≡◌, ◌∷◌, ◌++◌, ◌+◌, ◌<◌, ◌≤◌, eqb, take, get_or};
+ghost use Rattle.std.specs.Prelude.{◌≡◌, ◌∷◌, ◌++◌, ◌+◌, ◌<◌, ◌≤◌, eqb, length, take, get_or};
 ghost use Rattle.recording_text_line.specs.Line.{sort, widest, Padded, ticks};
 ghost use Rattle.recording_text_line.specs.Sorts.{sort_number};
 
@@ -17,6 +17,7 @@ pub struct Record {
     pub numbers: [u32; NUMBERS],
     pub ghost known: { 0 < sort letter },
     pub ghost padded: { Padded letter size numbers },
+    pub ghost four: { length numbers ≡ 4 },
 }
 
 impl Record {

@@ -13,7 +13,7 @@ use recording_text_fields::fault::Fault;
 use recording_text_fields::piece::Pieces;
 
 // Whether a number is that of the dated kind.
-fn is_dated(number: u32) -> bool
+pub fn is_dated(number: u32) -> bool
     ensures { result ≡ is_dated number }
 {
     number == u32::from(DATED_FIRST)
@@ -21,7 +21,7 @@ fn is_dated(number: u32) -> bool
 
 // Whether the lines behind a line are those of a dated text: where it says the kind, that does.
 #[tactic(auto, unfolding(crate::specs::Line::sort))]
-fn dated_after(dated: bool, said: &Result<Option<Record>, Fault>) -> bool
+pub fn dated_after(dated: bool, said: &Result<Option<Record>, Fault>) -> bool
     ensures { result ≡ dated_after dated (said_of said.now) }
 {
     match said {
@@ -57,6 +57,7 @@ impl<'a> Iterator for Said<'a> {
     ghost remaining = { item_count said_left };
 
     #[tactic(auto, unfolding(crate::specs::Line::all_say))]
+    #[inline(always)]
     fn next(&mut self) -> Option<Result<Option<Record>, Fault>> {
         let line = self.lines.next()?;
         let said = line_says(line, self.dated);

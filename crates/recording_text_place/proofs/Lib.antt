@@ -1,2 +1,3 @@
--- Laws that several proofs cite, and worked examples.
+-- Laws that the proofs cite, and worked examples.
+pub mod Places
 pub mod Examples

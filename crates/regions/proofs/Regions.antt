@@ -2,10 +2,10 @@
 -- Assumes nothing.
 use mathlib.Core.Path.{◌≡◌, refl, sym, ap, ◌∙◌}
 use mathlib.Core.List.{List, [], ◌∷◌, ◌++◌}
-use Prim.Native.Nat.{ℕ, zero, suc, ◌+◌, ◌≤◌, ◌<◌}
-use native.Mathlib.Nat.{not-suc-le-zero, min-le_left, min-eq_left}
+use Prim.Native.Nat.{ℕ, zero, suc, ◌+◌, ◌*◌, ◌≤◌, ◌<◌}
+use native.Mathlib.Nat.{not-suc-le-zero, le_of_suc-le-suc, min-le_left, min-eq_left, zero-mul, suc-mul}
 use native.Mathlib.Omega.{arith}
-use lib.ListN.{length, get_or, set, take, drop, length-take, length-drop, length-append, take-append-drop, get_or-eq_default}
+use lib.ListN.{length, get_or, set, take, drop, replicate, length-take, length-drop, length-append, take-append-drop, get_or-eq_default}
 use lib.Seq.{get_or-take, get_or-drop, take-set-lt, take-set-le, drop-set-lt, drop-set-add, set_out, set-get_or, take-append_seam, drop-append_seam}
 use Rattle.regions.specs.Regions.{regions, region, start, width, extent, joined, Widths}
 
@@ -68,6 +68,55 @@ regions_whole (w ∷ ws) xs ys h k e =
     let d : drop w xs ≡ drop w ys =
     regions_whole ws (drop w xs) (drop w ys) (rw length-drop (omega arith)) (rw length-drop (omega arith)) r in
     sym (take-append-drop w xs) ∙ rw (t, d) (take-append-drop w ys)
+
+-- where regions of one width begin: a of width w, and then those of ws
+module _ (w : ℕ) (ws : List ℕ) where
+  pub start_even : (a k : ℕ) → k < a → start (replicate a w ++ ws) k ≡ k * w
+  unfolding start
+  start_even zero k h = absurd (not-suc-le-zero h)
+  start_even (suc a) zero h = sym (zero-mul w)
+  start_even (suc a) (suc k) h =
+      let e : start (replicate a w ++ ws) k ≡ k * w = start_even a k (le_of_suc-le-suc h) in
+      let m : suc k * w ≡ k * w + w = suc-mul k w in
+      omega arith
+
+  pub width_even : (a k : ℕ) → k < a → width (replicate a w ++ ws) k ≡ w
+  width_even zero k h = absurd (not-suc-le-zero h)
+  width_even (suc a) zero h = refl
+  width_even (suc a) (suc k) h = width_even a k (le_of_suc-le-suc h)
+
+  -- and where those of ws begin after them
+  pub start_after : (a k : ℕ) → start (replicate a w ++ ws) (a + k) ≡ a * w + start ws k
+  unfolding start
+  start_after zero k =
+      let e : 0 + k ≡ k = omega arith in
+      let m : 0 * w ≡ 0 = zero-mul w in
+      rw (e, m) (omega arith)
+  start_after (suc a) k =
+      let e : suc a + k ≡ suc (a + k) = omega arith in
+      let m : suc a * w ≡ a * w + w = suc-mul a w in
+      let i : start (replicate a w ++ ws) (a + k) ≡ a * w + start ws k = start_after a k in
+      rw (e, m) (omega arith)
+
+  pub width_after : (a k : ℕ) → width (replicate a w ++ ws) (a + k) ≡ width ws k
+  width_after zero k =
+      let e : 0 + k ≡ k = omega arith in
+      rw e
+  width_after (suc a) k =
+      let e : suc a + k ≡ suc (a + k) = omega arith in
+      rw e (width_after a k)
+
+-- past the last region there is none: it would begin where all of them end,
+pub start_past : (ws : List ℕ) (k : ℕ) → length ws ≤ k → start ws k ≡ extent ws
+unfolding start
+start_past [] zero h = refl
+start_past [] (suc k) h = refl
+start_past (w ∷ ws) zero h = absurd (not-suc-le-zero h)
+start_past (w ∷ ws) (suc k) h = ap (λ (n : ℕ). w + n) (start_past ws k (le_of_suc-le-suc h))
+
+-- and has no place
+pub width_past : (ws : List ℕ) (k : ℕ) → length ws ≤ k → width ws k ≡ 0
+width_past ws k h = get_or-eq_default ws 0 {n = k} h
 
 -- what is put past a region changes nothing
 pub regions_put_past :

@@ -40,7 +40,15 @@ within (x ∷ l) (suc i) d e h = within l i d e (le_of_suc-le-suc h)
 pub slot_there : (ss : List Slot) (i : ℕ) (d : Slot) → length ss ≡ 64 → i < 64 → (get_or ss i d).setting ≡ setting_at ss i
 slot_there ss i d l h = ap (λ (s : Slot). s.setting) (within ss i d (slot (Count 0)) (omega arith))
 
--- and among the first n
+-- and whether it is good
+pub good_there : (ss : List Slot) (i : ℕ) (d : Slot) {b : Bool} → length ss ≡ 64 → i < 64 → b ≡ eqb (float_fault (get_or ss i d).setting) 0 → b ≡ good_at ss i
+good_there ss i d l h e = e ∙ ap (λ (x : Setting). eqb (float_fault x) 0) (slot_there ss i d l h)
+
+-- and that the machine holds it
+pub held_there : (ss : List Slot) (i : ℕ) (d : Slot) → length ss ≡ 64 → i < 64 → Held (get_or ss i d).setting → Held (setting_at ss i)
+held_there ss i d l h e = subst Held (slot_there ss i d l h) e
+
+-- the setting in a slot among the first n
 pub slot_taken : (ss : List Slot) (n i : ℕ) (d : Slot) → length ss ≡ 64 → n ≤ 64 → i < n → (get_or (take n ss) i d).setting ≡ setting_at ss i
 slot_taken ss n i d l m h = ap (λ (s : Slot). s.setting) (get_or-take n ss i d h) ∙ slot_there ss i d l (omega arith)
 

@@ -2,22 +2,46 @@
 -- Assumes nothing.
 use mathlib.Core.Path.{◌≡◌, refl, sym, ◌∙◌}
 use mathlib.Core.Logic.{◌≢◌}
-use mathlib.Core.Bool.{Bool, true, false, cond}
+use mathlib.Core.Bool.{Bool, true, false, cond, true≢false}
 use mathlib.Core.List.{List}
 use Prim.Native.Nat.{ℕ, ◌+◌, ◌-◌, ◌≤◌, ◌<◌}
 use native.Mathlib.Omega.{arith}
-use borrow.Author.Tests.{eqb-true, eqb-false, ltb-true, lt-leb, le-leb}
+use borrow.Author.Tests.{eqb-true, eqb-false, eq-eqb, ltb-true, lt-leb, le-leb}
 use lib.Dec.{eqb, ltb}
 use lib.ListN.{length, get_or}
 use Rattle.byte_format.specs.Number.{number_at}
 use Rattle.byte_format.specs.Format.{Got, got, stop, then_read, sized}
 use Rattle.byte_format.specs.Kinded.{first_byte, record_at}
+use Rattle.settings_float.specs.AboveZero.{above_zero}
 use Rattle.settings_entry.specs.declared.Setting.{Setting}
+use Rattle.settings_entry.specs.declared.Setting.TheVariants.{Margin, Feed, Count}
 use Rattle.settings_entry.specs.declared.code.Code.{Code}
 use Rattle.settings_entry.specs.Setting.{float_fault}
-use Rattle.settings_entry.specs.Entry.{Entry, code_of, codes, setting_of}
+use Rattle.settings_entry.specs.Entry.{Entry, code_of, codes, setting_made, setting_of}
 use Rattle.settings_entry.specs.Found.{setting_judged, setting_taken}
 use Rattle.settings_entry.proofs.Records.{entries_lawful}
+
+-- a setting without a fault is taken
+pub good_entry : (k : Code) (n : ℕ) → float_fault (setting_made k n) ≡ 0 → (q : ℕ) → got (setting_made k n) q ≡ setting_judged k n q
+unfolding setting_judged
+good_entry k n h q = rw (eq-eqb (float_fault (setting_made k n)) 0 h)
+
+-- and one with a fault is refused with it, which is 26
+only_fault : (k : Code) (n : ℕ) → eqb (float_fault (setting_made k n)) 0 ≡ false → float_fault (setting_made k n) ≡ 26
+only_fault k n h = go (setting_made k n) h
+  where
+    bad : (b : Bool) → eqb (cond b 0 26) 0 ≡ false → ◌≡◌ {A = ℕ} (cond b 0 26) 26
+    bad true e = absurd (true≢false e)
+    bad false e = refl
+
+    go : (x : Setting) → eqb (float_fault x) 0 ≡ false → float_fault x ≡ 26
+    go (Margin x) e = bad (above_zero x) e
+    go (Feed x) e = bad (above_zero x) e
+    go (Count x) e = absurd (true≢false e)
+
+pub bad_entry_lem : (k : Code) (n : ℕ) → eqb (float_fault (setting_made k n)) 0 ≡ false → (q : ℕ) → stop 26 ≡ setting_judged k n q
+unfolding setting_judged
+bad_entry_lem k n h q = sym (rw (h, only_fault k n h))
 
 -- an entry of a found code, judged
 then_judged : List ℕ → ℕ → Got Code → Got Setting

@@ -129,6 +129,11 @@ bits_kept b h a = to_bits-of_bits binary64 b h (no_nan (of_bits binary64 b) a)
 pub no_nan_bits : (b : ℕ) → above_zero (of_bits binary64 b) ≡ true → T (not (nan_bits binary64 b))
 no_nan_bits b a = rw (nan_bits_is binary64 b) (no_nan (of_bits binary64 b) a)
 
+-- the infinity's bits are no NaN's
+pub infinity_no_nan : T (not (nan_bits binary64 infinite))
+unfolding nan_bits
+infinity_no_nan = tt
+
 -- a power of two
 up_pos : (e : ℤ) → 0 < up e
 up_pos (pos k) = pow_pos k
@@ -148,6 +153,18 @@ unfolding lt float_is_finite
 above_zero_compared x = rw zero_bits (go x)
   where
     go : (x : Float) → above_zero x ≡ (lt (fin false 0 (pos 0)) x && float_is_finite x)
+    go nan = refl
+    go (inf true) = refl
+    go (inf false) = refl
+    go (fin true m e) = refl
+    go (fin false m e) = scaled (up e) (down e) (up_pos e) m
+
+-- and by comparing with the infinity
+pub above_zero_below : (x : Float) → above_zero x ≡ (lt (of_bits binary64 0) x && lt x (of_bits binary64 infinite))
+unfolding lt
+above_zero_below x = rw (zero_bits, infinite_bits) (go x)
+  where
+    go : (x : Float) → above_zero x ≡ (lt (fin false 0 (pos 0)) x && lt x (inf false))
     go nan = refl
     go (inf true) = refl
     go (inf false) = refl

@@ -6,10 +6,10 @@ use Rattle.lists.proofs.Lists.{count_none, count_more}
 use Rattle.lists.proofs.count.Goals as goal
 
 pub loop-k-init : goal.loop-k-init
-loop-k-init g c = record { bound = omega arith; holding = λ f h. count_none f }
+loop-k-init g c = record { bound = omega arith; holding = count_none _ }
 
 pub loop-k-preserved : goal.loop-k-preserved
 loop-k-preserved g c = record {
   bound = grind (arith, nat_tests);
-  holding = λ f h. count_more f _ (h _ _ c.loop-k-test.true c.test.ensures) (c.loop-k.invariant.holding f h) c.one_if-c.ensures;
+  holding = count_more _ _ c.holds.ensures c.loop-k.invariant.holding c.one_if-c.ensures;
 }

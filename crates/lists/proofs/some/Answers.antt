@@ -4,7 +4,7 @@ use Rattle.lists.proofs.Lists.{some_none, some_more}
 use Rattle.lists.proofs.some.Goals as goal
 
 pub loop-k-init : goal.loop-k-init
-loop-k-init g c = λ f h. some_none f
+loop-k-init g c = some_none _
 
 pub loop-k-preserved : goal.loop-k-preserved
-loop-k-preserved g c = λ f h. some_more f _ (h _ _ c.loop-k-test.true c.test-found.ensures) (c.loop-k.invariant f h)
+loop-k-preserved g c = some_more _ _ c.holds-found.ensures c.loop-k.invariant

@@ -2,7 +2,6 @@
 -- Assumes nothing.
 use mathlib.Core.Path.{ap, ◌∙◌}
 use mathlib.Core.Bool.{true}
-use Rattle.std.proofs.Common.{rules}
 use Rattle.lists.specs.Lists.{some}
 use Rattle.protocol_state.specs.Saved.{at, active_phase}
 use Rattle.mailbox_judge.proofs.Judged.{idle_past}
@@ -10,6 +9,6 @@ use Rattle.mailbox_judge.proofs.some_before.Goals as goal
 
 pub returns : goal.returns
 returns c = let a = c.args in
-    c.some.ensures (λ u. active_phase (at a.phase.now u)) (λ k b l p. search rules)
+    c.some.ensures
     ∙ ap (some (λ u. active_phase (at a.phase.now u))) c.few.ensures
     ∙ idle_past (λ k. true) a.phase.now a.t

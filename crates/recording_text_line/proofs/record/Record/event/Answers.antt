@@ -13,16 +13,16 @@ with_tick kind tick own = put_mid 2 (2 + length own - 2) (kind ∷ tick ∷ 0 �
 abbrev without : ℕ → List ℕ → List ℕ
 without kind own = put_mid 1 (1 + length own - 1) (kind ∷ 0 ∷ 0 ∷ 0 ∷ []) own
 
-ticked : (kind tick : ℕ) (own : List ℕ) → length own ≤ 2 → (take (2 + length own) (with_tick kind tick own) ≡ kind ∷ tick ∷ own) × (drop (2 + length own) (with_tick kind tick own) ≡ replicate (4 - (2 + length own)) 0)
-ticked kind tick [] h = (refl, refl)
-ticked kind tick (a ∷ []) h = (refl, refl)
-ticked kind tick (a ∷ b ∷ []) h = (refl, refl)
+ticked : (kind tick : ℕ) (own : List ℕ) → length own ≤ 2 → (take (2 + length own) (with_tick kind tick own) ≡ kind ∷ tick ∷ own) × (drop (2 + length own) (with_tick kind tick own) ≡ replicate (4 - (2 + length own)) 0) × (length (with_tick kind tick own) ≡ 4)
+ticked kind tick [] h = (refl, refl, refl)
+ticked kind tick (a ∷ []) h = (refl, refl, refl)
+ticked kind tick (a ∷ b ∷ []) h = (refl, refl, refl)
 ticked kind tick (a ∷ b ∷ c ∷ l) h = absurd (omega arith)
 
-tickless : (kind : ℕ) (own : List ℕ) → length own ≤ 2 → (take (1 + length own) (without kind own) ≡ kind ∷ own) × (drop (1 + length own) (without kind own) ≡ replicate (4 - (1 + length own)) 0)
-tickless kind [] h = (refl, refl)
-tickless kind (a ∷ []) h = (refl, refl)
-tickless kind (a ∷ b ∷ []) h = (refl, refl)
+tickless : (kind : ℕ) (own : List ℕ) → length own ≤ 2 → (take (1 + length own) (without kind own) ≡ kind ∷ own) × (drop (1 + length own) (without kind own) ≡ replicate (4 - (1 + length own)) 0) × (length (without kind own) ≡ 4)
+tickless kind [] h = (refl, refl, refl)
+tickless kind (a ∷ []) h = (refl, refl, refl)
+tickless kind (a ∷ b ∷ []) h = (refl, refl, refl)
 tickless kind (a ∷ b ∷ c ∷ l) h = absurd (omega arith)
 
 fits : (b n k : ℕ) → sort b ≡ 3 → n ≤ 2 → k ≤ 2 → k + n ≤ widest (sort b)
@@ -39,6 +39,7 @@ invariant_of-result g c = let l : g.row.N ≡ length c.args.own = search rules i
               few = rw w.at-is (fits c.args.letter g.row.N 2 c.requires.sort c.requires.few (omega arith));
               rest = rw (w.at-is, w.numbers-is, c.copy_from_slice.ensures.after, l) (ticked c.args.kind w.in-Some.tick c.args.own h).1;
             };
+            four = rw (w.at-is, w.numbers-is, c.copy_from_slice.ensures.after, l) (ticked c.args.kind w.in-Some.tick c.args.own h).2;
           }
       | in-None w ↦
           record {
@@ -47,6 +48,7 @@ invariant_of-result g c = let l : g.row.N ≡ length c.args.own = search rules i
               few = rw w.at-is (fits c.args.letter g.row.N 1 c.requires.sort c.requires.few (omega arith));
               rest = rw (w.at-is, w.numbers-is, c.copy_from_slice.ensures.after, l) (tickless c.args.kind c.args.own h).1;
             };
+            four = rw (w.at-is, w.numbers-is, c.copy_from_slice.ensures.after, l) (tickless c.args.kind c.args.own h).2;
           }
     ]
 
