@@ -74,7 +74,7 @@ fn keep(said: &Record, sort: Sort, most: usize, out: &mut [u32], kept: Kept) -> 
     if !said.is(sort) || most <= kept.records {
         return kept;
     }
-    let end = kept.numbers + said.size;
+    let end = kept.numbers + usize::from(said.size);
     out[kept.numbers..end].copy_from_slice(said.numbers());
     Kept {
         records: kept.records + 1,

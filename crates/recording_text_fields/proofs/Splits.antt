@@ -1,19 +1,12 @@
 -- Pieces between separators, one by one, and by their places.
 -- Assumes nothing.
-use Rattle.std.proofs.Common.{cond, ◌≡◌, refl, sym, ap, ◌∙◌, Bool, true, false, true≢false, not, List, [], ◌∷◌, ℕ, suc, ◌+◌, ◌≤◌, ◌<◌, length, take, drop, get_or, Option, Some, None, length-drop, drop_of_length-le, arith, Bor, ◌-◌}
+use Rattle.std.proofs.Common.{cond, ◌≡◌, refl, sym, ap, ◌∙◌, Bool, true, false, not, List, [], ◌∷◌, ℕ, suc, ◌+◌, ◌≤◌, ◌<◌, length, take, drop, get_or, length-drop, drop_of_length-le, arith, ◌-◌, ltb}
 use native.Mathlib.Numerals.{add-one}
-use borrow.Author.Tests.{eqb-true, eq-eqb, not-false}
-use denote.Param.Members.{Mut}
-use lib.Dec.{eqb}
+use borrow.Author.Tests.{not-false, ltb-true, ltb-false}
 use lib.Seq.{take_all, drop-cons, drop-drop, length-take-le}
-use Rattle.std.proofs.lemmas.List.Sums.{prefix_len-le-length}
-use Rattle.std.specs.List.{position_or_len, FoldsTo}
-use Rattle.std.specs.Fn.{CalledAt}
-use Rattle.std.specs.Iterator.{YieldsThen, YieldsFirstRef}
-use Rattle.std.specs.Option.{MatchOption}
-use Rattle.recording_text_fields.specs.declared.piece.Pieces.{Pieces}
+use Rattle.std.proofs.lemmas.List.Sums.{prefix_len-le-length, prefix_len_stops}
+use Rattle.std.specs.List.{prefix_len, position_or_len}
 use Rattle.recording_text_fields.specs.Pieces.{begun, pieces, separator, filled, fields, between, Ends}
-use Rattle.recording_text_fields.specs.Left.{pieces_left}
 
 -- the first piece, and those behind its separator
 pub first_cut : (p : ℕ → Bool) (s : List ℕ) → 0 < length s → pieces p s ≡ take (position_or_len p s) s ∷ pieces p (drop (position_or_len p s + 1) s)
@@ -153,18 +146,44 @@ pub fields_past : (s : List ℕ) (i : ℕ) → length s ≤ i → fields (drop i
 unfolding filled pieces
 fields_past s i h = rw (drop_of_length-le s h)
 
--- the field that is found first among pieces
-module _ {F : Type 0} (g : Mut F (Bor (Bor (List ℕ)) × Unit {0}) Bool) (tests : (x : Bor (List ℕ)) (b : Bool) (p q : F) → CalledAt g p x b q → b ≡ not (eqb (length x.now) 0)) where
-  pub found :
-      (xs : List (Bor (List ℕ))) (r : Option (Bor (List ℕ))) (s u : Pieces) (f j : F) → YieldsThen (YieldsFirstRef pieces_left) s xs r u → FoldsTo (λ p x q. CalledAt g p x false q) f xs j →
-      MatchOption r (Unit {0}) (λ x. (h : F) × CalledAt g j x true h) →
-      MatchOption r ((filled (pieces_left s) ≡ []) × (filled (pieces_left u) ≡ [])) (λ x. filled (pieces_left s) ≡ x.now ∷ filled (pieces_left u))
-  unfolding filled
-  found [] None s u f j (t, e, last) l stop = (ap (λ (p : Pieces). filled (pieces_left p)) e ∙ ap filled last.0, ap filled last.1)
-  found [] (Some x) s u f j (t, e, last) l (h, stop) =
-      let n = tests x true j h stop in
-      ap (λ (p : Pieces). filled (pieces_left p)) e ∙ ap filled last ∙ filled_some x.now (pieces_left u) (λ z. true≢false (n ∙ ap not (eq-eqb (length x.now) 0 z)))
-  found (x ∷ xs) r s u f j (t, (m, step, more), last) (k, one, l) stop =
-      let z : length x.now ≡ 0 = eqb-true (length x.now) 0 (not-false _ (sym (tests x false f k one))) in
-      let e : filled (pieces_left s) ≡ filled (pieces_left m) = ap filled step ∙ filled_skip x.now (pieces_left m) z in
-      rw e (found xs r m u k j (t, more, last) l stop)
+-- past the separators in front the fields are the same
+pub filled_past : (p : ℕ → Bool) (s : List ℕ) → filled (pieces p (drop (prefix_len p s) s)) ≡ filled (pieces p s)
+unfolding filled pieces
+filled_past p [] = refl
+filled_past p (b ∷ s) = go (p b) refl (filled_past p s)
+  where
+    go :
+        (t : Bool) → p b ≡ t → filled (pieces p (drop (prefix_len p s) s)) ≡ filled (pieces p s) →
+        filled (pieces p (drop (cond t (1 + prefix_len p s) 0) (b ∷ s))) ≡ filled (pieces p (b ∷ s))
+    go true e h = let o : 1 + prefix_len p s ≡ suc (prefix_len p s) = omega arith in rw (o, e) h
+    go false e h = refl
+
+-- the first piece ends where the first separator stands
+end_is : (p : ℕ → Bool) (s : List ℕ) (e : ℕ) → 0 < length s → Ends p s 0 e → position_or_len p s ≡ e
+unfolding head_length
+end_is p s e h w =
+    let n = position_or_len p s in
+    let x : head_length (pieces p s) ≡ length (take n s) = ap head_length (first_cut p s h) in
+    let y : head_length (pieces p s) ≡ length (between 0 e s) = ap head_length w.split in
+    omega (arith, x, y, length-take-le n s (prefix_len-le-length (λ b. not (p b)) s), length_between 0 e s w.within)
+
+-- from there on the fields are those behind it
+fields_end : (s : List ℕ) (e : ℕ) → 0 < length s → Ends (separator true) s 0 e → fields (drop e s) ≡ fields (drop (e + 1) s)
+fields_end s e h w = go (ltb e (length s)) refl
+  where
+    go : (t : Bool) → ltb e (length s) ≡ t → fields (drop e s) ≡ fields (drop (e + 1) s)
+    go true q =
+        let n = end_is (separator true) s e h w in
+        let stop = prefix_len_stops (λ b. not (separator true b)) s 0 (rw n (ltb-true e (length s) q)) in
+        fields_skip s e (ltb-true e (length s) q) (not-false _ (rw (← n) stop))
+    go false q =
+        let l = ltb-false e (length s) q in
+        fields_past s e l ∙ sym (fields_past s (e + 1) (omega (arith, l)))
+
+-- the first field of a line that begins with it
+pub fields_first :
+    (s : List ℕ) (e : ℕ) {front back : List ℕ} → 0 < length s → separator true (get_or s 0 0) ≡ false → Ends (separator true) s 0 e → front ≡ take e s → back ≡ drop e s →
+    fields s ≡ front ∷ fields back
+fields_first s e h q w f g =
+    let z : e - 0 ≡ e = omega arith in
+    fields_some s 0 e w (has_byte (separator true) s 0 e w h q) ∙ rw (z, f, g, fields_end s e h w)

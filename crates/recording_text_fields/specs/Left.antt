@@ -3,7 +3,7 @@
 use Rattle.std.specs.Prelude.{List, ℕ}
 use Rattle.recording_text_fields.specs.declared.piece.Pieces.{Pieces}
 use Rattle.recording_text_fields.specs.declared.piece.Fields.{Fields}
-use Rattle.recording_text_fields.specs.Pieces.{pieces, separator, filled}
+use Rattle.recording_text_fields.specs.Pieces.{pieces, separator, fields}
 
 -- the pieces that are left
 abbrev pub pieces_left : Pieces → List (List ℕ)
@@ -11,4 +11,4 @@ pieces_left s = pieces (separator s.inner) s.left.now
 
 -- the fields that are left
 abbrev pub fields_left : Fields → List (List ℕ)
-fields_left s = filled (pieces_left s.pieces)
+fields_left s = fields s.left.now

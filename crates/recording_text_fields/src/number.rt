@@ -25,6 +25,7 @@ pub fn is_digit(b: u8) -> bool
 }
 
 // A number with one digit more.
+#[inline(always)]
 fn grown(n: u64, digit: u8) -> u64
     requires { (n ≤ 4294967296) × ((48 ≤ digit) × (digit ≤ 57)) }
     ensures { result ≡ min (n * 10 + (digit - 48)) 4294967296 }
@@ -32,7 +33,8 @@ fn grown(n: u64, digit: u8) -> u64
     ABOVE.min(n * 10 + u64::from(digit - b'0'))
 }
 
-// What a field says as a number.
+// What a field says as a number. It is put in line, with what it calls, into the loop over fields: a call hands each number over packed into an answer.
+#[inline(always)]
 pub fn number_of(field: &[u8]) -> Result<u32, Fault>
     ensures { told result ≡ field_number field.now }
 {
@@ -82,6 +84,7 @@ impl Numbers {
     }
 
     // One number more.
+    #[inline(always)]
     fn push(&mut self, n: u32)
         requires { self.old.count < 18446744073709551615 }
         ensures { (ns : List ℕ) → self.old ≡ gathered ns → self.new ≡ gathered (ns ++ (n ∷ [])) }

@@ -1,5 +1,5 @@
 // Pieces of bytes: the lines of a text, and the fields of a line.
-ghost use Rattle.std.specs.Prelude.{◌≡◌, ◌∷◌, ◌≤◌, ◌<◌, ◌^◌, length};
+ghost use Rattle.std.specs.Prelude.{◌≡◌, true, false, ◌∷◌, ◌≤◌, ◌<◌, ◌^◌, length, get_or};
 ghost use Rattle.std.specs.Iterator.{YieldsFirstRef, item_count};
 ghost use Rattle.recording_text_fields.specs.Pieces.{separator, pieces, lines, fields, Ends};
 
@@ -86,10 +86,21 @@ impl<'a> Iterator for Pieces<'a> {
     }
 }
 
+// What is left of a line from the first byte of its first field on.
+#[inline(always)]
+fn from_first_field(line: &[u8]) -> &[u8]
+    ensures same { fields result.now ≡ fields line.now }
+    ensures begins { 0 < length result.now → separator true (get_or result.now 0 0) ≡ false }
+{
+    let blanks = line.iter().take_while(|b| separates(true, **b)).count();
+    line.split_at(blanks).1
+}
+
 // The fields of a line: its pieces that have a byte.
 #[derive(Clone, Copy)]
 pub struct Fields<'a> {
-    pieces: Pieces<'a>,
+    left: &'a [u8],
+    ghost few: { length left.now < 2 ^ 63 },
 }
 
 impl<'a> Fields<'a> {
@@ -98,11 +109,7 @@ impl<'a> Fields<'a> {
     pub fn of(line: &'a [u8]) -> Fields<'a>
         ensures { fields_left result ≡ fields line.now }
     {
-        let pieces = Pieces {
-            left: line,
-            inner: true,
-        };
-        Fields { pieces }
+        Fields { left: line }
     }
 }
 
@@ -117,6 +124,13 @@ impl<'a> Iterator for Fields<'a> {
 
     #[inline(always)]
     fn next(&mut self) -> Option<&'a [u8]> {
-        self.pieces.find(|piece| !piece.is_empty())
+        let line = from_first_field(self.left);
+        if line.is_empty() {
+            None
+        } else {
+            let (field, left) = line.split_at(piece_end(line, 0, true));
+            self.left = left;
+            Some(field)
+        }
     }
 }

@@ -65,8 +65,10 @@ fn counted_event<const N: usize>(
     Ok(Record::event(letter, kind, tick, own))
 }
 
-// The record of a letter, a tick, where there is one, and the numbers behind them; in a dated text a task has its relative deadline too.
+// The record of a letter, a tick, where there is one, and the numbers behind them; in a dated text a task has its relative deadline too. In line: a record
+// is then made where it goes.
 #[tactic(auto, unfolding(crate::specs::Line::sort, crate::specs::Line::record_of))]
+#[inline(always)]
 fn record_of(dated: bool, tick: Option<u32>, letter: u8, numbers: &Numbers) -> Result<Record, Fault>
     requires { 0 < sort letter }
     ensures { (ns : List ℕ) → numbers.now ≡ gathered ns → said_of_record result ≡ record_of dated (ticks tick) letter ns }
@@ -125,8 +127,9 @@ fn tick_says(first: &[u8], fields: Fields) -> Result<Record, Fault>
     event_says(number_of(first)?, fields)
 }
 
-// What a first field and those behind it say.
+// What a first field and those behind it say. Called, so that a line that says nothing, which may be most of a text, costs no more than it has to.
 #[tactic(auto, unfolding(crate::specs::Line::letter_says))]
+#[inline(never)]
 fn first_says(dated: bool, first: &[u8], fields: Fields) -> Result<Record, Fault>
     ensures { said_of_record result ≡ first_says dated first.now (fields_left fields.entry) }
 {
@@ -141,8 +144,9 @@ fn first_says(dated: bool, first: &[u8], fields: Fields) -> Result<Record, Fault
     }
 }
 
-// What a line says, in a dated text or another.
+// What a line says, in a dated text or another. In line in the loops over lines.
 #[tactic(auto, unfolding(crate::specs::Line::fields_say))]
+#[inline(always)]
 pub fn line_says(line: &[u8], dated: bool) -> Result<Option<Record>, Fault>
     ensures { said_of result ≡ says dated line.now }
 {

@@ -9,11 +9,11 @@ use crate::sort::{Sort, sort_of};
 pub const NUMBERS: usize = 4;
 
 // A record: its letter, which is known, and so many numbers for the writer, no more than a record of its sort has, zeros behind them. An array with
-// its size beside it: memory is fixed.
+// its size beside it: memory is fixed. The size is a byte, so that no gap stands behind the letter, which would be copied with it.
 #[derive(Clone, Copy)]
 pub struct Record {
     pub letter: u8,
-    pub size: usize,
+    pub size: u8,
     pub numbers: [u32; NUMBERS],
     pub ghost known: { 0 < sort letter },
     pub ghost padded: { Padded letter size numbers },
@@ -32,7 +32,7 @@ impl Record {
         numbers[..N].copy_from_slice(&given);
         Record {
             letter,
-            size: N,
+            size: N as u8,
             numbers,
         }
     }
@@ -60,7 +60,7 @@ impl Record {
         numbers[at..at + N].copy_from_slice(&own);
         Record {
             letter,
-            size: at + N,
+            size: (at + N) as u8,
             numbers,
         }
     }
@@ -76,7 +76,7 @@ impl Record {
     pub fn numbers(&self) -> &[u32]
         ensures { result.now ≡ take self.now.size self.now.numbers }
     {
-        &self.numbers[..self.size]
+        &self.numbers[..usize::from(self.size)]
     }
 
     // The first of them, 0 where it has none.

@@ -1,6 +1,6 @@
 -- `recording_text_fields::number::numbers_of` meets its contract: a field that is no number, or the numbers of all.
 -- Assumes nothing.
-use Rattle.std.proofs.Common.{arith}
+use Rattle.std.proofs.Common.{true, arith}
 use Rattle.std.proofs.lemmas.Result.{err_from_is_err_and}
 use Rattle.recording_text_fields.specs.Pieces.{separator}
 use Rattle.recording_text_fields.specs.Left.{fields_left}
@@ -12,8 +12,8 @@ pub loop-field-init : goal.loop-field-init
 loop-field-init c = rw c.into_iter-field-iterator.ensures.into_iter_gives (gathering_none (fields_left c.args.fields) c.none-numbers.ensures)
 
 pub push-requires : goal.push-requires
-push-requires c = let p = c.args.fields.pieces in
-    omega (arith, gathering_room c.loop-field.invariant c.in-Some.ensures.steps, fields_few (separator p.inner) p.left.now, p.few)
+push-requires c = let f = c.args.fields in
+    omega (arith, gathering_room c.loop-field.invariant c.in-Some.ensures.steps, fields_few (separator true) f.left.now, f.few)
 
 pub loop-field-preserved : goal.loop-field-preserved
 loop-field-preserved c = gathering_on c.loop-field.invariant c.in-Some.ensures.steps c.in_ok-number_of.ensures c.push.ensures
