@@ -33,7 +33,8 @@ fn grown(n: u64, digit: u8) -> u64
     ABOVE.min(n * 10 + u64::from(digit - b'0'))
 }
 
-// What a field says as a number. It is put in line, with what it calls, into the loop over fields: a call hands each number over packed into an answer.
+// What a field says as a number. It is put in line, with `grown`, into the loop over fields: called, it packs each number into a Result,
+// which the loop takes apart again.
 #[inline(always)]
 pub fn number_of(field: &[u8]) -> Result<u32, Fault>
     ensures { told result ≡ field_number field.now }

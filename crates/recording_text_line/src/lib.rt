@@ -66,7 +66,7 @@ fn counted_event<const N: usize>(
 }
 
 // The record of a letter, a tick, where there is one, and the numbers behind them; in a dated text a task has its relative deadline too. In line: a record
-// is then made where it goes.
+// is then made in the place where it is handed on.
 #[tactic(auto, unfolding(crate::specs::Line::sort, crate::specs::Line::record_of))]
 #[inline(always)]
 fn record_of(dated: bool, tick: Option<u32>, letter: u8, numbers: &Numbers) -> Result<Record, Fault>
@@ -127,7 +127,7 @@ fn tick_says(first: &[u8], fields: Fields) -> Result<Record, Fault>
     event_says(number_of(first)?, fields)
 }
 
-// What a first field and those behind it say. Called, so that a line that says nothing, which may be most of a text, costs no more than it has to.
+// What a first field and those behind it say. Never in line: a line with no record, as most of a text may be, then makes no room for one.
 #[tactic(auto, unfolding(crate::specs::Line::letter_says))]
 #[inline(never)]
 fn first_says(dated: bool, first: &[u8], fields: Fields) -> Result<Record, Fault>

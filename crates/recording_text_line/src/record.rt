@@ -9,7 +9,8 @@ use crate::sort::{Sort, sort_of};
 pub const NUMBERS: usize = 4;
 
 // A record: its letter, which is known, and so many numbers for the writer, no more than a record of its sort has, zeros behind them. An array with
-// its size beside it: memory is fixed. The size is a byte, so that no gap stands behind the letter, which would be copied with it.
+// its size beside it: memory is fixed. The size is a byte: as a number of eight it has a gap of seven bytes in front
+// of it, which is copied with a record, by moves that overlap.
 #[derive(Clone, Copy)]
 pub struct Record {
     pub letter: u8,
